@@ -42,7 +42,8 @@ unfoldable pub seed-stack : Option Live → List Live
 seed-stack none = []
 seed-stack (some x) = on-top [] [] x
 
--- the live triangles reached from the seed through those that have a node not farther than r from o. No slot is visited twice, so the slots given out are visits enough.
+-- the live triangles reached from the seed through those that have a node not farther than r from o. No slot is visited twice, so as many visits as slots
+-- were given out are enough
 unfoldable pub live-region : Mesh → ℕ → Node → Float → List Live
 live-region m seed o r = live-region-from (m .used) m o r [] [] (seed-stack (cell-of m seed))
 

@@ -9,7 +9,6 @@ infixl 70 _⊗_
 infixl 70 _⊘_
 infix 50 _≺_
 infix 50 _≼_
-
 -- the sum, rounded
 unfoldable pub _⊕_ : Float → Float → Float
 x ⊕ y = add binary64 x y
