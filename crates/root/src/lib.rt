@@ -1,0 +1,214 @@
+// The square root of a double, rounded to nearest, and its floor, both worked out from the bits.
+ghost use mathlib.Core.Path.{_≡_};
+ghost use Prim.Native.Nat.{_+_, _-_, _*_, _/_, _^_, _≤_, _<_};
+ghost use lib.Ieee.{binary64, toBits, ofBits};
+ghost use Rattle.definition.specs.Root.{sqrt, floor};
+ghost use Rattle.rounding.specs.Parts.{Significand, Leading, Evened};
+ghost use Rattle.root.specs.Exact.{WholeRoot, Halved};
+ghost use Rattle.root.specs.Nan.{NanPattern};
+
+// 2^52: the weight of the exponent in the bits, and of the leading digit in a significand.
+const LEAD: u64 = 1 << 52;
+
+// The bits of 1, of 2^52 and of plus infinity, and the sign's bit.
+const ONE: u64 = 1023 * LEAD;
+
+const WHOLE: u64 = 1075 * LEAD;
+
+const INFINITY: u64 = 2047 * LEAD;
+
+const SIGN: u64 = 2048 * LEAD;
+
+// The significand of the finite double with the bits `b`, sign left out, as a whole number below 2^53.
+fn significand(b: u64) -> u64
+    ensures { λ r. ⌜ Significand b r ⌝ }
+{
+    if b < LEAD {
+        return b;
+    }
+    b % LEAD + LEAD
+}
+
+// The exponent that goes with it: the double is `significand(b) * 2^exponent(b)` times 2^-1074.
+fn exponent(b: u64) -> u64
+    ensures { λ r. ⌜ r ≡ b / 2 ^ 52 - 1 ⌝ }
+{
+    if b < LEAD {
+        return 0;
+    }
+    b / LEAD - 1
+}
+
+// How far `m` is shifted up so that its leading digit stands at 2^52.
+fn spare(m: u64) -> u64
+    requires { ⌜ (0 < m) × (m < 2 ^ 53) ⌝ }
+    ensures { λ r. ⌜ Leading m r ⌝ }
+{
+    u64::leading_zeros(m) as u64 - 11
+}
+
+// `m * 2^z`.
+fn shifted(m: u64, z: u64) -> u64
+    requires { ⌜ Leading m z ⌝ }
+    ensures { λ r. ⌜ r ≡ m * 2 ^ z ⌝ }
+{
+    m << z
+}
+
+// `n`, or twice `n` for an odd `g`.
+fn evened(n: u64, g: u64) -> u64
+    requires { ⌜ n < 2 ^ 53 ⌝ }
+    ensures { λ r. ⌜ Evened n g r ⌝ }
+{
+    if g % 2 == 0 {
+        return n;
+    }
+    n * 2
+}
+
+// The exact result: a whole root, and what is left over of the number when its square is taken away.
+struct Whole {
+    root: u64,
+    rest: u64,
+}
+
+// The whole root of `r * 2^54`: two binary digits of the number at a time from the top, one of the root.
+fn by_digits(r: u64) -> Whole
+    requires { ⌜ r < 2 ^ 54 ⌝ }
+    ensures { λ w. ⌜ WholeRoot (r * 2 ^ 54) (w .root) (w .rest) ⌝ }
+{
+    let mut w = r << 10;
+    let mut rest: u64 = 0;
+    let mut root: u64 = 0;
+    let mut i: u64 = 0;
+    while i < 54 {
+        let next = rest * 4 + w / 4611686018427387904;
+        let trial = root * 4 + 1;
+        w = w << 2;
+        if next < trial {
+            rest = next;
+            root = root * 2;
+        } else {
+            rest = next - trial;
+            root = root * 2 + 1;
+        }
+        i += 1;
+    }
+    Whole {
+        root: root,
+        rest: rest,
+    }
+}
+
+// The rounding: the root's last digit goes, upward where it is a half and something is left over, and to the even neighbour where it is a half and nothing is.
+fn rounded(w: Whole) -> u64
+    ensures { λ r. ⌜ Halved (w .root) (w .rest) r ⌝ }
+{
+    let half = w.root / 2;
+    if w.root % 2 == 0 {
+        return half;
+    }
+    if w.rest == 0 {
+        return half + half % 2;
+    }
+    half + 1
+}
+
+// The bits of the root of the finite double above zero with the bits `b`.
+fn root_bits(b: u64) -> u64
+    requires { ⌜ (0 < b) × (b < 2047 * 2 ^ 52) ⌝ }
+    ensures { λ r. ⌜ (r < 2047 * 2 ^ 52) × (r ≡ toBits binary64 (sqrt (ofBits binary64 b))) ⌝ }
+{
+    let m = significand(b);
+    let z = spare(m);
+    let g = exponent(b) + 52 - z;
+    let w = by_digits(evened(shifted(m, z), g));
+    (g / 2 + 485) * LEAD + rounded(w)
+}
+
+// The double nearest to the root of `x`. The special operands first: a NaN and what is below zero have no root, a zero and plus infinity are their own.
+pub fn sqrt(x: f64) -> f64
+    ensures is { λ r. ⌜ r ≡ sqrt x ⌝ }
+    ensures pattern { λ r. ⌜ NanPattern x r ⌝ }
+{
+    if x != x {
+        return 0.0 / 0.0;
+    }
+    if x < 0.0 {
+        return 0.0 / 0.0;
+    }
+    if x == 0.0 {
+        return x;
+    }
+    let b = f64::to_bits(x);
+    if b >= INFINITY {
+        return x;
+    }
+    f64::from_bits(root_bits(b))
+}
+
+// `m` with its `k` last digits cleared.
+fn cleared(m: u64, k: u64) -> u64
+    requires { ⌜ (k ≤ 52) × (m < 2 ^ 53) ⌝ }
+    ensures { λ r. ⌜ (r ≡ m / 2 ^ k * 2 ^ k) × (r ≤ m) ⌝ }
+{
+    (m >> k) << k
+}
+
+// `2^k`.
+fn power(k: u64) -> u64
+    requires { ⌜ k ≤ 52 ⌝ }
+    ensures { λ r. ⌜ (r ≡ 2 ^ k) × (r ≤ 2 ^ 52) ⌝ }
+{
+    1 << k
+}
+
+// The floor of the double with the bits `a`, which is below 2^52 and not negative, by its bits.
+fn cut_down(a: u64) -> u64
+    requires { ⌜ a < 1075 * 2 ^ 52 ⌝ }
+    ensures { λ r. ⌜ (r < 2047 * 2 ^ 52) × (ofBits binary64 r ≡ floor (ofBits binary64 a)) ⌝ }
+{
+    if a < ONE {
+        return 0;
+    }
+    let e = exponent(a);
+    e * LEAD + cleared(significand(a), 1074 - e)
+}
+
+// The same of the double with the bits `2^63 + a`, which is not positive: away from zero.
+fn cut_up(a: u64) -> u64
+    requires { ⌜ a < 1075 * 2 ^ 52 ⌝ }
+    ensures { λ r. ⌜ (r < 2047 * 2 ^ 52) × (ofBits binary64 (2 ^ 63 + r) ≡ floor (ofBits binary64 (2 ^ 63 + a))) ⌝ }
+{
+    if a == 0 {
+        return 0;
+    }
+    if a < ONE {
+        return ONE;
+    }
+    let e = exponent(a);
+    let m = significand(a);
+    let c = cleared(m, 1074 - e);
+    if c == m {
+        return a;
+    }
+    e * LEAD + c + power(1074 - e)
+}
+
+// The greatest whole number that is at most `x`. A NaN stays a NaN, and what is 2^52 or more in size is whole already.
+pub fn floor(x: f64) -> f64
+    ensures { λ r. ⌜ r ≡ floor x ⌝ }
+{
+    if x != x {
+        return x;
+    }
+    let b = f64::to_bits(x);
+    let a = b % SIGN;
+    if a >= WHOLE {
+        return x;
+    }
+    if b < SIGN {
+        return f64::from_bits(cut_down(a));
+    }
+    f64::from_bits(SIGN + cut_up(a))
+}
