@@ -1,0 +1,138 @@
+-- A call that finished: none of the conditions of 1 to 7 held, and its slices hold the run's result.
+use mathlib.Core.Path.{_≡_, refl, sym, ap, _∙_}
+use mathlib.Core.Bool.{Bool, false, _||_}
+use mathlib.Core.Logic.{inl, inr}
+use mathlib.Core.List.{List, [], _∷_}
+use mathlib.Core.Option.{none, some}
+use Prim.{absurd}
+use Prim.Native.Nat.{ℕ, suc, _+_, _*_, _≤_, _<_}
+use native.Mathlib.Omega.{arith}
+use lib.Dec.{eqb, leb, ltb}
+use lib.ListN.{length}
+use borrow.Author.Tests.{eqb-false, leb-false, ltb-false}
+use Rattle.definition.specs.Lists.{any, find, table, below}
+use Rattle.definition.specs.Numbers.{Numbers}
+use Rattle.definition.specs.Counts.{Counts}
+use Rattle.definition.specs.Plane.{Node}
+use Rattle.definition.specs.Cells.{Tri, tri-nodes}
+use Rattle.definition.specs.Front.{Result, Outcome, ran, wanting, run-front}
+use Rattle.definition.specs.Call.{Asked, Lent, Lengths, finished, refusal, given-points, given-tris, first-points, first-tris, settings, conditions, slot-words, point-words, slot-floats, bad-size, too-short, unknown-node, twice, repeated-node, outside, far-point, lengths, written, untouched, after-run, call}
+use Rattle.account.specs.Lists.{which, known, In, none-in, numbers-length, or-false}
+use Rattle.account.specs.Triangles.{Distinct}
+use Rattle.account.specs.Start.{Proper}
+
+none-found : {A : Type 0} (p : A → Bool) (xs : List A) → find p xs ≡ none → (x : A) → In x xs → p x ≡ false
+unfolding find
+none-found p (y ∷ ys) e x i = elim (which (p y)) [
+  | inl f ↦ absurd (let g : some y ≡ none = rw (f, find) at e in let z : _≡_ {A = ℕ} 0 1 = cc in omega arith)
+  | inr f ↦ elim i [ inl g ↦ ap p g ∙ f | inr j ↦ none-found p ys (rw (f, find) at e) x j ]
+]
+
+table-length : {A B : Type 0} (f : A → B) (xs : List A) → length (table f xs) ≡ length xs
+unfolding table
+table-length f [] = refl
+table-length f (x ∷ xs) = ap suc (table-length f xs)
+
+-- the run behind a finished call
+pub record Behind (num : Numbers) (a : Asked) (l : Lent) (c : Counts) (n : Lengths) : Type 0 where
+  pub run : Result
+  pub ended : run-front (settings num a) (given-tris a l) (given-points a l) ≡ ran run
+  pub counts-are : c ≡ run .counts
+  pub lengths-are : n ≡ lengths run
+  pub exit : call num a l .lent ≡ written (run .points) (run .quads) (run .triangles) (run .sizes) l
+  pub passed : find (λ c. c .1) (conditions a l) ≡ none
+
+module _ (num : Numbers) (a : Asked) (l : Lent) (c : Counts) (n : Lengths) where
+  call-runs : find (λ c. c .1) (conditions a l) ≡ none → call num a l ≡ after-run l (run-front (settings num a) (given-tris a l) (given-points a l))
+  unfolding call
+  call-runs f = rw (f, call) refl
+
+  by-outcome : (o : Outcome) → find (λ c. c .1) (conditions a l) ≡ none → run-front (settings num a) (given-tris a l) (given-points a l) ≡ o
+      → after-run l o .answer ≡ finished c n → Behind num a l c n
+  unfolding after-run
+  by-outcome (ran r) f e h = record { run = r; ended = e; counts-are = cc; lengths-are = cc; exit = ap (λ z. z .lent) (call-runs f ∙ ap (after-run l) e); passed = f }
+  by-outcome (wanting w ps qs) f e h = absurd (let z : _≡_ {A = ℕ} 0 1 = cc in omega arith)
+
+  -- a finished call has a run behind it
+  pub behind : call num a l .answer ≡ finished c n → Behind num a l c n
+  unfolding call untouched
+  behind h = elim (known (find (λ c. c .1) (conditions a l))) [
+    | inl f ↦ by-outcome (run-front (settings num a) (given-tris a l) (given-points a l)) f refl (sym (ap (λ z. z .answer) (call-runs f)) ∙ h)
+    | inr f ↦
+        let g : refusal (f .0 .0) ≡ finished c n = rw (f .1, call) at h in
+        absurd (let z : _≡_ {A = ℕ} 0 1 = cc in omega arith)
+  ]
+
+-- ---- what the conditions say where none holds
+
+module _ (a : Asked) (l : Lent) (passed : find (λ c. c .1) (conditions a l) ≡ none) where
+  holds-not : (k : ℕ) (b : Bool) → In (k, b) (conditions a l) → b ≡ false
+  holds-not k b i = none-found (λ c. c .1) (conditions a l) passed (k, b) i
+
+  -- the size is zero or between its limits
+  pub sized : bad-size a ≡ false
+  unfolding conditions
+  sized = holds-not 2 (bad-size a) (inr (inl refl))
+
+  long-enough : too-short a l ≡ false
+  unfolding conditions
+  long-enough = holds-not 4 (too-short a l) (inr (inr (inr (inl refl))))
+
+  -- some slice is shorter than it should be
+  short-slice : Bool
+  short-slice =
+      ltb (length (l .points)) (3 * a .capacity)
+      || ltb (length (l .triangles)) (3 * a .count)
+      || ltb (length (l .quads)) (4 * a .slots)
+      || ltb (length (l .triangles-out)) (3 * a .slots)
+      || ltb (length (l .components)) (a .slots)
+      || ltb (length (l .work)) (slot-words * a .slots + point-words * a .capacity)
+      || ltb (length (l .float-work)) (slot-floats * a .slots)
+
+  fits : (ltb (a .capacity) (a .given) ≡ false) × (ltb (a .slots) (a .count) ≡ false)
+  unfolding too-short short-slice
+  fits =
+      let h = or-false (short-slice || ltb (a .capacity) (a .given)) (ltb (a .slots) (a .count)) long-enough in
+      (or-false short-slice (ltb (a .capacity) (a .given)) (h .0) .1, h .1)
+
+  -- the given points and triangles fit what was lent
+  pub given-fit : a .given ≤ a .capacity
+  given-fit = ltb-false (a .capacity) (a .given) (fits .0)
+
+  pub slots-fit : a .count ≤ a .slots
+  slots-fit = ltb-false (a .slots) (a .count) (fits .1)
+
+  -- as many as stated
+  pub points-number : length (given-points a l) ≡ a .given
+  unfolding given-points first-points below
+  points-number = table-length _ (below (a .given)) ∙ numbers-length 0 (a .given)
+
+  pub tris-number : length (given-tris a l) ≡ a .count
+  unfolding given-tris first-tris below
+  tris-number = table-length _ (below (a .count)) ∙ numbers-length 0 (a .count)
+
+  known-nodes : (t : Tri) → In t (given-tris a l) → (v : ℕ) → In v (tri-nodes t) → v < a .given
+  unfolding conditions unknown-node
+  known-nodes t i v j =
+      leb-false (a .given) v
+      (none-in (λ v. leb (a .given) v) (tri-nodes t) (none-in (λ t. any (λ v. leb (a .given) v) (tri-nodes t)) (given-tris a l) (holds-not 5 (unknown-node a l) (inr (inr (inr (inr (inl refl)))))) t i) v j)
+
+  three-nodes : (t : Tri) → In t (given-tris a l) → Distinct t
+  unfolding conditions repeated-node twice
+  three-nodes t i =
+      let h = or-false (eqb (t .n0) (t .n1) || eqb (t .n1) (t .n2)) (eqb (t .n0) (t .n2)) (none-in twice (given-tris a l) (holds-not 6 (repeated-node a l) (inr (inr (inr (inr (inr (inl refl))))))) t i) in
+      let g = or-false (eqb (t .n0) (t .n1)) (eqb (t .n1) (t .n2)) (h .0) in
+      record { d01 = eqb-false (t .n0) (t .n1) (g .0); d12 = eqb-false (t .n1) (t .n2) (g .1); d20 = λ e. eqb-false (t .n0) (t .n2) (h .1) (sym e) }
+
+  -- the given triangles have three different nodes of the given points
+  pub given-proper : Proper (given-points a l) (given-tris a l)
+  unfolding tri-nodes
+  given-proper t i = record {
+    distinct = three-nodes t i;
+    below = λ v h. let k = known-nodes t i v (elim h [ inl e ↦ inl e | inr (inl e) ↦ inr (inl e) | inr (inr e) ↦ inr (inr (inl e)) ]) in omega (arith, points-number);
+  }
+
+  -- the given points lie within the limit
+  pub given-within : (p : Node) → In p (given-points a l) → outside p ≡ false
+  unfolding conditions far-point
+  given-within p i = none-in outside (given-points a l) (holds-not 7 (far-point a l) (inr (inr (inr (inr (inr (inr (inl refl)))))))) p i

@@ -1,0 +1,48 @@
+-- Every finished run of the definition keeps its account (Kept), and what holds of every state of a run.
+-- lists and triangles
+pub mod Lists
+pub mod Rearranged
+pub mod Triangles
+-- components
+pub mod Even
+pub mod Classes
+pub mod Sizes
+-- meshes, and the steps that change them
+pub mod Flips
+pub mod Ends
+pub mod Valid
+pub mod FlipKeeps
+pub mod SplitKeeps
+pub mod QuadKeeps
+pub mod Found
+pub mod Rated
+-- the walk through an attempt and through a run, for any invariant
+pub mod Steps
+pub mod Fronts
+pub mod Run
+pub mod Start
+-- what a run keeps
+pub mod Counting
+pub mod Parity
+pub mod Rooms
+pub mod Quads
+pub mod Geometry
+-- a finished call
+pub mod Slices
+pub mod Finished
+pub mod Kept
+pub mod Demand
+-- edges that were refused
+pub mod Roles
+pub mod Refused
+pub mod Tracked
+pub mod Records
+-- for the proofs of the code
+pub mod Fits
+pub mod Floods
+pub mod Rounds
+pub mod Listed
+pub mod LiveTris
+pub mod Meshes
+pub mod Invariants
+pub mod Reach

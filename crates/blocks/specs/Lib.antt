@@ -1,0 +1,3 @@
+-- Refused edges in lent memory.
+pub mod Records
+pub mod Blocks

@@ -1,0 +1,4 @@
+pub mod Chain0
+pub mod Chain1
+pub mod Chain2
+pub mod Chain3

@@ -1,0 +1,1 @@
+// Longer answers of the Rust as theorems of specs/; this crate has no functions.

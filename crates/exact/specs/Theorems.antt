@@ -1,0 +1,162 @@
+-- What the definition's float tests mean in exact arithmetic. Each statement reads by itself; the proof below it cites the file that has it. Nothing is assumed:
+-- a coordinate is any number that passes the test of refusal 7, double or not.
+use mathlib.Core.Path.{_≡_, refl}
+use mathlib.Core.Bool.{true, false, _&&_}
+use mathlib.Core.List.{List, [], _∷_}
+use Prim.Native.Nat.{ℕ, _^_, _≤_}
+use lib.IntN.{pos, _*ℤ_}
+use lib.ListN.{length}
+use lib.Ieee.{Float, fin, binary64}
+use Rattle.definition.specs.Floats.{_⊗_, _≼_, finite, 1e-12}
+use Rattle.definition.specs.Numbers.{Numbers, base}
+use Rattle.definition.specs.Plane.{Node, Edge, cross, side, from-to, norm, dist, edge-length, point-strictly-inside, segments-cross}
+use Rattle.definition.specs.Metrics.{corners, quad-metrics, passes, score}
+use Rattle.definition.specs.Loops.{loop-perimeter, ranked-before}
+use Rattle.definition.specs.Trials.{trial-before}
+use Rattle.definition.specs.Cells.{Tri, tri, Mesh, node-at}
+use Rattle.definition.specs.Insertion.{along, holds}
+use Rattle.definition.specs.Attempt.{inward-normal, target-of}
+use Rattle.definition.specs.Exact.{units, arrow, exact-cross, Turns-left, Wide-enough, Finite}
+use Rattle.definition.specs.Account.{All, _∈_}
+use Rattle.definition.specs.Call.{Asked, outside, bad-size, settings}
+use Rattle.exact.specs.Values.{Ok}
+use Rattle.exact.specs.Sums.{Number}
+use Rattle.exact.specs.Limits.{Limit, Cosine-up-to, limit-below, up-to, base-limit, base-wide}
+use Rattle.exact.specs.Points.{within-8}
+use Rattle.exact.specs.Passing.{four-corners}
+use Rattle.exact.specs.Strict.{not-outside, strictly-inside}
+use Rattle.exact.specs.Inserted.{size-asked, share-small, tried}
+use Rattle.exact.specs.Finite.{within-point, length-ok, perimeter-ok, sides-ok, score-ok}
+use Rattle.exact.specs.Ranks.{Total, Finite-rank, Same-lead, ranked-order, Finite-score, Same-nodes, trial-order}
+use Rattle.exact.specs.Grid.{Grid-point, cross-exact}
+use Rattle.exact.specs.Sides.{Same-as}
+use Rattle.exact.specs.Crossing.{Strictly-in, Two-sides, inside-exactly, crossing-exactly}
+
+-- x and y are numbers within 8 of zero: the definition's own test of a given point
+abbrev pub Within : Node → Type 0
+Within p = outside p ≡ false
+
+-- a double that is neither a NaN nor an infinity
+abbrev pub Finite-double : Float → Type 0
+Finite-double x = Ok binary64 x
+
+all-map : {A : Type 0} (P Q : A → Type 0) → ((x : A) → P x → Q x) → (xs : List A) → All P xs → All Q xs
+all-map P Q f [] u = tt
+all-map P Q f (x ∷ xs) (p, ps) = (f x p, all-map P Q f xs ps)
+
+-- ---- quads
+
+-- A quad whose metrics pass turns left at its four nodes, so it is exactly convex and counterclockwise, and the exact cosine of each of its corners is at most
+-- the limit and 1e-9. The tolerance of the cross products is that of `base`; the limit is a double from 0 on, below 1 (`limit-range`: as those from 0.5 to 0.99 are).
+pub passing-quad : (num : Numbers) → num .tiny-cross ≡ 1e-12 → Limit (num .largest-cosine)
+    → (a b c d : Node) → Within a → Within b → Within c → Within d
+    → passes num (quad-metrics num a b c d) ≡ true
+    → All Turns-left (corners a b c d) × All (Cosine-up-to (num .largest-cosine)) (corners a b c d)
+passing-quad num tiny limit a b c d A B C D h =
+    let l = limit-below (num .largest-cosine) limit in
+    let p = four-corners num tiny l a b c d (within-8 a A) (within-8 b B) (within-8 c C) (within-8 d D) h in
+    (p .0, all-map _ (Cosine-up-to (num .largest-cosine)) (λ k q. up-to (num .largest-cosine) k l q) (corners a b c d) (p .1))
+
+-- With document 01's numbers: and no corner is under 24.99 degrees.
+pub passing : (a b c d : Node) → Within a → Within b → Within c → Within d
+    → passes base (quad-metrics base a b c d) ≡ true
+    → All Turns-left (corners a b c d) × All Wide-enough (corners a b c d)
+unfolding base
+passing a b c d A B C D h =
+    let p = passing-quad base refl base-limit a b c d A B C D h in
+    (p .0, all-map _ Wide-enough base-wide (corners a b c d) (p .1))
+
+-- ---- insertion
+
+-- The point that an insertion tries lies from o, an end of the edge a b (or any point within 8), by a share of the target along the edge's inward normal; the target is
+-- the size, or the edge's length where there is none. Where a triangle t u v within 8 holds the point strictly inside by the float test, the point is within 8.
+pub inserted-within : (num : Numbers) → num .tiny-cross ≡ 1e-12 → num .tiny-length ≡ 1e-12
+    → (asked : Asked) → bad-size asked ≡ false
+    → (a b o t u v : Node) → Within a → Within b → Within o → Within t → Within u → Within v
+    → (share : Float) → share ∈ base .shares
+    → (norm (from-to a b) ≼ num .tiny-length) ≡ false
+    → (p : Node) → p ≡ along o (inward-normal (from-to a b) (norm (from-to a b))) (target-of (settings num asked) (dist b a)) share
+    → point-strictly-inside num t u v p ≡ true
+    → Within p
+unfolding settings dist
+inserted-within num tiny short asked size a b o t u v wa wb wo wt wu wv share m far p e h =
+    let q = along o (inward-normal (from-to a b) (norm (from-to a b))) (target-of (settings num asked) (norm (from-to a b))) share in
+    let r = tried (settings num asked) short (size-asked asked size) a b (within-8 a wa) (within-8 b wb) far o share (within-8 o wo) (share-small share m) in
+    let i = strictly-inside num tiny t u v q (within-8 t wt) (within-8 u wu) (within-8 v wv) (r .1) (rw e at h) in
+    rw e (not-outside q (r .0) (i .0) (i .1))
+
+-- With document 01's numbers.
+pub inside : (asked : Asked) → bad-size asked ≡ false
+    → (a b o t u v : Node) → Within a → Within b → Within o → Within t → Within u → Within v
+    → (share : Float) → share ∈ base .shares
+    → (norm (from-to a b) ≼ base .tiny-length) ≡ false
+    → (p : Node) → p ≡ along o (inward-normal (from-to a b) (norm (from-to a b))) (target-of (settings base asked) (dist b a)) share
+    → point-strictly-inside base t u v p ≡ true
+    → Within p
+unfolding base
+inside asked size a b o t u v wa wb wo wt wu wv share m far p e h = inserted-within base refl refl asked size a b o t u v wa wb wo wt wu wv share m far p e h
+
+-- In a mesh m whose points are within 8, a triangle that holds the point tried: the edge a b was measured in an earlier mesh n, within 8 too.
+pub held-within : (asked : Asked) → bad-size asked ≡ false
+    → (n m : Mesh) → All Within (n .points) → All Within (m .points)
+    → (a b o : ℕ) (t : Tri) (share : Float) → share ∈ base .shares
+    → (norm (from-to (node-at n a) (node-at n b)) ≼ base .tiny-length) ≡ false
+    → (p : Node)
+    → p ≡ along (node-at m o) (inward-normal (from-to (node-at n a) (node-at n b)) (norm (from-to (node-at n a) (node-at n b)))) (target-of (settings base asked) (edge-length (n .points) (a, b))) share
+    → holds base m p (tri t) ≡ true
+    → Within p
+unfolding holds node-at edge-length
+held-within asked size n m hn hm a b o t share k far p e h =
+    inside asked size (node-at n a) (node-at n b) (node-at m o) (node-at m (t .n0)) (node-at m (t .n1)) (node-at m (t .n2)) (within-point (n .points) a hn) (within-point (n .points) b hn) (within-point (m .points) o hm)
+    (within-point (m .points) (t .n0) hm) (within-point (m .points) (t .n1) hm) (within-point (m .points) (t .n2) hm) share k far p e h
+
+-- A point within 8 is finite.
+pub within-finite : (p : Node) → Within p → Finite p
+unfolding finite
+within-finite p h = let a = within-8 p h in both (p .x) (p .y) (a .0 .0) (a .1 .0)
+  where
+    both : (x y : Float) → Number x → Number y → (finite x && finite y) ≡ true
+    both (fin s m e) (fin t n d) u v = refl
+
+-- ---- finite numbers
+
+-- The length of an edge of points within 8 is a finite double.
+pub length-finite : (ps : List Node) (e : Edge) → All Within ps → Finite-double (edge-length ps e)
+length-finite ps e h = length-ok ps e h .0
+
+-- So is the perimeter of a loop of up to 65,536 edges (a run has at most three a slot, 49,152).
+pub perimeter-finite : (ps : List Node) (es : List Edge) → All Within ps → length es ≤ 65536 → Finite-double (loop-perimeter ps es)
+perimeter-finite ps es h l = perimeter-ok ps es h l
+
+-- So is a product of two cross products that is compared with 0: neither a NaN nor an infinity stands in a test for crossing segments or for a flip.
+pub product-finite : (p q r s : Node) → Within p → Within q → Within r → Within s → Finite-double (side p q r ⊗ side p q s)
+product-finite p q r s hp hq hr hs = sides-ok p q r s (within-8 p hp) (within-8 q hq) (within-8 r hr) (within-8 s hs)
+
+-- So is the score of a quad that passes, whatever its points.
+pub score-finite : (num : Numbers) (a b c d : Node) → passes num (quad-metrics num a b c d) ≡ true → Finite-double (score (quad-metrics num a b c d))
+score-finite num a b c d h = score-ok num a b c d h
+
+-- On records of finite doubles the orders by which a run takes its least are strict total orders: of loops and edges, by rank and then the leading edge,
+pub ranked-total : Total Finite-rank Same-lead ranked-before
+ranked-total = ranked-order
+
+-- and of trials, the greater score first, then by node numbers.
+pub trial-total : Total Finite-score Same-nodes trial-before
+trial-total = trial-order
+
+-- ---- the grid of 1 / 1024
+
+-- On points within 8 whose coordinates are whole multiples of 1 / 1024, the float cross product has no rounding error: its units, times 2 ^ 1074, are the exact one.
+pub grid-cross : (a b c : Node) → Within a → Within b → Within c → Grid-point a → Grid-point b → Grid-point c
+    → exact-cross (arrow a b) (arrow a c) ≡ units (cross a b c) *ℤ pos (2 ^ 1074)
+grid-cross a b c wa wb wc ga gb gc = cross-exact a b c (within-8 a wa) (within-8 b wb) (within-8 c wc) ga gb gc
+
+-- On the same points the strict-inside test says exactly that p lies strictly on one side of all three sides,
+pub grid-inside : (a b c p : Node) → Within a → Within b → Within c → Within p → Grid-point a → Grid-point b → Grid-point c → Grid-point p
+    → Same-as (point-strictly-inside base a b c p ≡ true) (Strictly-in a b c p)
+grid-inside a b c p wa wb wc wp = inside-exactly a b c p (within-8 a wa) (within-8 b wb) (within-8 c wc) (within-8 p wp)
+
+-- and the test for crossing segments exactly that each has the ends of the other strictly on two sides.
+pub grid-crossing : (p q r s : Node) → Within p → Within q → Within r → Within s → Grid-point p → Grid-point q → Grid-point r → Grid-point s
+    → Same-as (segments-cross p q r s ≡ true) (Two-sides p q r s × Two-sides r s p q)
+grid-crossing p q r s wp wq wr ws = crossing-exactly p q r s (within-8 p wp) (within-8 q wq) (within-8 r wr) (within-8 s ws)

@@ -1,0 +1,52 @@
+-- Calls that end for want of lent memory, each one theorem by computation: what is answered, and what every slice holds at exit.
+-- Made by tools/computed/runs.py from answers/calls. At entry the outputs and the work hold numbers of no meaning.
+use mathlib.Core.Path.{_≡_, refl}
+use mathlib.Core.List.{List, [], _∷_, _++_, map}
+use Prim.Native.Nat.{ℕ, _+_, _*_, _-_}
+use lib.ListN.{length, replicate}
+use lib.Ieee.{Float, nan}
+use Rattle.definition.specs.Floats.{f64, 0·0}
+use Rattle.definition.specs.Numbers.{base}
+use Rattle.definition.specs.Call.{Asked, Lent, refusal, call}
+use Rattle.vectors.specs.Opened.{opened}
+
+-- the slices: points so far with the rest of the capacity, triangles, quads so far with the rest, and what the others hold
+abbrev lent : ℕ → ℕ → List ℕ → List ℕ → List ℕ → ℕ → Float → Lent
+lent capacity slots points triangles quads d f =
+    record {
+      points = map f64 points ++ replicate (3 * capacity - length points) nan;
+      triangles = triangles;
+      quads = quads ++ replicate (4 * slots - length quads) 7;
+      triangles-out = replicate (3 * slots) 7;
+      components = replicate slots 7;
+      work = replicate (64 * slots + 8 * capacity) d;
+      float-work = replicate (4 * slots) f;
+    }
+
+asked-graded-0018 : Asked
+asked-graded-0018 = record { given = 8; capacity = 9; count = 4; slots = 4; size = f64 0x3fe218b48187805c; stop = 1 }
+
+graded-0018 : call base asked-graded-0018 (lent 9 4 (0xbff29bd5e63eeca8 ∷ 0xbfa841db68cd49cd ∷ 0x0000000000000000 ∷ 0x3fb0c867c716a6f7 ∷ 0x3fc3050e79a3cdba ∷ 0x0000000000000000 ∷ 0x3ff19760f3bd3bdf ∷ 0x3fa6db7b48292934 ∷ 0x0000000000000000 ∷ 0x40065a4a46dd710d ∷ 0x3fb43242b9e4fab0 ∷ 0x0000000000000000 ∷ 0xbff00ab7bf240f38 ∷ 0x3fed6ff8438ef74a ∷ 0x0000000000000000 ∷ 0xbfac406482bedf0d ∷ 0x3febbe2866f36a30 ∷ 0x0000000000000000 ∷ 0x3ff3181c8e659c8c ∷ 0x3fea87240e2217d3 ∷ 0x0000000000000000 ∷ 0x40070f2348b77b4a ∷ 0x3feff68797b0558a ∷ 0x0000000000000000 ∷ []) (0 ∷ 1 ∷ 4 ∷ 1 ∷ 5 ∷ 4 ∷ 2 ∷ 3 ∷ 7 ∷ 2 ∷ 7 ∷ 6 ∷ []) [] 5 nan) ≡ record { answer = refusal 9; lent = lent 9 4 (0xbff29bd5e63eeca8 ∷ 0xbfa841db68cd49cd ∷ 0x0000000000000000 ∷ 0x3fb0c867c716a6f7 ∷ 0x3fc3050e79a3cdba ∷ 0x0000000000000000 ∷ 0x3ff19760f3bd3bdf ∷ 0x3fa6db7b48292934 ∷ 0x0000000000000000 ∷ 0x40065a4a46dd710d ∷ 0x3fb43242b9e4fab0 ∷ 0x0000000000000000 ∷ 0xbff00ab7bf240f38 ∷ 0x3fed6ff8438ef74a ∷ 0x0000000000000000 ∷ 0xbfac406482bedf0d ∷ 0x3febbe2866f36a30 ∷ 0x0000000000000000 ∷ 0x3ff3181c8e659c8c ∷ 0x3fea87240e2217d3 ∷ 0x0000000000000000 ∷ 0x40070f2348b77b4a ∷ 0x3feff68797b0558a ∷ 0x0000000000000000 ∷ []) (0 ∷ 1 ∷ 4 ∷ 1 ∷ 5 ∷ 4 ∷ 2 ∷ 3 ∷ 7 ∷ 2 ∷ 7 ∷ 6 ∷ []) ([]) 0 0·0 }
+unfolding opened asked-graded-0018
+graded-0018 = refl
+
+asked-heap-0023 : Asked
+asked-heap-0023 = record { given = 12; capacity = 18; count = 4; slots = 12; size = f64 0x3fe0000000000000; stop = 1 }
+
+heap-0023 : call base asked-heap-0023 (lent 18 12 (0xbfbc0419658c0c10 ∷ 0xbfec3d6cf48b1f7a ∷ 0x0000000000000000 ∷ 0x3ffde7d99cee0224 ∷ 0xbfe090fffebfa067 ∷ 0x0000000000000000 ∷ 0x3fb5192028f03ae8 ∷ 0x3fde46bee299695c ∷ 0x0000000000000000 ∷ 0x3fe66f90622835e4 ∷ 0xbfe75dd3cbb75e36 ∷ 0x0000000000000000 ∷ 0x4000f1c0036f2e23 ∷ 0xbfeb1646a1960708 ∷ 0x0000000000000000 ∷ 0x3ff678592edaf81d ∷ 0x3fdde8847b3417c2 ∷ 0x0000000000000000 ∷ 0x3feb6ee171eaea22 ∷ 0xbfe4030087a4a0f6 ∷ 0x0000000000000000 ∷ 0x40029bd675a29b47 ∷ 0xbfef36615fd34955 ∷ 0x0000000000000000 ∷ 0x3ffa8b96ea024509 ∷ 0x3ff15ca1b572c05c ∷ 0x0000000000000000 ∷ 0xbfe6715a97f116a4 ∷ 0xbfde91a1a12c1888 ∷ 0x0000000000000000 ∷ 0x3fee76cfa0e98587 ∷ 0xbfcf251aee2e2980 ∷ 0x0000000000000000 ∷ 0x3fa23cc2c1d6c5b0 ∷ 0x3ff02c6af6771092 ∷ 0x0000000000000000 ∷ []) (0 ∷ 1 ∷ 2 ∷ 3 ∷ 4 ∷ 5 ∷ 6 ∷ 7 ∷ 8 ∷ 9 ∷ 10 ∷ 11 ∷ []) [] 5 nan) ≡ record { answer = refusal 9; lent = lent 18 12 (0xbfbc0419658c0c10 ∷ 0xbfec3d6cf48b1f7a ∷ 0x0000000000000000 ∷ 0x3ffde7d99cee0224 ∷ 0xbfe090fffebfa067 ∷ 0x0000000000000000 ∷ 0x3fb5192028f03ae8 ∷ 0x3fde46bee299695c ∷ 0x0000000000000000 ∷ 0x3fe66f90622835e4 ∷ 0xbfe75dd3cbb75e36 ∷ 0x0000000000000000 ∷ 0x4000f1c0036f2e23 ∷ 0xbfeb1646a1960708 ∷ 0x0000000000000000 ∷ 0x3ff678592edaf81d ∷ 0x3fdde8847b3417c2 ∷ 0x0000000000000000 ∷ 0x3feb6ee171eaea22 ∷ 0xbfe4030087a4a0f6 ∷ 0x0000000000000000 ∷ 0x40029bd675a29b47 ∷ 0xbfef36615fd34955 ∷ 0x0000000000000000 ∷ 0x3ffa8b96ea024509 ∷ 0x3ff15ca1b572c05c ∷ 0x0000000000000000 ∷ 0xbfe6715a97f116a4 ∷ 0xbfde91a1a12c1888 ∷ 0x0000000000000000 ∷ 0x3fee76cfa0e98587 ∷ 0xbfcf251aee2e2980 ∷ 0x0000000000000000 ∷ 0x3fa23cc2c1d6c5b0 ∷ 0x3ff02c6af6771092 ∷ 0x0000000000000000 ∷ 0x3ffd5e5648627962 ∷ 0x3fcb6830b45b8b9c ∷ 0x0000000000000000 ∷ 0x3fe7be891e983679 ∷ 0xbfcdae30762a5b30 ∷ 0x0000000000000000 ∷ 0x400134be8f8594a7 ∷ 0xbfdca8e75fb13566 ∷ 0x0000000000000000 ∷ 0x3fe18b95c24b5e53 ∷ 0xbfe139c6b5e5c03f ∷ 0x0000000000000000 ∷ []) (0 ∷ 1 ∷ 2 ∷ 3 ∷ 4 ∷ 5 ∷ 6 ∷ 7 ∷ 8 ∷ 9 ∷ 10 ∷ 11 ∷ []) ([]) 0 0·0 }
+unfolding opened asked-heap-0023
+heap-0023 = refl
+
+asked-heap-0033 : Asked
+asked-heap-0033 = record { given = 12; capacity = 13; count = 4; slots = 13; size = f64 0x3fd0000000000000; stop = 1 }
+
+heap-0033 : call base asked-heap-0033 (lent 13 13 (0x3fe785479817d1fe ∷ 0xbfe9e7773fd37390 ∷ 0x0000000000000000 ∷ 0x400019bd458635ba ∷ 0xbfe4fe97fac0cab0 ∷ 0x0000000000000000 ∷ 0x3ff6becf8fb2a19c ∷ 0x3fe903a835022c84 ∷ 0x0000000000000000 ∷ 0x3fc8a3a48912d6d0 ∷ 0xbfd227173dc7b0c8 ∷ 0x0000000000000000 ∷ 0x3ff930c8f6f02407 ∷ 0x3fb3c640eb7ee930 ∷ 0x0000000000000000 ∷ 0x3fed72561a421cb4 ∷ 0x3ff35d8167b9d028 ∷ 0x0000000000000000 ∷ 0xbfd4e5680ab643f4 ∷ 0x3fe5d69b7b607024 ∷ 0x0000000000000000 ∷ 0x3fed1f8d3bda437d ∷ 0x3fe6ed75401c6854 ∷ 0x0000000000000000 ∷ 0xbfb062b25a033440 ∷ 0x4001c5b97d20aa2a ∷ 0x0000000000000000 ∷ 0xbfa5a713d08877e0 ∷ 0xbfcdd3f9e8a5c100 ∷ 0x0000000000000000 ∷ 0x3ff8f02ce554068c ∷ 0xbfd7c8d9e4c81514 ∷ 0x0000000000000000 ∷ 0x3fe5684a62c26c00 ∷ 0x3ff3a0023d3e79ae ∷ 0x0000000000000000 ∷ []) (1 ∷ 2 ∷ 0 ∷ 3 ∷ 4 ∷ 5 ∷ 7 ∷ 8 ∷ 6 ∷ 10 ∷ 11 ∷ 9 ∷ []) [] 5 nan) ≡ record { answer = refusal 8; lent = lent 13 13 (0x3fe785479817d1fe ∷ 0xbfe9e7773fd37390 ∷ 0x0000000000000000 ∷ 0x400019bd458635ba ∷ 0xbfe4fe97fac0cab0 ∷ 0x0000000000000000 ∷ 0x3ff6becf8fb2a19c ∷ 0x3fe903a835022c84 ∷ 0x0000000000000000 ∷ 0x3fc8a3a48912d6d0 ∷ 0xbfd227173dc7b0c8 ∷ 0x0000000000000000 ∷ 0x3ff930c8f6f02407 ∷ 0x3fb3c640eb7ee930 ∷ 0x0000000000000000 ∷ 0x3fed72561a421cb4 ∷ 0x3ff35d8167b9d028 ∷ 0x0000000000000000 ∷ 0xbfd4e5680ab643f4 ∷ 0x3fe5d69b7b607024 ∷ 0x0000000000000000 ∷ 0x3fed1f8d3bda437d ∷ 0x3fe6ed75401c6854 ∷ 0x0000000000000000 ∷ 0xbfb062b25a033440 ∷ 0x4001c5b97d20aa2a ∷ 0x0000000000000000 ∷ 0xbfa5a713d08877e0 ∷ 0xbfcdd3f9e8a5c100 ∷ 0x0000000000000000 ∷ 0x3ff8f02ce554068c ∷ 0xbfd7c8d9e4c81514 ∷ 0x0000000000000000 ∷ 0x3fe5684a62c26c00 ∷ 0x3ff3a0023d3e79ae ∷ 0x0000000000000000 ∷ 0x3ff5b9fb0af4b5f1 ∷ 0xbfa873ce102f0ad8 ∷ 0x0000000000000000 ∷ []) (1 ∷ 2 ∷ 0 ∷ 3 ∷ 4 ∷ 5 ∷ 7 ∷ 8 ∷ 6 ∷ 10 ∷ 11 ∷ 9 ∷ []) ([]) 0 0·0 }
+unfolding opened asked-heap-0033
+heap-0033 = refl
+
+asked-graded-0024 : Asked
+asked-graded-0024 = record { given = 9; capacity = 10; count = 8; slots = 17; size = f64 0x3fe36847c07f0727; stop = 0 }
+
+graded-0024 : call base asked-graded-0024 (lent 10 17 (0xbff24ab36f0c19fc ∷ 0xbfeedc9eef96b1cc ∷ 0x0000000000000000 ∷ 0x3faa98ec62d9c7a7 ∷ 0xbff25f996a6145ef ∷ 0x0000000000000000 ∷ 0x3ff474bbe464ec28 ∷ 0xbfed671f77ef1fde ∷ 0x0000000000000000 ∷ 0xbff604ec351a0885 ∷ 0xbfb4110a32d11b24 ∷ 0x0000000000000000 ∷ 0x3fc1e5087ea6c87f ∷ 0xbfabaf4dded8b87a ∷ 0x0000000000000000 ∷ 0x3ff5e0908af6384d ∷ 0xbfc84b17db88f5dd ∷ 0x0000000000000000 ∷ 0xbff4f365e38ee156 ∷ 0x3ff2e477fe512516 ∷ 0x0000000000000000 ∷ 0x3fbea649dbc53d30 ∷ 0x3ff0e8301bc69de7 ∷ 0x0000000000000000 ∷ 0x3ff1c4237bb5bc0d ∷ 0x3feead2cbc860066 ∷ 0x0000000000000000 ∷ []) (0 ∷ 1 ∷ 3 ∷ 1 ∷ 4 ∷ 3 ∷ 1 ∷ 2 ∷ 4 ∷ 2 ∷ 5 ∷ 4 ∷ 3 ∷ 4 ∷ 6 ∷ 4 ∷ 7 ∷ 6 ∷ 4 ∷ 5 ∷ 7 ∷ 5 ∷ 8 ∷ 7 ∷ []) [] 5 nan) ≡ record { answer = refusal 8; lent = lent 10 17 (0xbff24ab36f0c19fc ∷ 0xbfeedc9eef96b1cc ∷ 0x0000000000000000 ∷ 0x3faa98ec62d9c7a7 ∷ 0xbff25f996a6145ef ∷ 0x0000000000000000 ∷ 0x3ff474bbe464ec28 ∷ 0xbfed671f77ef1fde ∷ 0x0000000000000000 ∷ 0xbff604ec351a0885 ∷ 0xbfb4110a32d11b24 ∷ 0x0000000000000000 ∷ 0x3fc1e5087ea6c87f ∷ 0xbfabaf4dded8b87a ∷ 0x0000000000000000 ∷ 0x3ff5e0908af6384d ∷ 0xbfc84b17db88f5dd ∷ 0x0000000000000000 ∷ 0xbff4f365e38ee156 ∷ 0x3ff2e477fe512516 ∷ 0x0000000000000000 ∷ 0x3fbea649dbc53d30 ∷ 0x3ff0e8301bc69de7 ∷ 0x0000000000000000 ∷ 0x3ff1c4237bb5bc0d ∷ 0x3feead2cbc860066 ∷ 0x0000000000000000 ∷ 0xbfe944df9de6f25e ∷ 0x3fb369c37a7254ac ∷ 0x0000000000000000 ∷ []) (0 ∷ 1 ∷ 3 ∷ 1 ∷ 4 ∷ 3 ∷ 1 ∷ 2 ∷ 4 ∷ 2 ∷ 5 ∷ 4 ∷ 3 ∷ 4 ∷ 6 ∷ 4 ∷ 7 ∷ 6 ∷ 4 ∷ 5 ∷ 7 ∷ 5 ∷ 8 ∷ 7 ∷ []) (2 ∷ 5 ∷ 4 ∷ 1 ∷ 3 ∷ 0 ∷ 1 ∷ 9 ∷ 8 ∷ 7 ∷ 4 ∷ 5 ∷ []) 0 0·0 }
+unfolding opened asked-graded-0024
+graded-0024 = refl

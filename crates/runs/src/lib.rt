@@ -1,0 +1,1 @@
+// Small answers of the Rust as theorems of specs/; this crate has no functions.
