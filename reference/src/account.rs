@@ -1,0 +1,132 @@
+//! What holds of every finished run: the account of demand 3, in floats where it
+//! speaks of exact arithmetic.
+
+use crate::input::{Input, Lent, UNBOUNDED};
+use crate::patched::FrontResult;
+use crate::random::Random;
+
+/// Sizes of the components, descending: triangles with two nodes in common belong
+/// together.
+pub fn components(tris: &[[usize; 3]]) -> Vec<usize> {
+    let mut class: Vec<usize> = (0..tris.len()).collect();
+    for i in 0..tris.len() {
+        for j in 0..i {
+            let common = tris[i].iter().filter(|v| tris[j].contains(v)).count();
+            if common >= 2 && class[i] != class[j] {
+                let (keep, drop) = (class[j], class[i]);
+                class
+                    .iter_mut()
+                    .filter(|c| **c == drop)
+                    .for_each(|c| *c = keep);
+            }
+        }
+    }
+    let mut sizes: Vec<usize> = (0..tris.len())
+        .map(|k| class.iter().filter(|&&c| c == k).count())
+        .filter(|&n| n > 0)
+        .collect();
+    sizes.sort_unstable_by(|a, b| b.cmp(a));
+    sizes
+}
+
+/// Panics where a finished run does not keep its account.
+pub fn check(input: &Input, r: &FrontResult) {
+    let c = &r.refusals;
+    let refused = c.placement + c.invalid_quad + c.recovery + c.region + c.odd_region;
+    assert_eq!(c.attempts, r.quads.len() + refused + c.limit, "attempts");
+    assert!(c.limit <= 1 && c.front_empty <= 1, "limit, front_empty");
+    assert_eq!(
+        r.points.len(),
+        input.points.len() + c.mismatch_insertions,
+        "points"
+    );
+    for (given, kept) in input.points.iter().zip(&r.points) {
+        assert_eq!(*given, kept.map(f64::to_bits), "a given point");
+    }
+    for added in &r.points[input.points.len()..] {
+        assert!(
+            added[0].abs() <= 8.0 && added[1].abs() <= 8.0,
+            "an added point"
+        );
+        assert_eq!(added[2].to_bits(), 0, "an added z");
+    }
+    r.quads.iter().for_each(|q| check_quad(r, q));
+    assert_eq!(r.region_components, components(&r.triangles), "components");
+    assert_eq!(
+        r.region_components.iter().sum::<usize>(),
+        r.triangles.len(),
+        "sizes"
+    );
+    let even = |sizes: &[usize]| sizes.iter().all(|n| n % 2 == 0);
+    if input.even() && (!r.quads.is_empty() || even(&components(&input.tris()))) {
+        assert!(even(&r.region_components), "even components");
+    }
+}
+
+/// Convex, counterclockwise, no corner under 24.99 degrees.
+fn check_quad(r: &FrontResult, quad: &[usize; 4]) {
+    for k in 0..4 {
+        let at = |i: usize| r.points[quad[(k + i) % 4]];
+        let (here, next, before) = (at(0), at(1), at(3));
+        let u = [next[0] - here[0], next[1] - here[1]];
+        let v = [before[0] - here[0], before[1] - here[1]];
+        assert!(u[0] * v[1] - u[1] * v[0] > 5e-13, "a corner's turn");
+        let dot = u[0] * v[0] + u[1] * v[1];
+        let squares = (u[0] * u[0] + u[1] * u[1]) * (v[0] * v[0] + v[1] * v[1]);
+        assert!(
+            dot <= 0.0 || dot * dot <= 0.90638 * 0.90638 * squares,
+            "a corner's angle"
+        );
+    }
+}
+
+/// Slots that a finished run used: its triangles, two a split, one a quad.
+pub fn slots_used(input: &Input, r: &FrontResult) -> usize {
+    input.triangles.len() + 2 * r.refusals.mismatch_insertions + r.quads.len()
+}
+
+/// Tries some capacities on an input whose unbounded run is `full`: with enough the
+/// run is the same, with less it is refused and has gone as far as it could. Says
+/// how many runs were made.
+pub fn check_lent(input: &Input, full: &FrontResult, r: &mut Random) -> usize {
+    let (given, tris) = (input.points.len(), input.triangles.len());
+    let (points, slots) = (full.points.len(), slots_used(input, full));
+    let mut tried = vec![Lent { points, slots }];
+    for _ in 0..3 {
+        let points = r.from_to(given, points);
+        let slots = r.from_to(tris, slots);
+        tried.push(Lent {
+            points,
+            ..UNBOUNDED
+        });
+        tried.push(Lent { slots, ..UNBOUNDED });
+        tried.push(Lent { points, slots });
+    }
+    for lent in &tried {
+        let short = input.run_unchecked(*lent);
+        check_short(full, &short, *lent, points, slots);
+    }
+    tried.len()
+}
+
+fn check_short(full: &FrontResult, short: &FrontResult, lent: Lent, points: usize, slots: usize) {
+    let enough = lent.points >= points && lent.slots >= slots;
+    assert_eq!(
+        short.refused.is_none(),
+        enough,
+        "a refusal without need, or none"
+    );
+    assert!(full.quads.starts_with(&short.quads), "quads so far");
+    let bits = |r: &FrontResult| {
+        r.points
+            .iter()
+            .map(|p| p.map(f64::to_bits))
+            .collect::<Vec<_>>()
+    };
+    assert!(bits(full).starts_with(&bits(short)), "points so far");
+    match short.refused {
+        None => assert_eq!(full.triangles, short.triangles, "triangles"),
+        Some(8) => assert_eq!(short.points.len(), lent.points, "8 with points free"),
+        _ => assert!(lent.slots < slots, "9 with slots free"),
+    }
+}

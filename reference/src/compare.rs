@@ -1,0 +1,288 @@
+//! The patched module against the published one on generated inputs.
+
+use std::collections::BTreeMap;
+use std::path::Path;
+
+use crate::generators::shape::Room;
+use crate::generators::{self, KINDS, TEXT};
+use crate::input::{Input, UNBOUNDED};
+use crate::random::Random;
+use crate::{account, bare, damage, patched, published, text, without_cosine, without_off_front};
+
+/// What two runs are compared by. `limit` is not of the published module.
+#[derive(PartialEq, Eq)]
+pub struct Ran {
+    counts: [usize; 8],
+    quads: Vec<[usize; 4]>,
+    triangles: Vec<[usize; 3]>,
+    points: Vec<[u64; 3]>,
+    sizes: Vec<usize>,
+}
+
+macro_rules! ran {
+    ($module:ident, $result:expr) => {{
+        let r: $module::FrontResult = $result;
+        let c = r.refusals;
+        Ran {
+            counts: [
+                c.front_empty,
+                c.attempts,
+                c.placement,
+                c.invalid_quad,
+                c.recovery,
+                c.region,
+                c.odd_region,
+                c.mismatch_insertions,
+            ],
+            points: r.points.iter().map(|p| p.map(f64::to_bits)).collect(),
+            quads: r.quads,
+            triangles: r.triangles,
+            sizes: r.region_components,
+        }
+    }};
+}
+
+macro_rules! run {
+    ($module:ident, $input:expr $(, $most:expr)*) => {{
+        let stop = if $input.even() {
+            $module::FrontStop::EvenComponents
+        } else {
+            $module::FrontStop::Exhaust
+        };
+        let (tris, nodes) = ($input.tris(), $input.nodes());
+        ran!($module, $module::run_front(&tris, &nodes, $input.size(), stop $(, $most)*))
+    }};
+}
+
+/// Which patch makes the two part.
+#[derive(Clone, Copy, Debug, PartialEq, Eq, PartialOrd, Ord)]
+pub enum Parting {
+    Cosine,
+    OffFront,
+    Both,
+    Other,
+}
+
+/// Why the patched run parts from the published one, if it does.
+fn parting(input: &Input, patched_ran: &Ran) -> Option<Parting> {
+    let most = usize::MAX;
+    let published_ran = run!(published, input);
+    if published_ran == *patched_ran {
+        return None;
+    }
+    if run!(bare, input, most, most) != published_ran {
+        return Some(Parting::Other);
+    }
+    if run!(without_cosine, input, most, most) == *patched_ran {
+        return Some(Parting::OffFront);
+    }
+    if run!(without_off_front, input, most, most) == *patched_ran {
+        return Some(Parting::Cosine);
+    }
+    Some(Parting::Both)
+}
+
+/// The same from the input alone.
+pub fn parting_of(input: &Input) -> Option<Parting> {
+    if input.points.len() > 4096 || input.refusal(crate::input::LARGEST).is_some() {
+        return None;
+    }
+    parting(input, &ran!(patched, input.run_unchecked(UNBOUNDED)))
+}
+
+/// The counts and lengths of both runs of a text, and why they part.
+pub fn parts(bytes: &[u8]) -> Option<String> {
+    let input = text::read(bytes)?;
+    if input.refusal(crate::input::PROGRAM).is_some() {
+        return None;
+    }
+    let row = |name: &str, r: &Ran| {
+        let lengths = [
+            r.quads.len(),
+            r.triangles.len(),
+            r.points.len(),
+            r.sizes.len(),
+        ];
+        let words = |list: &[usize]| {
+            list.iter()
+                .map(usize::to_string)
+                .collect::<Vec<_>>()
+                .join(" ")
+        };
+        format!(
+            "{name}: {} / {} / {:?}\n",
+            words(&r.counts),
+            words(&lengths),
+            r.quads
+        )
+    };
+    let published = row("published", &run!(published, input));
+    let patched = row("patched", &ran!(patched, input.run_unchecked(UNBOUNDED)));
+    Some(format!("{published}{patched}{:?}\n", parting_of(&input)))
+}
+
+#[derive(Default)]
+struct Tally {
+    runs: usize,
+    refused: usize,
+    agree: usize,
+    partings: BTreeMap<Parting, usize>,
+    limited: usize,
+    short: usize,
+}
+
+#[derive(Default)]
+pub struct Comparison {
+    kinds: BTreeMap<&'static str, Tally>,
+    smallest: BTreeMap<Parting, Input>,
+}
+
+/// Larger rooms now and then.
+fn room(case: u64) -> Room {
+    match case / KINDS.len() as u64 % 256 {
+        255 => Room {
+            triangles: 600,
+            points: 500,
+        },
+        n if n % 16 == 15 => Room {
+            triangles: 200,
+            points: 160,
+        },
+        _ => TEXT,
+    }
+}
+
+impl Comparison {
+    /// One case; panics where a run breaks its account.
+    pub fn case(&mut self, seed: u64, case: u64, kind: &'static generators::Kind) {
+        let mut r = Random::new(seed, case);
+        let input = kind.1(&mut r, &room(case));
+        let tally = self.kinds.entry(kind.0).or_default();
+        tally.runs += 1;
+        check_text(&input, &mut r);
+        if input.refusal(crate::input::LARGEST).is_some() {
+            tally.refused += 1;
+            return;
+        }
+        let full = input.run_unchecked(UNBOUNDED);
+        account::check(&input, &full);
+        tally.limited += full.refusals.limit;
+        if input.triangles.len() <= 64 && full.refusals.attempts < 400 && r.once_in(3) {
+            tally.short += account::check_lent(&input, &full, &mut r);
+        }
+        match parting(&input, &ran!(patched, full)) {
+            None => tally.agree += 1,
+            Some(why) => {
+                *tally.partings.entry(why).or_default() += 1;
+                let small = if input.triangles.len() <= 40 {
+                    shrink(input, why)
+                } else {
+                    input
+                };
+                let best = self.smallest.entry(why).or_insert_with(|| small.clone());
+                if weight(&small) < weight(best) {
+                    *best = small;
+                }
+            }
+        }
+    }
+
+    /// A line a kind, then the sums. True when nothing parts but by the two patches.
+    pub fn print(&self) -> bool {
+        println!("kind runs refused agree cosine off_front both other limit short_of_memory");
+        let mut sums = [0; 9];
+        for (kind, t) in &self.kinds {
+            let of = |why| t.partings.get(&why).copied().unwrap_or(0);
+            let row = [
+                t.runs,
+                t.refused,
+                t.agree,
+                of(Parting::Cosine),
+                of(Parting::OffFront),
+                of(Parting::Both),
+                of(Parting::Other),
+                t.limited,
+                t.short,
+            ];
+            println!("{kind} {}", row.map(|n| n.to_string()).join(" "));
+            sums.iter_mut().zip(row).for_each(|(sum, n)| *sum += n);
+        }
+        println!("all {}", sums.map(|n| n.to_string()).join(" "));
+        sums[6] == 0
+    }
+
+    /// The smallest parting input of each sort.
+    pub fn save(&self, folder: &Path) -> std::io::Result<()> {
+        std::fs::create_dir_all(folder)?;
+        for (why, input) in &self.smallest {
+            std::fs::write(folder.join(format!("{why:?}.in")), text::write(input))?;
+            let tris = input.triangles.len();
+            println!("{why:?}: {tris} triangles, {} points", input.points.len());
+        }
+        Ok(())
+    }
+}
+
+/// By triangles, then by the length of the text.
+fn weight(input: &Input) -> (usize, usize) {
+    (input.triangles.len(), text::write(input).len())
+}
+
+/// The text form holds what it is given, and no damage makes a panic.
+fn check_text(input: &Input, r: &mut Random) {
+    let whole = text::write(input);
+    let fits = input.triangles.len() <= 64 && input.points.len() <= 64;
+    assert_eq!(
+        text::read(&whole).as_ref(),
+        fits.then_some(input),
+        "the text form"
+    );
+    let broken = damage::damaged(&whole, r);
+    if let Some(other) = text::read(&broken) {
+        assert_eq!(text::write(&other), broken, "two texts for one input");
+    }
+}
+
+/// Triangles, points and digits left out one by one while the two still part so.
+fn shrink(mut input: Input, why: Parting) -> Input {
+    let parts = |i: &Input| parting_of(i) == Some(why);
+    loop {
+        let without = |k: usize| {
+            let mut less = input.clone();
+            less.triangles.remove(k);
+            less
+        };
+        match (0..input.triangles.len()).map(without).find(parts) {
+            Some(less) => input = less,
+            None => break,
+        }
+    }
+    let packed = packed(&input);
+    if parts(&packed) {
+        input = packed;
+    }
+    for digits in [1.0, 2.0, 4.0, 8.0, 16.0, 64.0, 1024.0] {
+        let round = |b: u64| ((f64::from_bits(b) * digits).round() / digits).to_bits();
+        let mut rounded = input.clone();
+        rounded
+            .points
+            .iter_mut()
+            .for_each(|p| *p = [round(p[0]), round(p[1]), 0]);
+        if parts(&rounded) {
+            return rounded;
+        }
+    }
+    input
+}
+
+/// Without the points that no triangle names.
+fn packed(input: &Input) -> Input {
+    let named = |v: &usize| input.triangles.iter().flatten().any(|&n| n as usize == *v);
+    let kept: Vec<usize> = (0..input.points.len()).filter(named).collect();
+    let place = |n: u32| kept.iter().position(|&v| v == n as usize).unwrap_or(0) as u32;
+    Input {
+        points: kept.iter().map(|&v| input.points[v]).collect(),
+        triangles: input.triangles.iter().map(|t| t.map(place)).collect(),
+        ..*input
+    }
+}

@@ -1,0 +1,148 @@
+//! The Rust reference of the port: the module as published and as patched, run
+//! on the program's text form and compared on generated meshes.
+
+mod account;
+mod call;
+mod compare;
+mod damage;
+mod files;
+mod generators;
+mod input;
+mod large;
+mod mesh;
+#[allow(dead_code)]
+mod patched;
+#[allow(dead_code)]
+mod published;
+mod random;
+#[cfg(test)]
+mod table;
+mod text;
+
+/// The patched module with some patches taken back by the build script.
+macro_rules! variant {
+    ($name:ident, $file:literal) => {
+        #[allow(dead_code)]
+        mod $name {
+            include!(concat!(env!("OUT_DIR"), $file));
+        }
+    };
+}
+variant!(bare, "/bare.rs");
+variant!(without_cosine, "/without_cosine.rs");
+variant!(without_off_front, "/without_off_front.rs");
+
+use std::io::{Error, Read, Result, Write};
+use std::path::Path;
+
+const USAGE: &str = "usage:
+  run                                      answer the text on standard input
+  cases SEED COUNT DIR [KIND]              write texts with their answers
+  call                                     answer the library's call on standard input
+  calls SEED COUNT DIR                     write calls of the library with their answers
+  meshes SEED TRIANGLES [DIR]              make large meshes, print their hashes
+  compare SEED COUNT [--kind KIND] [--save DIR]
+                                           run patched against published
+  parts                                    both runs of the text on standard input, in short
+  check DIR ..                             recompute stored answers";
+
+/// Answers the text on standard input. A byte over the limit is enough to refuse;
+/// the rest is read to its end and dropped.
+fn run() -> Result<()> {
+    let mut text = Vec::new();
+    let most = text::MOST_BYTES as u64 + 1;
+    let mut from = std::io::stdin().lock();
+    from.by_ref().take(most).read_to_end(&mut text)?;
+    std::io::copy(&mut from, &mut std::io::sink())?;
+    std::io::stdout().write_all(&text::reply(&text))
+}
+
+/// Answers a call of the library on standard input.
+fn call() -> Result<()> {
+    let mut text = Vec::new();
+    std::io::stdin().lock().read_to_end(&mut text)?;
+    let answer = call::reply(&text).ok_or_else(|| Error::other("not a call"))?;
+    std::io::stdout().write_all(&answer)
+}
+
+/// Both runs of the text on standard input, in short.
+fn parts() -> Result<()> {
+    let mut text = Vec::new();
+    std::io::stdin().lock().read_to_end(&mut text)?;
+    let said = compare::parts(&text).ok_or_else(|| Error::other("refused before a run"))?;
+    std::io::stdout().write_all(said.as_bytes())
+}
+
+fn compare(seed: u64, count: u64, options: &[&str]) -> Result<()> {
+    let option = |name: &str| {
+        let place = options.iter().position(|&o| o == name)?;
+        options.get(place + 1).copied()
+    };
+    let kind = option("--kind").map(generators::kind).transpose()?;
+    let mut all = compare::Comparison::default();
+    for case in 0..count {
+        let kind = generators::of_case(kind, case);
+        let one = std::panic::AssertUnwindSafe(|| all.case(seed, case, kind));
+        if std::panic::catch_unwind(one).is_err() {
+            return Err(Error::other(format!(
+                "seed {seed}, case {case}, kind {}",
+                kind.0
+            )));
+        }
+    }
+    let good = all.print();
+    if let Some(folder) = option("--save") {
+        all.save(Path::new(folder))?;
+    }
+    if good {
+        Ok(())
+    } else {
+        Err(Error::other("the two part otherwise than by a patch"))
+    }
+}
+
+fn number(word: &str) -> Result<u64> {
+    word.parse()
+        .map_err(|_| Error::other(format!("not a number: {word}")))
+}
+
+fn command(words: &[&str]) -> Result<()> {
+    match *words {
+        ["run"] => run(),
+        ["call"] => call(),
+        ["parts"] => parts(),
+        ["cases", seed, count, folder] => {
+            files::cases(number(seed)?, number(count)?, Path::new(folder), None)
+        }
+        ["cases", seed, count, folder, kind] => {
+            files::cases(number(seed)?, number(count)?, Path::new(folder), Some(kind))
+        }
+        ["calls", seed, count, folder] => {
+            call::calls(number(seed)?, number(count)?, Path::new(folder))
+        }
+        ["meshes", seed, triangles] => {
+            large::meshes(number(seed)?, number(triangles)? as usize, None)
+        }
+        ["meshes", seed, triangles, folder] => large::meshes(
+            number(seed)?,
+            number(triangles)? as usize,
+            Some(Path::new(folder)),
+        ),
+        ["compare", seed, count, ref options @ ..] => {
+            compare(number(seed)?, number(count)?, options)
+        }
+        ["check", ref folders @ ..] if !folders.is_empty() => folders
+            .iter()
+            .try_for_each(|folder| files::check(Path::new(folder))),
+        _ => Err(Error::other(USAGE)),
+    }
+}
+
+fn main() {
+    let args: Vec<String> = std::env::args().skip(1).collect();
+    let words: Vec<&str> = args.iter().map(String::as_str).collect();
+    if let Err(error) = command(&words) {
+        eprintln!("{error}");
+        std::process::exit(1);
+    }
+}
