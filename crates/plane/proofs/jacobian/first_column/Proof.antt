@@ -1,0 +1,22 @@
+use mathlib.Core.Path.{ap₂}
+use Rattle.definition.specs.Plane.{flat}
+use Rattle.definition.specs.Metrics.{corner}
+use Rattle.plane.specs.Points.{node}
+use Rattle.plane.specs.Vectors.{vec}
+use Rattle.plane.specs.Columns.{column}
+use borrow.Author.Needs.{needs}
+use Rattle.plane.proofs.jacobian.first_column.Statement.{statement}
+use Rattle.plane.proofs.jacobian.first_column.Tie as tie
+
+first-sum-requires : tie.Need-first-sum-requires
+first-sum-requires c κs = search needs
+
+first-sum-requires-2 : tie.Need-first-sum-requires-2
+first-sum-requires-2 c κs = search needs
+
+returns : tie.Need-returns
+unfolding vec column corner node flat
+returns c = λ z. ap₂ corner (c .before .first-sum .ensures z) (c .first-sum2 .ensures z)
+
+pub first-column-spec : {M : Type 1} → statement M
+first-column-spec = tie.close (tie.spec first-sum-requires first-sum-requires-2 returns)

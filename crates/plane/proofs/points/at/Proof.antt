@@ -1,0 +1,54 @@
+use mathlib.Core.Path.{ap₂}
+use native.Mathlib.Omega.{arith}
+use Prim.Native.Nat.{_+_, _*_}
+use Rattle.definition.specs.Floats.{0·0}
+use Rattle.definition.specs.Plane.{flat}
+use Rattle.definition.specs.Call.{point-at}
+use lib.Ieee.{nan}
+use Rattle.plane.specs.Points.{node, ground}
+use Rattle.plane.proofs.Laws.{getD-any}
+use borrow.Author.Needs.{needs}
+use Rattle.plane.proofs.points.at.Statement.{statement}
+use Rattle.plane.proofs.points.at.Tie as tie
+
+mul-t3 : tie.Need-mul-t3
+mul-t3 c = search needs
+
+mul-t4 : tie.Need-mul-t4
+mul-t4 c = search needs
+
+shared-slice-read-t6 : tie.Need-shared-slice-read-t6
+shared-slice-read-t6 c = search needs
+
+mul-t7 : tie.Need-mul-t7
+mul-t7 c = search needs
+
+add-t8 : tie.Need-add-t8
+add-t8 c = search needs
+
+mul-t9 : tie.Need-mul-t9
+mul-t9 c = search needs
+
+shared-slice-read-t11 : tie.Need-shared-slice-read-t11
+shared-slice-read-t11 c = search needs
+
+returns : tie.Need-returns
+unfolding node ground point-at flat
+returns c =
+    let start = c .before .before in
+    let q = start .args .q .now in
+    let a = start .args .a in
+    ap₂ flat (getD-any q (3 * a) nan 0·0 (omega arith)) (getD-any q (3 * a + 1) nan 0·0 (omega arith))
+
+pub at-spec : {M : Type 1} → statement M
+at-spec =
+    tie.close
+    (tie.spec
+    mul-t3
+    mul-t4
+    shared-slice-read-t6
+    mul-t7
+    add-t8
+    mul-t9
+    shared-slice-read-t11
+    returns)

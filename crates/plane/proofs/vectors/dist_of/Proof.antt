@@ -1,0 +1,21 @@
+use mathlib.Core.Path.{ap, _∙_}
+use Rattle.definition.specs.Plane.{norm, dist}
+use Rattle.plane.proofs.Mirror.{norm-mirror}
+use borrow.Author.Needs.{needs}
+use Rattle.plane.proofs.vectors.dist_of.Statement.{statement}
+use Rattle.plane.proofs.vectors.dist_of.Tie as tie
+
+between-requires : tie.Need-between-requires
+between-requires c κs = search needs
+
+norm-requires : tie.Need-norm-requires
+norm-requires c κs = search needs
+
+returns : tie.Need-returns
+unfolding dist
+returns c =
+    let h = c .norm .ensures ∙ ap norm (c .before .between .ensures) in
+    (h, h ∙ norm-mirror _ _)
+
+pub dist-of-spec : {M : Type 1} → statement M
+dist-of-spec = tie.close (tie.spec between-requires norm-requires returns)

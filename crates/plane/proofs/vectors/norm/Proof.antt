@@ -1,0 +1,16 @@
+use Rattle.definition.specs.Floats.{_⊕_, _⊗_}
+use Rattle.definition.specs.Plane.{norm}
+use Rattle.plane.specs.Vectors.{vec}
+use borrow.Author.Needs.{needs}
+use Rattle.plane.proofs.vectors.norm.Statement.{statement}
+use Rattle.plane.proofs.vectors.norm.Tie as tie
+
+sqrt-requires : tie.Need-sqrt-requires
+sqrt-requires c κs = search needs
+
+returns : tie.Need-returns
+unfolding norm vec _⊕_ _⊗_
+returns c = c .sqrt .ensures .0
+
+pub norm-spec : {M : Type 1} → statement M
+norm-spec = tie.close (tie.spec sqrt-requires returns)

@@ -1,0 +1,5 @@
+pub mod Points
+pub mod Limits
+pub mod Vectors
+pub mod Columns
+pub mod Measures

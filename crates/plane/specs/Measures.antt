@@ -1,0 +1,21 @@
+-- The metrics enum by its cases, and the products of side lengths at a quad's corners.
+use mathlib.Core.Path.{_≡_}
+use lib.Ieee.{Float}
+use Rattle.definition.specs.Plane.{Node}
+use Rattle.definition.specs.Metrics as metrics
+use Rattle.definition.specs.Metrics.{absent, measured, corner-of, angle-of}
+use Rattle.plane.specs.declared.metrics.Metrics.{Metrics}
+use Rattle.plane.specs.declared.metrics.Metrics.the-variants.{Absent, Measured}
+use Rattle.plane.specs.declared.metrics.Sides.{Sides}
+
+-- document 01's metrics: absent, or the scaled Jacobian and the largest cosine
+unfoldable pub metrics-of-enum : Metrics → metrics.Metrics
+metrics-of-enum Absent = absent
+metrics-of-enum (Measured sj k) = measured sj k
+
+-- at each corner of the quad a b c d the product of the lengths of its two sides
+pub record SidesOf (s : Sides) (a b c d : Node) : Type 0 where
+  pub at-a : s .«at_a» ≡ angle-of (corner-of d a b) .sides
+  pub at-b : s .«at_b» ≡ angle-of (corner-of a b c) .sides
+  pub at-c : s .«at_c» ≡ angle-of (corner-of b c d) .sides
+  pub at-d : s .«at_d» ≡ angle-of (corner-of c d a) .sides
