@@ -1,0 +1,71 @@
+-- Slices cleared from the front.
+use mathlib.Core.Path.{_≡_, refl, ap, sym, _∙_, subst}
+use mathlib.Core.Logic.{_≢_}
+use mathlib.Core.List.{List, [], _∷_, _++_, map}
+use Prim.Native.Nat.{ℕ, zero, suc, _+_, _-_, _*_, _≤_, _<_}
+use native.Mathlib.Numerals.{add-one}
+use native.Mathlib.Omega.{arith}
+use lib.ListN.{length, getD, set, take, length-set, length-map}
+use lib.Seq.{take-suc-set}
+use Rattle.rings.proofs.Lists.{Same, same, differ, decide}
+use Rattle.rings.proofs.Rings.{on, off}
+use Rattle.definition.specs.Call.{all-of}
+use Rattle.cells.specs.Frames.{Keeps}
+use Rattle.cells.proofs.Frames.{keeps-refl, keeps-trans, keeps-set}
+
+-- the first i words are 0, and those from n on are the same
+pub record Cleared (w₀ w : List ℕ) (n i : ℕ) : Type 0 where
+  pub within : i ≤ n
+  pub zero : (k : ℕ) → k < i → getD w k 0 ≡ 0
+  pub keeps : Keeps w₀ w n
+
+pub cleared-more : (w₀ w : List ℕ) (n i : ℕ) → n ≤ length w₀ → i < n → Cleared w₀ w n i → Cleared w₀ (set w i 0) n (i + 1)
+cleared-more w₀ w n i f h c =
+    record {
+      within = omega arith;
+      zero = λ k l. go k l (decide k i);
+      keeps = keeps-trans w₀ w (set w i 0) n (c .keeps) (keeps-set w n i 0 h);
+    }
+  where
+    go : (k : ℕ) → k < i + 1 → Same k i → getD (set w i 0) k 0 ≡ 0
+    go k l (same e) = rw e (on w i 0 (omega (arith, c .keeps .len)))
+    go k l (differ e) = off w i 0 k e ∙ c .zero k (omega arith)
+
+-- ---- whole slices, of words or floats
+
+module _ {A : Type 0} (z : A) where
+  pub record Part (w₀ w : List A) (i : ℕ) : Type 0 where
+    pub len : length w ≡ length w₀
+    pub within : i ≤ length w₀
+    pub are : take i w ≡ take i (all-of z w₀)
+
+  pub part-start : (w : List A) → Part w w 0
+  part-start w = record { len = refl; within = omega arith; are = refl }
+
+  take-more : (w : List A) (i : ℕ) → i < length w → take (suc i) (all-of z w) ≡ take i (all-of z w) ++ (z ∷ [])
+  unfolding all-of
+  take-more [] i h = absurd (omega (arith, h))
+  take-more (x ∷ w) zero h = refl
+  take-more (x ∷ w) (suc i) h = ap (λ (l : List A). z ∷ l) (take-more w i (omega arith))
+
+  pub part-more : (w₀ w : List A) (i : ℕ) → i < length w → Part w₀ w i → Part w₀ (set w i z) (i + 1)
+  part-more w₀ w i h p =
+      let e : i + 1 ≡ suc i = add-one i in
+      let g : i < length w₀ = omega (arith, p .len) in
+      record {
+        len = simp length-set (p .len);
+        within = omega arith;
+        are = rw (e, take-suc-set w i z h, take-more w₀ i g, p .are);
+      }
+
+  take-all : (w : List A) (i : ℕ) → length w ≤ i → take i w ≡ w
+  take-all [] zero h = refl
+  take-all [] (suc i) h = refl
+  take-all (x ∷ w) zero h = absurd (omega (arith, h))
+  take-all (x ∷ w) (suc i) h = ap (λ (l : List A). x ∷ l) (take-all w i (omega arith))
+
+  pub part-done : (w₀ w : List A) (i : ℕ) → length w ≤ i → Part w₀ w i → w ≡ all-of z w₀
+  unfolding all-of
+  part-done w₀ w i h p =
+      let g : length (map (λ _. z) w₀) ≤ i = omega (arith, length-map w₀ (λ _. z), p .len) in
+      sym (take-all w i h) ∙ p .are ∙ take-all (map (λ _. z) w₀) i g

@@ -1,0 +1,152 @@
+-- Owners counted, and the first triangle among them.
+use mathlib.Core.Path.{_≡_, refl, ap, sym, _∙_, subst}
+use mathlib.Core.Logic.{_≢_}
+use mathlib.Core.Bool.{Bool, true, false, cond, _&&_, _||_}
+use mathlib.Core.List.{List, [], _∷_, _++_}
+use mathlib.Core.Option.{Option, none, some}
+use Prim.Native.Nat.{ℕ, zero, suc, _+_, _-_, _*_, _/_, _%_, _≤_, _<_}
+use native.Mathlib.Omega.{arith}
+use lib.Dec.{eqb, ltb, leb}
+use lib.ListN.{length, getD}
+use borrow.Author.Tests.{eq-eqb, ne-eqb, lt-ltb, le-ltb, le-leb, lt-leb, ltb-true, ltb-false}
+use Rattle.definition.specs.Lists.{filter, any, first}
+use Rattle.definition.specs.Cells.{Cell, tri, quad, Live, Mesh, nodes, tri-nodes, quad-nodes, key, is-tri, live-tri, owns, owners, tri-owners, tri-owner, front-owners, is-front, has-edge}
+use Rattle.cells.specs.Rep.{CellAt, Held, Rep}
+use Rattle.cells.specs.Walk.{At, Next, one-if, slot-or}
+use Rattle.cells.proofs.Owners.{Here, at-here, at-end}
+
+-- the kind tells triangles
+pub kind-tri : (w : List ℕ) (s i : ℕ) (t : Cell) → CellAt w s i t → eqb (getD w i 0) 3 ≡ is-tri t
+unfolding nodes tri-nodes quad-nodes is-tri
+kind-tri w s i (tri t) h = rw (h .kind)
+kind-tri w s i (quad q) h = rw (h .kind)
+
+pub held-tri : (w : List ℕ) (s k n : ℕ) (x : Live) → Held w s k n x → eqb (getD w (x .slot) 0) 3 ≡ live-tri x
+unfolding live-tri
+held-tri w s k n x h = kind-tri w s (x .slot) (x .cell) (h .at)
+
+pub filter-hit : {A : Type 0} (f : A → Bool) (x : A) (l : List A) → f x ≡ true → filter f (x ∷ l) ≡ x ∷ filter f l
+unfolding filter
+filter-hit f x l h = rw h
+
+pub filter-miss : {A : Type 0} (f : A → Bool) (x : A) (l : List A) → f x ≡ false → filter f (x ∷ l) ≡ filter f l
+unfolding filter
+filter-miss f x l h = rw h
+
+pub tri-more : (x : Live) (l : List Live) → length (filter live-tri (x ∷ l)) ≡ one-if (live-tri x) + length (filter live-tri l)
+tri-more x l = go (live-tri x) refl
+  where
+    go : (b : Bool) → live-tri x ≡ b → length (filter live-tri (x ∷ l)) ≡ one-if b + length (filter live-tri l)
+    go true e = rw (filter-hit live-tri x l e) (omega arith)
+    go false e = rw (filter-miss live-tri x l e) (omega arith)
+
+-- some owner is an owner
+any-filter : (f : Live → Bool) (l k : List Live) (x : Live) → filter f l ≡ x ∷ k → any f l ≡ true
+unfolding any filter
+any-filter f [] k x h = let z : _≡_ {A = ℕ} 0 (suc (length k)) = ap length h in absurd (omega arith)
+any-filter f (y ∷ l) k x h = go (f y) refl (any-filter f l k x)
+  where
+    go : (b : Bool) → f y ≡ b → (filter f l ≡ x ∷ k → any f l ≡ true) → (f y || any f l) ≡ true
+    go true e r = rw e
+    go false e r = rw e (r (sym (filter-miss f y l e) ∙ h))
+
+any-none : (f : Live → Bool) (l : List Live) → filter f l ≡ [] → any f l ≡ false
+unfolding any filter
+any-none f [] h = refl
+any-none f (y ∷ l) h = go (f y) refl (any-none f l)
+  where
+    go : (b : Bool) → f y ≡ b → (filter f l ≡ [] → any f l ≡ false) → (f y || any f l) ≡ false
+    go true e r = let z : _≡_ {A = ℕ} (suc (length (filter f l))) 0 = ap length (sym (filter-hit f y l e) ∙ h) in absurd (omega arith)
+    go false e r = rw e (r (sym (filter-miss f y l e) ∙ h))
+
+-- `all` owners and `t` triangles among them were passed; the corner c is the next owner's
+pub record Counted (w : List ℕ) (s p u v all t c : ℕ) (m : Mesh) : Type 0 where
+  pub xs : List Live
+  pub at : At w s p u v c xs
+  pub sum : all + length xs ≡ length (owners m (key u v))
+  pub tris : t + length (filter live-tri xs) ≡ length (filter live-tri (owners m (key u v)))
+
+-- the owners from c on have the same triangles as all
+pub record NoTri (w : List ℕ) (s p u v c : ℕ) (m : Mesh) : Type 0 where
+  pub xs : List Live
+  pub at : At w s p u v c xs
+  pub tris : tri-owners m (key u v) ≡ filter live-tri xs
+
+module _ (w : List ℕ) (s p u v c : ℕ) (m : Mesh) where
+  pub counted-start : At w s p u v c (owners m (key u v)) → Counted w s p u v 0 0 c m
+  counted-start h = record { xs = owners m (key u v); at = h; sum = omega arith; tris = omega arith }
+
+  pub counted-more : (all t r x : ℕ) → c < 4 * s → x ≡ one-if (eqb (getD w (c / 4) 0) 3) → Counted w s p u v all t c m → Next w s p u v c r
+      → Counted w s p u v (all + 1) (t + x) r m
+  counted-more all t r x h e k f =
+      let g = at-here w s p u v c (k .xs) (k .at) h in
+      let n : length (k .xs) ≡ suc (length (g .more)) = ap length (g .is) in
+      let z : eqb (getD w (c / 4) 0) 3 ≡ live-tri (g .x) = ap (λ (i : ℕ). eqb (getD w i 0) 3) (g .slot) ∙ held-tri w s s p (g .x) (g .held) in
+      let q : length (filter live-tri (k .xs)) ≡ x + length (filter live-tri (g .more)) =
+      ap (λ (l : List Live). length (filter live-tri l)) (g .is) ∙ tri-more (g .x) (g .more) ∙ ap (λ (y : ℕ). y + length (filter live-tri (g .more))) (ap one-if (sym z) ∙ sym e) in
+      record {
+        xs = g .more;
+        at = f .at (g .x) (g .more) (subst (λ (l : List Live). At w s p u v c l) (g .is) (k .at));
+        sum = omega (arith, k .sum);
+        tris = omega (arith, k .tris);
+      }
+
+  pub front-many : (t all : ℕ) → all ≡ 2 → c < 4 * s → Counted w s p u v all t c m → false ≡ is-front m (key u v)
+  unfolding is-front front-owners
+  front-many t all a h k =
+      let g = at-here w s p u v c (k .xs) (k .at) h in
+      let n : length (k .xs) ≡ suc (length (g .more)) = ap length (g .is) in
+      rw (lt-leb (length (owners m (key u v))) 2 (omega (arith, k .sum)))
+
+  pub front-end : (all t : ℕ) → all ≤ 2 → 4 * s ≤ c → Counted w s p u v all t c m → eqb t 1 ≡ is-front m (key u v)
+  unfolding is-front front-owners filter
+  front-end all t a h k =
+      let o : k .xs ≡ [] = at-end w s p u v c (k .xs) (k .at) h in
+      let n : length (k .xs) ≡ 0 = ap length o in
+      let q : length (filter live-tri (k .xs)) ≡ 0 = ap (λ (l : List Live). length (filter live-tri l)) o in
+      let z : length (filter live-tri (owners m (key u v))) ≡ t = omega (arith, k .tris) in
+      rw (le-leb (length (owners m (key u v))) 2 (omega (arith, k .sum)), z)
+
+  pub edge-test : At w s p u v c (owners m (key u v)) → ltb c (4 * s) ≡ has-edge m u v
+  unfolding has-edge owners
+  edge-test a = go (ltb c (4 * s)) refl
+    where
+      open-test : c < 4 * s → true ≡ has-edge m u v
+      open-test h =
+          let g = at-here w s p u v c (owners m (key u v)) a h in
+          sym (any-filter (owns (key u v)) (m .live) (g .more) (g .x) (g .is))
+
+      shut-test : 4 * s ≤ c → false ≡ has-edge m u v
+      shut-test h = sym (any-none (owns (key u v)) (m .live) (at-end w s p u v c (owners m (key u v)) a h))
+
+      go : (b : Bool) → ltb c (4 * s) ≡ b → b ≡ has-edge m u v
+      go true e = open-test (ltb-true c (4 * s) e)
+      go false e = shut-test (ltb-false c (4 * s) e)
+
+  pub no-tri-start : At w s p u v c (owners m (key u v)) → NoTri w s p u v c m
+  unfolding tri-owners
+  no-tri-start h = record { xs = owners m (key u v); at = h; tris = refl }
+
+  pub no-tri-hit : c < 4 * s → getD w (c / 4) 0 ≡ 3 → NoTri w s p u v c m → c / 4 ≡ slot-or s (tri-owner m (key u v))
+  unfolding tri-owner first
+  no-tri-hit h z k =
+      let g = at-here w s p u v c (k .xs) (k .at) h in
+      let q : live-tri (g .x) ≡ true = sym (held-tri w s s p (g .x) (g .held)) ∙ eq-eqb (getD w (g .x .slot) 0) 3 (rw (← g .slot) z) in
+      let e : tri-owners m (key u v) ≡ g .x ∷ filter live-tri (g .more) = k .tris ∙ ap (filter live-tri) (g .is) ∙ filter-hit live-tri (g .x) (g .more) q in
+      rw e (g .slot)
+
+  pub no-tri-more : (r : ℕ) → c < 4 * s → (getD w (c / 4) 0 ≡ 3 → ⊥) → NoTri w s p u v c m → Next w s p u v c r → NoTri w s p u v r m
+  no-tri-more r h z k f =
+      let g = at-here w s p u v c (k .xs) (k .at) h in
+      let q : live-tri (g .x) ≡ false = sym (held-tri w s s p (g .x) (g .held)) ∙ ne-eqb (getD w (g .x .slot) 0) 3 (rw (← g .slot) z) in
+      record {
+        xs = g .more;
+        at = f .at (g .x) (g .more) (subst (λ (l : List Live). At w s p u v c l) (g .is) (k .at));
+        tris = k .tris ∙ ap (filter live-tri) (g .is) ∙ filter-miss live-tri (g .x) (g .more) q;
+      }
+
+  pub no-tri-end : 4 * s ≤ c → NoTri w s p u v c m → s ≡ slot-or s (tri-owner m (key u v))
+  unfolding tri-owner first filter
+  no-tri-end h k =
+      let e : tri-owners m (key u v) ≡ [] = k .tris ∙ ap (filter live-tri) (at-end w s p u v c (k .xs) (k .at) h) in
+      rw e

@@ -1,0 +1,11 @@
+pub mod Edges
+pub mod Corners
+pub mod Members
+pub mod Views
+pub mod Walks
+pub mod Owners
+pub mod Fronts
+pub mod Frames
+pub mod Clears
+pub mod Slots
+pub mod Points

@@ -1,0 +1,5 @@
+pub mod Layout
+pub mod Rep
+pub mod Walk
+pub mod Frames
+pub mod Counting

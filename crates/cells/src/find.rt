@@ -1,0 +1,181 @@
+// Owners of an edge, found by walking the ring of corners of one of its nodes.
+use crate::layout::BEFORE;
+use crate::layout::CORNERS;
+use rings::next;
+use rings::wide;
+ghost use mathlib.Core.Path.{_≡_};
+ghost use mathlib.Core.List.{List, [], _∷_};
+ghost use Prim.Native.Nat.{_+_, _*_, _/_, _<_, _≤_};
+ghost use lib.Dec.{eqb};
+ghost use lib.ListN.{length, getD};
+ghost use Rattle.definition.specs.Cells.{Live, Mesh, key, owners, is-front, has-edge, tri-owner};
+ghost use Rattle.cells.specs.Rep.{Rep};
+ghost use Rattle.cells.specs.Walk.{node-in, node-after, node-before, after, before, beside, CanSee, CanRead, IsEdge, Pos, Sought, At, Next, one-if, slot-or};
+
+// The kind of the cell in slot i: 3 a triangle, 4 a quad, 0 none.
+pub fn kind(w: &[u32], s: usize, i: usize) -> usize
+    requires { ⌜ CanSee (now w) s i ⌝ }
+    ensures { λ r. ⌜ r ≡ getD (now (w .entry)) i 0 ⌝ }
+{
+    wide(w[i])
+}
+
+// The node in place k of slot i.
+pub fn node(w: &[u32], s: usize, i: usize, k: usize) -> usize
+    requires { ⌜ CanSee (now w) s i ⌝ }
+    requires { ⌜ k < 4 ⌝ }
+    ensures { λ r. ⌜ r ≡ node-in (now (w .entry)) s i k ⌝ }
+{
+    wide(w[s + CORNERS * i + k])
+}
+
+// The place after place k of a cell of n nodes.
+fn place_after(k: usize, n: usize) -> usize
+    requires { ⌜ k < 4 ⌝ }
+    ensures { λ r. ⌜ (r ≡ after k n) × (r ≤ 4) ⌝ }
+{
+    if k + 1 == n {
+        return 0;
+    }
+    k + 1
+}
+
+// The place before it.
+fn place_before(k: usize, n: usize) -> usize
+    requires { ⌜ (k < 4) × (3 ≤ n) × (n ≤ 4) ⌝ }
+    ensures { λ r. ⌜ (r ≡ before k n) × (r < 4) ⌝ }
+{
+    if k == 0 {
+        return n - 1;
+    }
+    k - 1
+}
+
+// The node after corner c in its cell.
+pub fn node_after(w: &[u32], s: usize, c: usize) -> usize
+    requires { ⌜ CanRead (now w) s c ⌝ }
+    ensures { λ r. ⌜ r ≡ node-after (now (w .entry)) s c ⌝ }
+{
+    let i = c / CORNERS;
+    let k = place_after(c % CORNERS, wide(w[i]));
+    wide(w[s + CORNERS * i + k])
+}
+
+// The node before it.
+pub fn node_before(w: &[u32], s: usize, c: usize) -> usize
+    requires { ⌜ CanRead (now w) s c ⌝ }
+    ensures { λ r. ⌜ r ≡ node-before (now (w .entry)) s c ⌝ }
+{
+    let i = c / CORNERS;
+    let k = place_before(c % CORNERS, wide(w[i]));
+    wide(w[s + CORNERS * i + k])
+}
+
+// The cell of corner c has v beside that corner.
+fn is_beside(w: &[u32], s: usize, c: usize, v: usize) -> bool
+    requires { ⌜ CanRead (now w) s c ⌝ }
+    ensures { λ r. ⌜ r ≡ beside (now (w .entry)) s c v ⌝ }
+{
+    if node_after(w, s, c) == v {
+        return true;
+    }
+    node_before(w, s, c) == v
+}
+
+// From the place `from` in the ring of u on, the next corner whose cell has the edge u-v; 4 s or more: there is none.
+pub fn seek(w: &[u32], s: usize, p: usize, u: usize, v: usize, from: usize) -> usize
+    requires { ⌜ ((rest : List Live) × Pos (now w) s p u from rest) ⌝ }
+    requires { ⌜ IsEdge p u v ⌝ }
+    ensures { λ r. ⌜ ((rest : List Live) → Pos (now (w .entry)) s p u from rest → Sought (now (w .entry)) s p u v r rest) ⌝ }
+{
+    let mut c = from;
+    while c < CORNERS * s {
+        if is_beside(w, s, c, v) {
+            return c;
+        }
+        c = next(w, BEFORE * s, CORNERS * s + p, c);
+    }
+    c
+}
+
+// The corner at u of the first owner of the edge u-v; 4 s or more: there is none. The owner's slot is the corner divided by 4.
+pub fn first_owner(w: &[u32], s: usize, p: usize, u: usize, v: usize) -> usize
+    requires { ⌜ ((m : Mesh) × Rep (now w) s p m) ⌝ }
+    requires { ⌜ IsEdge p u v ⌝ }
+    ensures { λ r. ⌜ ((m : Mesh) → Rep (now (w .entry)) s p m → At (now (w .entry)) s p u v r (owners m (key u v))) ⌝ }
+{
+    seek(
+        w,
+        s,
+        p,
+        u,
+        v,
+        next(w, BEFORE * s, CORNERS * s + p, CORNERS * s + u),
+    )
+}
+
+// That of the next owner after the one of corner c.
+pub fn next_owner(w: &[u32], s: usize, p: usize, u: usize, v: usize, c: usize) -> usize
+    requires { ⌜ ((xs : List Live) × At (now w) s p u v c xs) ⌝ }
+    requires { ⌜ IsEdge p u v ⌝ }
+    requires { ⌜ c < 4 * s ⌝ }
+    ensures { λ r. ⌜ Next (now (w .entry)) s p u v c r ⌝ }
+{
+    seek(w, s, p, u, v, next(w, BEFORE * s, CORNERS * s + p, c))
+}
+
+// The edge u-v has an owner.
+pub fn has_edge(w: &[u32], s: usize, p: usize, u: usize, v: usize) -> bool
+    requires { ⌜ ((m : Mesh) × Rep (now w) s p m) ⌝ }
+    requires { ⌜ IsEdge p u v ⌝ }
+    ensures { λ r. ⌜ ((m : Mesh) → Rep (now (w .entry)) s p m → r ≡ has-edge m u v) ⌝ }
+{
+    first_owner(w, s, p, u, v) < CORNERS * s
+}
+
+// One where slot i holds a triangle, else nothing.
+fn tri_count(w: &[u32], s: usize, i: usize) -> usize
+    requires { ⌜ CanSee (now w) s i ⌝ }
+    ensures { λ r. ⌜ (r ≡ one-if (eqb (getD (now (w .entry)) i 0) 3)) × (r ≤ 1) ⌝ }
+{
+    if w[i] == 3 {
+        return 1;
+    }
+    0
+}
+
+// The edge u-v has one or two owners, exactly one of them a triangle.
+pub fn is_front(w: &[u32], s: usize, p: usize, u: usize, v: usize) -> bool
+    requires { ⌜ ((m : Mesh) × Rep (now w) s p m) ⌝ }
+    requires { ⌜ IsEdge p u v ⌝ }
+    ensures { λ r. ⌜ ((m : Mesh) → Rep (now (w .entry)) s p m → r ≡ is-front m (key u v)) ⌝ }
+{
+    let mut all: usize = 0;
+    let mut tri: usize = 0;
+    let mut c = first_owner(w, s, p, u, v);
+    while c < CORNERS * s {
+        if all == 2 {
+            return false;
+        }
+        all += 1;
+        tri += tri_count(w, s, c / CORNERS);
+        c = next_owner(w, s, p, u, v, c);
+    }
+    tri == 1
+}
+
+// The slot of the first triangle that has the edge u-v; s: there is none.
+pub fn tri_owner(w: &[u32], s: usize, p: usize, u: usize, v: usize) -> usize
+    requires { ⌜ ((m : Mesh) × Rep (now w) s p m) ⌝ }
+    requires { ⌜ IsEdge p u v ⌝ }
+    ensures { λ r. ⌜ ((m : Mesh) → Rep (now (w .entry)) s p m → r ≡ slot-or s (tri-owner m (key u v))) ⌝ }
+{
+    let mut c = first_owner(w, s, p, u, v);
+    while c < CORNERS * s {
+        if w[c / CORNERS] == 3 {
+            return c / CORNERS;
+        }
+        c = next_owner(w, s, p, u, v, c);
+    }
+    s
+}

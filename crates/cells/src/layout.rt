@@ -1,0 +1,177 @@
+// Where each area of the work slice stands, for s slots and p points of capacity; the mesh's own areas come first.
+ghost use mathlib.Core.Path.{_≡_};
+ghost use Rattle.cells.specs.Layout.{Sizes, marks-at, others-at, list-at, refused-at, birth-at, after-at, first-at, touched-at, front-u-at, front-v-at, front-links-at, front-used-at, order-at, starts-at, done-at, tried-at, heads-at, near-at, far-at, buckets-at, stack-at};
+
+// Corners of a slot: corner k of slot i has the code CORNERS * i + k, and its node stands behind the kinds at that place.
+pub const CORNERS: usize = 4;
+
+// Words a slot before the rings of corners: the kind and the nodes.
+pub const BEFORE: usize = 5;
+
+// A mark for each slot.
+pub fn marks_at(s: usize, p: usize) -> usize
+    requires { ⌜ Sizes s p ⌝ }
+    ensures { λ r. ⌜ r ≡ marks-at s p ⌝ }
+{
+    13 * s + 2 * p
+}
+
+// Another.
+pub fn others_at(s: usize, p: usize) -> usize
+    requires { ⌜ Sizes s p ⌝ }
+    ensures { λ r. ⌜ r ≡ others-at s p ⌝ }
+{
+    14 * s + 2 * p
+}
+
+// The region in hand: a list of slots.
+pub fn list_at(s: usize, p: usize) -> usize
+    requires { ⌜ Sizes s p ⌝ }
+    ensures { λ r. ⌜ r ≡ list-at s p ⌝ }
+{
+    15 * s + 2 * p
+}
+
+// Other node.
+pub fn refused_at(s: usize, p: usize) -> usize
+    requires { ⌜ Sizes s p ⌝ }
+    ensures { λ r. ⌜ r ≡ refused-at s p ⌝ }
+{
+    16 * s + 2 * p
+}
+
+// How many quads there were when the edge was refused.
+pub fn birth_at(s: usize, p: usize) -> usize
+    requires { ⌜ Sizes s p ⌝ }
+    ensures { λ r. ⌜ r ≡ birth-at s p ⌝ }
+{
+    19 * s + 2 * p
+}
+
+// Next record.
+pub fn after_at(s: usize, p: usize) -> usize
+    requires { ⌜ Sizes s p ⌝ }
+    ensures { λ r. ⌜ r ≡ after-at s p ⌝ }
+{
+    22 * s + 2 * p
+}
+
+// The first record of each point.
+pub fn first_at(s: usize, p: usize) -> usize
+    requires { ⌜ Sizes s p ⌝ }
+    ensures { λ r. ⌜ r ≡ first-at s p ⌝ }
+{
+    25 * s + 2 * p
+}
+
+// How many quads there were when one last touched the point.
+pub fn touched_at(s: usize, p: usize) -> usize
+    requires { ⌜ Sizes s p ⌝ }
+    ensures { λ r. ⌜ r ≡ touched-at s p ⌝ }
+{
+    25 * s + 3 * p
+}
+
+// First node.
+pub fn front_u_at(s: usize, p: usize) -> usize
+    requires { ⌜ Sizes s p ⌝ }
+    ensures { λ r. ⌜ r ≡ front-u-at s p ⌝ }
+{
+    25 * s + 4 * p
+}
+
+// Second node.
+pub fn front_v_at(s: usize, p: usize) -> usize
+    requires { ⌜ Sizes s p ⌝ }
+    ensures { λ r. ⌜ r ≡ front-v-at s p ⌝ }
+{
+    28 * s + 4 * p
+}
+
+// Lists of the front edges at each node: two links an edge.
+pub fn front_links_at(s: usize, p: usize) -> usize
+    requires { ⌜ Sizes s p ⌝ }
+    ensures { λ r. ⌜ r ≡ front-links-at s p ⌝ }
+{
+    31 * s + 4 * p
+}
+
+// The edge is in a loop already.
+pub fn front_used_at(s: usize, p: usize) -> usize
+    requires { ⌜ Sizes s p ⌝ }
+    ensures { λ r. ⌜ r ≡ front-used-at s p ⌝ }
+{
+    37 * s + 4 * p
+}
+
+// The edges loop after loop.
+pub fn order_at(s: usize, p: usize) -> usize
+    requires { ⌜ Sizes s p ⌝ }
+    ensures { λ r. ⌜ r ≡ order-at s p ⌝ }
+{
+    40 * s + 4 * p
+}
+
+// Where each loop starts.
+pub fn starts_at(s: usize, p: usize) -> usize
+    requires { ⌜ Sizes s p ⌝ }
+    ensures { λ r. ⌜ r ≡ starts-at s p ⌝ }
+{
+    43 * s + 4 * p
+}
+
+// The loop's turn is over.
+pub fn done_at(s: usize, p: usize) -> usize
+    requires { ⌜ Sizes s p ⌝ }
+    ensures { λ r. ⌜ r ≡ done-at s p ⌝ }
+{
+    46 * s + 4 * p
+}
+
+// The edge was tried.
+pub fn tried_at(s: usize, p: usize) -> usize
+    requires { ⌜ Sizes s p ⌝ }
+    ensures { λ r. ⌜ r ≡ tried-at s p ⌝ }
+{
+    49 * s + 4 * p
+}
+
+// The first front edge of each point, and at other times a mark for each point.
+pub fn heads_at(s: usize, p: usize) -> usize
+    requires { ⌜ Sizes s p ⌝ }
+    ensures { λ r. ⌜ r ≡ heads-at s p ⌝ }
+{
+    52 * s + 4 * p
+}
+
+// Candidates at the first end of an edge.
+pub fn near_at(s: usize, p: usize) -> usize
+    requires { ⌜ Sizes s p ⌝ }
+    ensures { λ r. ⌜ r ≡ near-at s p ⌝ }
+{
+    52 * s + 5 * p
+}
+
+// And at the second.
+pub fn far_at(s: usize, p: usize) -> usize
+    requires { ⌜ Sizes s p ⌝ }
+    ensures { λ r. ⌜ r ≡ far-at s p ⌝ }
+{
+    52 * s + 6 * p
+}
+
+// Bucket of each point, both axes in one word.
+pub fn buckets_at(s: usize, p: usize) -> usize
+    requires { ⌜ Sizes s p ⌝ }
+    ensures { λ r. ⌜ r ≡ buckets-at s p ⌝ }
+{
+    52 * s + 7 * p
+}
+
+// Its 2 s + 2 words.
+pub fn stack_at(s: usize, p: usize) -> usize
+    requires { ⌜ Sizes s p ⌝ }
+    ensures { λ r. ⌜ r ≡ stack-at s p ⌝ }
+{
+    52 * s + 8 * p
+}

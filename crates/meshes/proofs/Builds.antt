@@ -1,0 +1,132 @@
+-- The mesh of the given triangles: empty rings, then triangle after triangle.
+use mathlib.Core.Path.{_≡_, refl, ap, sym, _∙_, subst}
+use mathlib.Core.Logic.{_≢_}
+use mathlib.Core.List.{List, [], _∷_, _++_}
+use Prim.Native.Nat.{ℕ, zero, suc, _+_, _-_, _*_, _≤_, _<_}
+use native.Mathlib.Numerals.{add-one}
+use native.Mathlib.Omega.{arith}
+use lib.ListN.{length, getD, length-append}
+use lib.Ieee.{Float}
+use Rattle.rings.specs.Rings.{Out, Distinct, Family, OpenedFrom, CanOpen}
+use Rattle.rings.proofs.Families.{opened}
+use Rattle.definition.specs.Floats.{0·0}
+use Rattle.definition.specs.Lists.{table, numbers, below}
+use Rattle.definition.specs.Numbers.{Settings}
+use Rattle.definition.specs.Plane.{Node}
+use Rattle.definition.specs.Cells.{Tri, Cell, tri, Live, Mesh, new-live, new-tri, with-live, push-cell}
+use Rattle.definition.specs.Call.{tri-at, first-tris, first-points}
+use Rattle.definition.specs.Front.{in-slots, new-mesh}
+use Rattle.cells.specs.Layout.{rings-at, codes, mesh-end}
+use Rattle.cells.specs.Rep.{Shape, Cells, slots, corners, Room, Rep}
+use Rattle.meshes.specs.Changes.{CanPush, Turns, tri-of-nodes}
+use Rattle.meshes.specs.Build.{Given, IsNew, Builds, CanBuild, Empties}
+use Rattle.cells.specs.Frames.{Keeps, Zeros}
+use Rattle.cells.proofs.Points.{numbers-snoc, table-snoc}
+use Rattle.cells.proofs.Frames.{rep-as, keeps-trans, keeps-more, keeps-kept}
+
+-- ---- empty
+
+pub empty-done : (w w1 w2 : List ℕ) (s p : ℕ) → Room w s p → Zeros w w1 s → OpenedFrom w1 w2 (rings-at s) (codes s p) (4 * s) → Empties w w2 s p
+unfolding corners
+empty-done w w1 w2 s p r z o =
+    let l : length w1 ≡ length w = z .keeps .len in
+    let l2 : length w2 ≡ length w1 = o .kept .len in
+    record {
+      rep = λ m u q e.
+          record {
+            room = record { fits = omega (arith, r .fits); small = r .small };
+            used = u;
+            points = q;
+            distinct = rw e tt;
+            cells = rw e tt;
+            rings = rw e (opened w1 w2 (rings-at s) (codes s p) (4 * s) (record { fits = omega (arith, r .fits); small = r .small; first = omega arith }) o);
+            dead = λ i h out. o .kept .before i (omega arith) ∙ z .zero i h;
+          };
+      keeps = keeps-trans w w1 w2 (mesh-end s p) (keeps-more w w1 s (mesh-end s p) (omega arith) (z .keeps)) (keeps-kept w1 w2 (rings-at s) (codes s p) (mesh-end s p) (omega arith) (o .kept));
+    }
+
+-- ---- the lists
+
+numbers-length : (a n : ℕ) → length (numbers a n) ≡ n
+unfolding numbers
+numbers-length a zero = refl
+numbers-length a (suc n) = ap suc (numbers-length (suc a) n)
+
+table-length : {B : Type 0} (f : ℕ → B) (l : List ℕ) → length (table f l) ≡ length l
+unfolding table
+table-length f [] = refl
+table-length f (y ∷ l) = ap suc (table-length f l)
+
+pub tris-length : (n : ℕ) (xs : List ℕ) → length (first-tris n xs) ≡ n
+unfolding first-tris below
+tris-length n xs = table-length (tri-at xs) (numbers 0 n) ∙ numbers-length 0 n
+
+pub points-length : (n : ℕ) (q : List Float) → length (first-points n q) ≡ n
+unfolding first-points below
+points-length n q = table-length _ (numbers 0 n) ∙ numbers-length 0 n
+
+tris-snoc : (n : ℕ) (xs : List ℕ) → first-tris (suc n) xs ≡ first-tris n xs ++ tri-at xs n ∷ []
+unfolding first-tris below
+tris-snoc n xs =
+    let e : 0 + n ≡ n = omega arith in
+    ap (table (tri-at xs)) (numbers-snoc 0 n) ∙ table-snoc (tri-at xs) (numbers 0 n) (0 + n) ∙ (rw e)
+
+slots-snoc : (k : ℕ) (ts : List Tri) (t : Tri) → in-slots k (ts ++ t ∷ []) ≡ in-slots k ts ++ new-live (k + length ts) (tri t) ∷ []
+unfolding in-slots
+slots-snoc k [] t = let e : k + 0 ≡ k = omega arith in rw e
+slots-snoc k (x ∷ ts) t =
+    let e : suc k + length ts ≡ k + suc (length ts) = omega arith in
+    ap (λ (l : List Live). new-live k (tri x) ∷ l) (slots-snoc (suc k) ts t ∙ (rw e))
+
+live-snoc : (n : ℕ) (xs : List ℕ) → in-slots 0 (first-tris (suc n) xs) ≡ in-slots 0 (first-tris n xs) ++ new-live n (tri (tri-at xs n)) ∷ []
+live-snoc n xs =
+    let e : 0 + length (first-tris n xs) ≡ n = omega (arith, tris-length n xs) in
+    ap (in-slots 0) (tris-snoc n xs) ∙ slots-snoc 0 (first-tris n xs) (tri-at xs n) ∙ ap (λ (k : ℕ). in-slots 0 (first-tris n xs) ++ new-live k (tri (tri-at xs n)) ∷ []) e
+
+-- ---- triangle after triangle
+
+-- some mesh of the first n triangles over g points
+abbrev pub sample : List ℕ → ℕ → ℕ → Mesh
+sample xs n g = record { points = first-points g []; used = n; live = in-slots 0 (first-tris n xs); bucket = 0·0 }
+
+pub sample-new : (xs : List ℕ) (n g : ℕ) → IsNew (sample xs n g) xs n g
+sample-new xs n g = record { points = points-length g []; used = refl; live = refl }
+
+-- the mesh before the last triangle
+before : Mesh → List ℕ → ℕ → Mesh
+before m xs n = with-live m n (in-slots 0 (first-tris n xs))
+
+module _ (w : List ℕ) (s p : ℕ) (xs : List ℕ) (n g i a b c : ℕ) (can : CanBuild w s p xs n g) (h : i < n)
+    (ea : a ≡ getD xs (3 * i) 0) (eb : b ≡ getD xs (3 * i + 1) 0) (ec : c ≡ getD xs (3 * i + 2) 0) where
+  cell-is : tri-of-nodes a b c ≡ tri (tri-at xs i)
+  unfolding tri-at
+  cell-is = rw (← ea, ← eb, ← ec)
+
+  pub build-can : (m : Mesh) → IsNew m xs i g → CanPush m s i (tri-of-nodes a b c)
+  build-can m k =
+      record {
+        next = sym (k .used);
+        free = omega (arith, can .slots);
+        shape = rw (cell-is, k .points) (can .given i h);
+      }
+
+  pub build-more : (w1 w2 : List ℕ) → ((m : Mesh) → IsNew m xs i g → Rep w1 s p m)
+      → Turns w1 w2 s p (λ m. CanPush m s i (tri-of-nodes a b c)) (λ m. push-cell m (tri-of-nodes a b c)) → (m : Mesh) → IsNew m xs (i + 1) g → Rep w2 s p m
+  unfolding before with-live push-cell
+  build-more w1 w2 f t m k =
+      let k0 : IsNew (before m xs i) xs i g = record { points = k .points; used = refl; live = refl } in
+      let r = t .rep (before m xs i) (f (before m xs i) k0) (build-can (before m xs i) k0) in
+      let u : m .used ≡ i + 1 = k .used in
+      let e : in-slots 0 (first-tris i xs) ++ new-live i (tri-of-nodes a b c) ∷ [] ≡ m .live =
+      ap (λ (x : Cell). in-slots 0 (first-tris i xs) ++ new-live i x ∷ []) cell-is ∙ sym (live-snoc i xs) ∙ ap (λ (j : ℕ). in-slots 0 (first-tris j xs)) (sym (add-one i)) ∙ sym (k .live) in
+      rep-as w2 s p (push-cell (before m xs i) (tri-of-nodes a b c)) m r (omega arith) (omega (arith, can .slots)) (omega arith) (omega (arith, can .points, k .points)) e
+
+-- the given mesh of the definition is such a mesh
+pub new-is : (st : Settings) (xs : List ℕ) (q : List Float) (n g : ℕ) → IsNew (new-mesh st (first-tris n xs) (first-points g q)) xs n g
+unfolding new-mesh
+new-is st xs q n g = record { points = points-length g q; used = tris-length n xs; live = refl }
+
+-- with no triangle there is no live cell
+pub new-none : (m : Mesh) (xs : List ℕ) (g : ℕ) → IsNew m xs 0 g → m .live ≡ []
+unfolding first-tris below numbers table in-slots
+new-none m xs g k = k .live

@@ -1,0 +1,4 @@
+pub mod Puts
+pub mod Removes
+pub mod Builds
+pub mod Counts

@@ -1,0 +1,243 @@
+-- A cell goes from its slot: corner after corner, then its kind.
+use mathlib.Core.Path.{_≡_, refl, ap, sym, _∙_, subst}
+use mathlib.Core.Logic.{_≢_}
+use mathlib.Core.Bool.{Bool, true, false, not, cond}
+use mathlib.Core.List.{List, [], _∷_, _++_, append-nil, append-assoc}
+use Prim.Native.Nat.{ℕ, zero, suc, _+_, _-_, _*_, _/_, _≤_, _<_}
+use native.Mathlib.Omega.{arith}
+use lib.Dec.{eqb}
+use lib.ListN.{length, getD, set, length-set}
+use borrow.Author.Tests.{eq-eqb, ne-eqb}
+use Rattle.rings.specs.Rings.{Out, Distinct, Below, Family, Kept, UnlinkedFrom, CanUnlink, without, less, pick}
+use Rattle.rings.proofs.Lists.{Same, same, differ, decide, out-append, without-hit, without-miss, without-out, without-append, out-without, distinct-without}
+use Rattle.rings.proofs.Rings.{on, off}
+use Rattle.rings.proofs.Families.{family-kept, same-rings, can-unlink, unlinked}
+use Rattle.definition.specs.Lists.{filter}
+use Rattle.definition.specs.Cells.{Cell, Live, Mesh, nodes, new-live, with-live, in-slot, remove-cell, set-cell, without as without-slot}
+use Rattle.cells.specs.Layout.{nodes-at, rings-at, codes, mesh-end}
+use Rattle.cells.specs.Rep.{Shape, CellAt, Held, Cells, slots, Has, here, there, at-node, cell-corners, corners, Room, Rep}
+use Rattle.meshes.specs.Changes.{CanSet, CanPut, put}
+use Rattle.cells.specs.Frames.{Under, Keeps}
+use Rattle.cells.proofs.Members.{Lookup, absent, present, lookup, has-held}
+use Rattle.cells.proofs.Corners.{node-count, at-node-out, out-left, out-right, corner-in, cell-out, below-at}
+use Rattle.cells.proofs.Frames.{Elsewhere, cells-else, under-trans, under-kept, under-refl, keeps-trans, keeps-set, keeps-kept, keeps-refl}
+
+-- ---- lists of numbers
+
+pub out-before : (c d : ℕ) (l : List ℕ) → d ≢ c → Out d (without c l) → Out d l
+unfolding without
+out-before c d [] n h = tt
+out-before c d (x ∷ l) n h = go (decide x c) (λ k. out-before c d l n k)
+  where
+    go : Same x c → (Out d (without c l) → Out d l) → Out d (x ∷ l)
+    go (same e) r = ((λ q. n (sym q ∙ e)), r (rw (without-hit c x l e) at h))
+    go (differ e) r = let k : Out d (x ∷ without c l) = rw (without-miss c x l e) at h in (k .0, r (k .1))
+
+pub out-self : (c : ℕ) (l : List ℕ) → Out c (without c l)
+unfolding without
+out-self c [] = tt
+out-self c (x ∷ l) = go (decide x c) (out-self c l)
+  where
+    go : Same x c → Out c (without c l) → Out c (without c (x ∷ l))
+    go (same e) r = rw (without-hit c x l e) r
+    go (differ e) r = rw (without-miss c x l e) ((e, r))
+
+-- the list without the first k corners of slot i
+unfoldable pub stripped : ℕ → ℕ → List ℕ → List ℕ
+stripped i zero l = l
+stripped i (suc k) l = without (4 * i + k) (stripped i k l)
+
+stripped-append : (i k : ℕ) (l r : List ℕ) → stripped i k (l ++ r) ≡ stripped i k l ++ stripped i k r
+unfolding stripped
+stripped-append i zero l r = refl
+stripped-append i (suc k) l r = ap (without (4 * i + k)) (stripped-append i k l r) ∙ without-append (4 * i + k) (stripped i k l) (stripped i k r)
+
+stripped-out : (i k : ℕ) (l : List ℕ) → ((j : ℕ) → j < k → Out (4 * i + j) l) → stripped i k l ≡ l
+unfolding stripped
+stripped-out i zero l h = refl
+stripped-out i (suc k) l h = ap (without (4 * i + k)) (stripped-out i k l (λ j q. h j (omega arith))) ∙ without-out (4 * i + k) l (h k (omega arith))
+
+-- what is in the list and no such corner is still there
+out-stripped : (i k d : ℕ) (l : List ℕ) → ((j : ℕ) → j < k → d ≢ 4 * i + j) → Out d (stripped i k l) → Out d l
+unfolding stripped
+out-stripped i zero d l n h = h
+out-stripped i (suc k) d l n h = out-stripped i k d l (λ j q. n j (omega arith)) (out-before (4 * i + k) d (stripped i k l) (n k (omega arith)) h)
+
+stripped-nil : (i k : ℕ) → stripped i k [] ≡ []
+unfolding stripped without
+stripped-nil i zero = refl
+stripped-nil i (suc k) = ap (without (4 * i + k)) (stripped-nil i k)
+
+stripped-one : (i k x j : ℕ) → j < k → x ≡ 4 * i + j → stripped i k (x ∷ []) ≡ []
+unfolding stripped without
+stripped-one i zero x j h e = absurd (omega (arith, h))
+stripped-one i (suc k) x j h e = go (decide j k) (λ g. stripped-one i k x j g e)
+  where
+    go : Same j k → (j < k → stripped i k (x ∷ []) ≡ []) → without (4 * i + k) (stripped i k (x ∷ [])) ≡ []
+    go (same q) r =
+        ap (without (4 * i + k)) (stripped-out i k (x ∷ []) (λ y g. (omega arith, tt))) ∙ without-hit (4 * i + k) x [] (omega arith)
+    go (differ q) r = ap (without (4 * i + k)) (r (omega arith))
+
+stripped-pick : (i k j : ℕ) (b : Bool) → j < k → stripped i k (pick b (4 * i + j)) ≡ []
+stripped-pick i k j true h = stripped-one i k (4 * i + j) j h refl
+stripped-pick i k j false h = stripped-nil i k
+
+stripped-node : (v i k j : ℕ) (ns : List ℕ) → j + length ns ≤ k → stripped i k (at-node v (4 * i) j ns) ≡ []
+unfolding at-node
+stripped-node v i k j [] h = stripped-nil i k
+stripped-node v i k j (x ∷ ns) h =
+    stripped-append i k (pick (eqb x v) (4 * i + j)) (at-node v (4 * i) (suc j) ns) ∙ (rw (stripped-pick i k j (eqb x v) (omega arith)) (stripped-node v i k (suc j) ns (omega arith)))
+
+-- ---- the mesh without slot i
+
+pub slot-hit : (i : ℕ) (x : Live) (l : List Live) → x .slot ≡ i → without-slot i (x ∷ l) ≡ without-slot i l
+unfolding without-slot filter in-slot
+slot-hit i x l q = rw (eq-eqb i (x .slot) (sym q))
+
+pub slot-miss : (i : ℕ) (x : Live) (l : List Live) → x .slot ≢ i → without-slot i (x ∷ l) ≡ x ∷ without-slot i l
+unfolding without-slot filter in-slot
+slot-miss i x l q = rw (ne-eqb i (x .slot) (λ e. q (sym e)))
+
+slot-nil : (i : ℕ) → without-slot i [] ≡ []
+unfolding without-slot filter
+slot-nil i = refl
+
+pub slots-without : (i : ℕ) (l : List Live) → slots (without-slot i l) ≡ without i (slots l)
+unfolding without
+slots-without i [] = rw (slot-nil i)
+slots-without i (e ∷ l) = go (decide (e .slot) i) (slots-without i l)
+  where
+    go : Same (e .slot) i → slots (without-slot i l) ≡ without i (slots l) → slots (without-slot i (e ∷ l)) ≡ without i (e .slot ∷ slots l)
+    go (same q) r = rw (slot-hit i e l q, without-hit i (e .slot) (slots l) q) r
+    go (differ q) r = rw (slot-miss i e l q, without-miss i (e .slot) (slots l) q) (ap (λ (k : List ℕ). e .slot ∷ k) r)
+
+cells-without : (w : List ℕ) (s k n i : ℕ) (l : List Live) → Cells w s k n l → Cells w s k n (without-slot i l)
+cells-without w s k n i [] h = rw (slot-nil i) tt
+cells-without w s k n i (e ∷ l) h = go (decide (e .slot) i) (cells-without w s k n i l (h .1))
+  where
+    go : Same (e .slot) i → Cells w s k n (without-slot i l) → Cells w s k n (without-slot i (e ∷ l))
+    go (same q) r = rw (slot-hit i e l q) r
+    go (differ q) r = rw (slot-miss i e l q) ((h .0, r))
+
+-- the kind of slot i, if it has a cell, is n
+abbrev Kinds : ℕ → ℕ → List Live → Type 0
+Kinds i n [] = Unit {0}
+Kinds i n (x ∷ l) = (x .slot ≡ i → length (nodes (x .cell)) ≡ n) × Kinds i n l
+
+kinds-of : (w : List ℕ) (s k m i n : ℕ) (l : List Live) → Cells w s k m l → getD w i 0 ≡ n → Kinds i n l
+kinds-of w s k m i n [] h e = tt
+kinds-of w s k m i n (x ∷ l) h e = ((λ q. sym (h .0 .at .kind) ∙ ap (λ (j : ℕ). getD w j 0) q ∙ e), kinds-of w s k m i n l (h .1) e)
+
+corners-stripped : (i n v : ℕ) (l : List Live) → n ≤ 4 → Kinds i n l → stripped i n (corners l v) ≡ corners (without-slot i l) v
+unfolding corners
+corners-stripped i n v [] g h = rw (slot-nil i) (stripped-nil i n)
+corners-stripped i n v (e ∷ l) g h =
+    stripped-append i n (cell-corners v (e .slot) (e .cell)) (corners l v) ∙ go (decide (e .slot) i) (corners-stripped i n v l g (h .1))
+  where
+    go : Same (e .slot) i → stripped i n (corners l v) ≡ corners (without-slot i l) v
+        → stripped i n (cell-corners v (e .slot) (e .cell)) ++ stripped i n (corners l v) ≡ corners (without-slot i (e ∷ l)) v
+    go (same q) r =
+        let z : stripped i n (cell-corners v (e .slot) (e .cell)) ≡ [] =
+        subst (λ (j : ℕ). stripped i n (at-node v (4 * j) 0 (nodes (e .cell))) ≡ []) (sym q) (stripped-node v i n 0 (nodes (e .cell)) (omega (arith, h .0 q))) in
+        rw (slot-hit i e l q, z) r
+    go (differ q) r =
+        let z : stripped i n (cell-corners v (e .slot) (e .cell)) ≡ cell-corners v (e .slot) (e .cell) =
+        stripped-out i n (cell-corners v (e .slot) (e .cell)) (λ j h. cell-out (4 * i + j) v (e .slot) (e .cell) (omega arith)) in
+        rw (slot-miss i e l q, z, r)
+
+-- ---- a cell of the list
+
+has-corner : (c v : ℕ) {x : Live} {l : List Live} → Has x l → (Out c (cell-corners v (x .slot) (x .cell)) → ⊥) → Out c (corners l v) → ⊥
+unfolding corners
+has-corner c v {x} (here {l = l}) n h = n (out-left c (cell-corners v (x .slot) (x .cell)) (corners l v) h)
+has-corner c v (there {y = y} {l = l} k) n h = has-corner c v k n (out-right c (cell-corners v (y .slot) (y .cell)) (corners l v) h)
+
+-- ---- the stages of a removal
+
+-- the first k corners of slot i were taken out
+pub record Lifting (w₀ w : List ℕ) (s p i k : ℕ) (l : List Live) : Type 0 where
+  pub under : Under w₀ w (5 * s)
+  pub rings : Family w (rings-at s) (codes s p) (4 * s) (λ v. stripped i k (corners l v))
+
+module _ (w₀ : List ℕ) (s p i : ℕ) (m : Mesh) (r : Rep w₀ s p m) (is : i < s) where
+  pub lift-start : Lifting w₀ w₀ s p i 0 (m .live)
+  unfolding stripped
+  lift-start = record { under = under-refl w₀ (5 * s); rings = r .rings }
+
+  pub kind-most : getD w₀ i 0 ≤ 4
+  kind-most = go (lookup i (m .live))
+    where
+      go : Lookup i (m .live) → getD w₀ i 0 ≤ 4
+      go (absent o) = omega (arith, r .dead i is o)
+      go (present x e h) =
+          let k : getD w₀ (x .slot) 0 ≡ length (nodes (x .cell)) = has-held w₀ s (m .used) (length (m .points)) h (r .cells) .at .kind in
+          rw (← e, k) (node-count (x .cell) .1)
+
+  module _ (w : List ℕ) (k : ℕ) (f : Lifting w₀ w s p i k (m .live)) (kn : k < getD w₀ i 0) where
+    pub lift-can : CanUnlink w (rings-at s) (codes s p) (4 * i + k)
+    lift-can = go (lookup i (m .live))
+      where
+        go : Lookup i (m .live) → CanUnlink w (rings-at s) (codes s p) (4 * i + k)
+        go (absent o) = absurd (omega (arith, r .dead i is o))
+        go (present x e h) =
+            let d = has-held w₀ s (m .used) (length (m .points)) h (r .cells) in
+            let q : getD w₀ i 0 ≡ length (nodes (x .cell)) = ap (λ (j : ℕ). getD w₀ j 0) (sym e) ∙ d .at .kind in
+            let ns = nodes (x .cell) in
+            let a = getD ns k 0 in
+            let an : a < length (m .points) = below-at (length (m .points)) ns k (d .shape .known) (omega arith) in
+            let z : 4 * x .slot + (0 + k) ≡ 4 * i + k = omega arith in
+            can-unlink w (rings-at s) (codes s p) (4 * s) (λ v. stripped i k (corners (m .live) v)) (f .rings) (4 * i + k) a (omega (arith, kind-most)) (omega (arith, r .points))
+            (λ o. has-corner (4 * i + k) a h (λ y. corner-in (4 * x .slot) 0 ns k (omega arith) (rw z y))
+            (out-stripped i k (4 * i + k) (corners (m .live) a) (λ j g. omega arith) o))
+
+    pub lift-more : (w' : List ℕ) → UnlinkedFrom w w' (rings-at s) (codes s p) (4 * i + k) → Lifting w₀ w' s p i (k + 1) (m .live)
+    unfolding stripped
+    lift-more w' t =
+        let e : k + 1 ≡ suc k = omega arith in
+        rw e (record {
+          under = under-trans w₀ w w' (5 * s) (f .under) (under-kept w w' (5 * s) (rings-at s) (codes s p) (omega arith) (t .kept));
+          rings = unlinked w (rings-at s) (codes s p) (4 * s) (λ v. stripped i k (corners (m .live) v)) (f .rings) w' (4 * i + k) (omega (arith, kind-most)) t;
+        })
+
+  pub lift-done : (w : List ℕ) (n : ℕ) → getD w₀ i 0 ≡ n → Lifting w₀ w s p i n (m .live) → Rep (set w i 0) s p (remove-cell m i)
+  unfolding remove-cell with-live
+  lift-done w n z f =
+      let l = m .live in
+      let w' = set w i 0 in
+      let g : length w' ≡ length w = simp length-set in
+      let e : Elsewhere w₀ w' s i = record {
+        kinds = λ j h d. off w i 0 j d ∙ f .under .low j (omega arith);
+        nodes = λ j x h d q. off w i 0 (nodes-at s + 4 * j + x) (omega arith) ∙ f .under .low (nodes-at s + 4 * j + x) (omega arith);
+      } in
+      record {
+        room = record { fits = omega (arith, f .under .len, r .room .fits); small = r .room .small };
+        used = r .used;
+        points = r .points;
+        distinct = rw (slots-without i l) (distinct-without i (slots l) (r .distinct));
+        cells = cells-else w₀ w' s (m .used) (length (m .points)) i (without-slot i l) (r .used) e (rw (slots-without i l) (out-self i (slots l)))
+            (cells-without w₀ s (m .used) (length (m .points)) i l (r .cells));
+        rings = same-rings w' (rings-at s) (codes s p) (4 * s) (λ v. stripped i n (corners l v)) (corners (without-slot i l))
+            (λ v. corners-stripped i n v l (omega (arith, kind-most)) (kinds-of w₀ s (m .used) (length (m .points)) i n l (r .cells) z))
+            (family-kept w w' (rings-at s) (codes s p) (4 * s) (λ v. stripped i n (corners l v)) g (λ x h q. off w i 0 x (omega arith)) (f .rings));
+        dead = λ j js o. dead j js (decide j i) (rw (slots-without i l) at o) e;
+      }
+    where
+      dead : (j : ℕ) → j < s → Same j i → Out j (without i (slots (m .live))) → Elsewhere w₀ (set w i 0) s i → getD (set w i 0) j 0 ≡ 0
+      dead j js (same q) o e = rw q (on w i 0 (omega (arith, f .under .len, r .room .fits)))
+      dead j js (differ q) o e = e .kinds j js q ∙ r .dead j js (out-before i j (slots (m .live)) q o)
+
+-- slot i holds nothing any more
+pub fresh-after : (m : Mesh) (i : ℕ) → Out i (slots (remove-cell m i .live))
+unfolding remove-cell with-live
+fresh-after m i = rw (slots-without i (m .live)) (out-self i (slots (m .live)))
+
+-- ---- a cell replaced
+
+module _ (s i : ℕ) (m : Mesh) (t : Cell) where
+  pub set-put : m .used ≤ s → CanSet m i t → CanPut (remove-cell m i) s i (m .used) t
+  unfolding remove-cell with-live
+  set-put u o = record { out = fresh-after m i; given = o .given; more = omega arith; fits = u; shape = o .shape }
+
+  pub set-is : (w : List ℕ) (p : ℕ) → Rep w s p (put (remove-cell m i) i (m .used) t) → Rep w s p (set-cell m i t)
+  unfolding set-cell remove-cell with-live
+  set-is w p r = r

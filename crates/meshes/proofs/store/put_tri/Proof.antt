@@ -1,0 +1,105 @@
+-- The kind is stored, then node after node is placed.
+use mathlib.Core.Path.{_≡_, refl, ap, sym, _∙_, subst}
+use mathlib.Core.List.{List, [], _∷_, _++_}
+use Prim.Native.Nat.{ℕ, suc, _+_, _-_, _*_, _/_, _<_, _≤_}
+use native.Mathlib.Omega.{arith}
+use borrow.Author.Needs.{needs}
+use lib.ListN.{length, getD, set, length-set}
+use Rattle.definition.specs.Cells.{Mesh, nodes, tri-nodes, quad-nodes, new-tri, new-quad}
+use Rattle.cells.specs.Layout.{mesh-end}
+use Rattle.meshes.specs.Changes.{tri-of-nodes, quad-of-nodes}
+use Rattle.meshes.proofs.Puts.{put-start, put-done, known-at}
+use Rattle.cells.proofs.Frames.{keeps-set, keeps-trans}
+use Rattle.meshes.proofs.store.put_tri.Statement.{statement}
+use Rattle.meshes.proofs.store.put_tri.Tie as tie
+use Rattle.meshes.proofs.store.put_tri.Reads as reads
+use Rattle.meshes.proofs.store.put_tri.Lts as lts
+use Rattle.meshes.proofs.store.place.Reads as place-reads
+
+-- src/store.rt:24:5
+mul-w : tie.Need-mul-w
+mul-w c = search needs
+
+-- src/store.rt:24:5
+slice-write-w : tie.Need-slice-write-w
+slice-write-w c = search needs
+
+-- src/store.rt:25:5
+place-requires : tie.Need-place-requires
+unfolding nodes tri-nodes new-tri
+place-requires c κs =
+    let t = c .before .before in
+    let a = t .args in
+    let m = t .pre .0 in
+    let n = t .pre .1 in
+    let r = t .pre .2 in
+    let o = t .pre .3 in
+    let cell = tri-of-nodes (a .a) (a .b) (a .c) in
+    let f0 = put-start (a .w .now) (a .s) (a .p) (a .i) n m cell r o 3 in
+    record { k = m .used; m = length (m .points); n = 3; l = m .live; ns = []; is = f0; many = refl; few = omega arith; node = known-at r o 0 (omega arith) }
+
+-- src/store.rt:26:5
+place-requires-2 : tie.Need-place-requires-2
+unfolding nodes tri-nodes new-tri
+place-requires-2 c κs =
+    let t = c .before .before .before .before .before .before in
+    let a = t .args in
+    let m = t .pre .0 in
+    let n = t .pre .1 in
+    let r = t .pre .2 in
+    let o = t .pre .3 in
+    let cell = tri-of-nodes (a .a) (a .b) (a .c) in
+    let f0 = put-start (a .w .now) (a .s) (a .p) (a .i) n m cell r o 3 in
+    let f1 = c .before .before .before .place .ensures .is (m .used) (length (m .points)) 3 (m .live) ([]) f0 refl in
+    record { k = m .used; m = length (m .points); n = 3; l = m .live; ns = a .a ∷ []; is = f1; many = refl; few = omega arith; node = known-at r o 1 (omega arith) }
+
+-- src/store.rt:27:5
+place-requires-3 : tie.Need-place-requires-3
+unfolding nodes tri-nodes new-tri
+place-requires-3 c κs =
+    let t = c .before .before .before .before .before .before .before .before .before .before in
+    let a = t .args in
+    let m = t .pre .0 in
+    let n = t .pre .1 in
+    let r = t .pre .2 in
+    let o = t .pre .3 in
+    let cell = tri-of-nodes (a .a) (a .b) (a .c) in
+    let f0 = put-start (a .w .now) (a .s) (a .p) (a .i) n m cell r o 3 in
+    let f1 = c .before .before .before .before .before .before .before .place .ensures .is (m .used) (length (m .points)) 3 (m .live) ([]) f0 refl in
+    let f2 = c .before .before .before .place2 .ensures .is (m .used) (length (m .points)) 3 (m .live) (a .a ∷ []) f1 refl in
+    record { k = m .used; m = length (m .points); n = 3; l = m .live; ns = a .a ∷ a .b ∷ []; is = f2; many = refl; few = omega arith; node = known-at r o 2 (omega arith) }
+
+-- src/store.rt:20:1
+same-length : tie.Need-same-length
+same-length c =
+    c .before .before .place3 .ensures .keeps .len ∙ c .before .before .before .before .before .before .place2 .ensures .keeps .len ∙ c .before .before .before .before .before .before .before .before .before .before .place .ensures .keeps .len ∙ simp length-set
+
+-- src/store.rt:20:1
+returns : tie.Need-returns
+unfolding nodes tri-nodes new-tri
+returns c =
+    let t = c .before .before .before .before .before .before .before .before .before .before .before .before .before in
+    let a = t .args in
+    let cell = tri-of-nodes (a .a) (a .b) (a .c) in
+    let e = mesh-end (a .s) (a .p) in
+    record {
+      rep = λ m n r o.
+          let f0 = put-start (a .w .now) (a .s) (a .p) (a .i) n m cell r o 3 in
+          let f1 = c .before .before .before .before .before .before .before .before .before .before .place .ensures .is (m .used) (length (m .points)) 3 (m .live) ([]) f0 refl in
+          let f2 = c .before .before .before .before .before .before .place2 .ensures .is (m .used) (length (m .points)) 3 (m .live) (a .a ∷ []) f1 refl in
+          let f3 = c .before .before .place3 .ensures .is (m .used) (length (m .points)) 3 (m .live) (a .a ∷ a .b ∷ []) f2 refl in
+          put-done (a .w .now) (a .s) (a .p) (a .i) n m cell r o (c .before .before .place3 .last .0) f3;
+      keeps = keeps-trans (a .w .now) (c .before .before .before .before .before .before .place2 .last .0) (c .before .before .place3 .last .0) e (keeps-trans (a .w .now) (c .before .before .before .before .before .before .before .before .before .before .place .last .0) (c .before .before .before .before .before .before .place2 .last .0) e (keeps-trans (a .w .now) (set (a .w .now) (a .i) 3) (c .before .before .before .before .before .before .before .before .before .before .place .last .0) e (keeps-set (a .w .now) e (a .i) 3 (omega (arith, t .pre .3 .given, t .pre .3 .fits))) (c .before .before .before .before .before .before .before .before .before .before .place .ensures .keeps)) (c .before .before .before .before .before .before .place2 .ensures .keeps)) (c .before .before .place3 .ensures .keeps);
+    }
+
+pub put-tri-spec : {M : Type 1} → statement M
+put-tri-spec =
+    tie.close
+    (tie.spec
+    mul-w
+    slice-write-w
+    place-requires
+    place-requires-2
+    place-requires-3
+    same-length
+    returns)
