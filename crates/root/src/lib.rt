@@ -7,6 +7,8 @@ ghost use Rattle.rounding.specs.Parts.{Significand, Leading, Evened};
 ghost use Rattle.root.specs.Exact.{WholeRoot, Halved};
 ghost use Rattle.root.specs.Nan.{NanPattern};
 
+mod halves;
+
 // 2^52: the weight of the exponent in the bits, and of the leading digit in a significand.
 const LEAD: u64 = 1 << 52;
 
@@ -100,18 +102,30 @@ fn by_digits(r: u64) -> Whole
     }
 }
 
+// The exact result for `r * 2^54`: a guess that leaves no more over than a whole root, and otherwise digit by digit. `hint` has the bits of a double near `r / 2^52`.
+fn whole_root(r: u64, hint: u64) -> Whole
+    requires { ⌜ (r < 2 ^ 54) × (hint < 2047 * 2 ^ 52) ⌝ }
+    ensures { λ w. ⌜ WholeRoot (r * 2 ^ 54) (w .root) (w .rest) ⌝ }
+{
+    let w = halves::guessed(r, hint);
+    if w.rest / 2 < w.root {
+        return w;
+    }
+    by_digits(r)
+}
+
 // The rounding: the root's last digit goes, upward where it is a half and something is left over, and to the even neighbour where it is a half and nothing is.
 fn rounded(w: Whole) -> u64
     ensures { λ r. ⌜ Halved (w .root) (w .rest) r ⌝ }
 {
     let half = w.root / 2;
+    if w.rest > 0 {
+        return half + w.root % 2;
+    }
     if w.root % 2 == 0 {
         return half;
     }
-    if w.rest == 0 {
-        return half + half % 2;
-    }
-    half + 1
+    half + half % 2
 }
 
 // The bits of the root of the finite double above zero with the bits `b`.
@@ -122,7 +136,8 @@ fn root_bits(b: u64) -> u64
     let m = significand(b);
     let z = spare(m);
     let g = exponent(b) + 52 - z;
-    let w = by_digits(evened(shifted(m, z), g));
+    let n = shifted(m, z);
+    let w = whole_root(evened(n, g), n + (1022 + g % 2) * LEAD);
     (g / 2 + 485) * LEAD + rounded(w)
 }
 

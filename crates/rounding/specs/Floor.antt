@@ -1,22 +1,21 @@
 -- `floor x` by its bits. A double is a / 2 ^ 1074, for a whole number a. Assumes nothing.
 use mathlib.Core.Path.{_≡_, refl, sym, ap, _∙_, subst}
 use mathlib.Core.Logic.{_⊎_, inl, inr}
-use Prim.Native.Nat.{ℕ, _+_, _-_, _*_, _/_, _%_, _^_, _≤_, _<_, zero-le}
-use native.Mathlib.Nat.{le-refl, le-trans, le-of-eq, lt-of-lt-of-le, lt-of-le-of-lt, eq-or-lt-of-le, zero-lt-suc, zero-add, add-assoc, add-zero, add-mul, mul-one, one-mul, mul-comm, mul-assoc, mul-right-comm, mul-le-mul-right, mul-lt-mul-of-pos-right, mul-pos, le-of-mul-le-mul-right, lt-of-mul-lt-mul-right, eq-of-mul-eq-mul-right, div-mul-le-self, div-lt-iff-lt-mul, le-div-iff-mul-le}
+use Prim.Native.Nat.{ℕ, _+_, _-_, _*_, _/_, _^_, _≤_, _<_, zero-le}
+use native.Mathlib.Nat.{le-refl, le-trans, le-of-eq, lt-of-lt-of-le, lt-of-le-of-lt, eq-or-lt-of-le, zero-lt-suc, add-zero, add-mul, mul-one, one-mul, mul-comm, mul-assoc, mul-right-comm, mul-le-mul-right, mul-lt-mul-of-pos-right, mul-pos, le-of-mul-le-mul-right, lt-of-mul-lt-mul-right, eq-of-mul-eq-mul-right, div-mul-le-self, div-lt-iff-lt-mul, le-div-iff-mul-le}
 use native.Mathlib.Omega.{arith}
-use mathlib.Core.Bool.{Bool, true, false, cond, true≢false}
+use mathlib.Core.Bool.{Bool, true, false, cond}
 use lib.IntN.{ℤ}
 use lib.Dec.{T}
 use lib.Pow.{pow-add, pow-pos, pow-mono}
-use lib.Ieee.{Float, nan, inf, fin, binary64, up, down, round, fits, ne, ofBits, toBits}
+use lib.Ieee.{Float, nan, inf, fin, binary64, up, down, round, fits, ofBits}
 use lib.Ieee.Fits.{down-pos, round-fits}
-use lib.Ieee.Bits.{ofBits-fits, ofBits-toBits, toBits-lt}
-use lib.Ieee.Compare.{differs-from-itself}
+use lib.Ieee.Bits.{ofBits-fits}
 use lib.Ieee.Exact.{HasValue, round-exact}
 use lib.Ieee.Back.{whole-unique}
 use Rattle.definition.specs.Root.{floor}
 use Rattle.rounding.specs.Parts.{Significand}
-use Rattle.rounding.specs.Fields.{signed, signed-value, field-value, sig-of, finite-bits}
+use Rattle.rounding.specs.Fields.{signed, signed-value}
 
 -- ---- quotients by their bounds
 floor-is : (n d c : ℕ) → 0 < d → c * d ≤ n → n < (c + 1) * d → n / d ≡ c

@@ -2,7 +2,7 @@
 use mathlib.Core.Path.{_≡_, refl, sym, ap, _∙_, subst, subst₂}
 use mathlib.Core.Logic.{_⊎_, inl, inr}
 use Prim.Native.Nat.{ℕ, zero, suc, _+_, _-_, _*_, _/_, _%_, _^_, _≤_, _<_}
-use native.Mathlib.Nat.{le-refl, le-trans, le-of-eq, lt-of-lt-of-le, lt-of-le-of-lt, mul-assoc, mul-comm, mul-mul-mul-comm, mul-le-mul, mul-le-mul-right, mul-lt-mul-of-pos-right, lt-of-mul-lt-mul-right, mul-pos, mul-div-cancel, add-mul, zero-mul, zero-div, lt-of-not-le}
+use native.Mathlib.Nat.{le-trans, le-of-eq, lt-of-lt-of-le, lt-of-le-of-lt, mul-assoc, mul-comm, mul-mul-mul-comm, mul-le-mul, mul-le-mul-right, mul-lt-mul-of-pos-right, lt-of-mul-lt-mul-right, mul-pos, mul-div-cancel, add-mul, zero-mul, zero-div, lt-of-not-le}
 use native.Mathlib.Decide.{decLe}
 use native.Mathlib.Omega.{arith}
 use mathlib.Core.Bool.{Bool, false}
@@ -17,7 +17,7 @@ use lib.Ieee.Bits.{ofBits-toBits}
 use lib.Ieee.Exact.{HasValue, units-val}
 use Rattle.definition.specs.Root.{isqrt, sqrt}
 use Rattle.rounding.specs.Nearest.{ulps, Nearer, HalfUnit}
-use Rattle.rounding.specs.Parts.{Significand, Leading, Evened}
+use Rattle.rounding.specs.Parts.{Leading, Evened}
 use Rattle.rounding.specs.Shift.{leading}
 use Rattle.rounding.specs.Isqrt.{IsRoot, isqrt-root, sq-lt}
 use Rattle.rounding.specs.Rounded.{no-odd-root}

@@ -1,4 +1,4 @@
--- What it is for a double to be nearest to the root of another, over the whole numbers. `proofs/Near.antt` shows it of `sqrt`. Definitions only.
+-- What it is for a double to be nearest to the root of another, over the whole numbers. `Near` shows it of `sqrt`. Definitions only.
 use Prim.Native.Nat.{ℕ, _+_, _-_, _*_, _/_, _^_, _≤_, _<_}
 use mathlib.Core.Path.{_≡_}
 use lib.Ieee.{Float, nan, inf, fin, up, down}

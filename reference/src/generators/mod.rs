@@ -5,6 +5,7 @@ mod grids;
 pub mod large;
 pub mod shape;
 mod soups;
+mod strips;
 
 use std::io::{Error, Result};
 
@@ -65,12 +66,15 @@ pub const KINDS: &[Kind] = &[
     ("refused", extremes::refused),
 ];
 
-/// Too slow to go through in turn.
-const SLOW: &[Kind] = &[("hub", |r, m| stepped(soups::hub, r, m))];
+/// Made only where they are asked for: one is slow, the other is for one test.
+const ASKED: &[Kind] = &[
+    ("hub", |r, m| stepped(soups::hub, r, m)),
+    ("strip", strips::strip),
+];
 
 /// The kind of a name.
 pub fn kind(name: &str) -> Result<&'static Kind> {
-    let found = KINDS.iter().chain(SLOW).find(|k| k.0 == name);
+    let found = KINDS.iter().chain(ASKED).find(|k| k.0 == name);
     found.ok_or_else(|| Error::other(format!("no kind {name}")))
 }
 
