@@ -1,0 +1,7 @@
+pub mod Sorts
+pub mod Flips
+pub mod Sides
+pub mod Crosses
+pub mod Tests
+pub mod Splits
+pub mod Recovers

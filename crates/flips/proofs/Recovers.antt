@@ -1,0 +1,184 @@
+-- What a flip keeps, and the turns of `recover`.
+use mathlib.Core.Path.{_≡_, refl, ap, sym, _∙_, subst}
+use mathlib.Core.Bool.{Bool, true, false, cond, true≢false, false≢true}
+use mathlib.Core.List.{List, [], _∷_}
+use mathlib.Core.Option.{Option, none, some}
+use Prim.Native.Nat.{ℕ, suc, _+_, _-_, _≤_, _<_}
+use native.Mathlib.Omega.{arith}
+use lib.ListN.{length}
+use lib.Ieee.{Float}
+use Rattle.definition.specs.Plane.{Edge}
+use Rattle.definition.specs.Cells.{Tri, Cell, tri, quad, Live, Mesh, key, owners, has-edge, set-cell, with-live}
+use Rattle.definition.specs.Flips.{third, convex-pair, set-tris, flipped, flip-tris, flip-cells, flip-owners, flip, first-crossing, flip-first, Recovered, recover-in, recover}
+use Rattle.cells.specs.Rep.{Rep}
+use Rattle.cells.specs.Walk.{IsEdge}
+use Rattle.cells.proofs.Edges.{key-up}
+use Rattle.cells.proofs.Points.{pts-as}
+use Rattle.flips.specs.Flip.{FlipTo}
+use Rattle.flips.specs.Nodes.{Up}
+use Rattle.flips.specs.Cross.{Known, Segment, FirstAt}
+use Rattle.flips.specs.Recover.{RecoverTo}
+
+-- ---- points, slots and bucket stay
+
+pub record Kept (m m' : Mesh) : Type 0 where
+  pub points : m' .points ≡ m .points
+  pub used : m' .used ≡ m .used
+  pub bucket : m' .bucket ≡ m .bucket
+
+abbrev pub KeptBy : Mesh → Option Mesh → Type 0
+KeptBy m none = Unit {0}
+KeptBy m (some m') = Kept m m'
+
+module _ (m : Mesh) (e : Edge) where
+  turned-kept : (i j : ℕ) (s : Tri) (x y : ℕ) → Kept m (flipped m e i s j x y)
+  unfolding flipped set-tris set-cell with-live
+  turned-kept i j s x y = record { points = refl; used = refl; bucket = refl }
+
+  tris-kept : (i j : ℕ) (s t : Tri) → KeptBy m (flip-tris m e i s j t)
+  unfolding flip-tris
+  tris-kept i j s t = go (convex-pair m (e .0) (e .1) (third s e) (third t e))
+    where
+      go : (b : Bool) → KeptBy m (cond b (some (flipped m e i s j (third s e) (third t e))) none)
+      go true = turned-kept i j s (third s e) (third t e)
+      go false = tt
+
+  cells-kept : (i j : ℕ) (x y : Cell) → KeptBy m (flip-cells m e i x j y)
+  unfolding flip-cells
+  cells-kept i j (tri s) (tri t) = tris-kept i j s t
+  cells-kept i j (tri s) (quad q) = tt
+  cells-kept i j (quad q) c = tt
+
+  owners-kept : (l : List Live) → KeptBy m (flip-owners m e l)
+  unfolding flip-owners
+  owners-kept [] = tt
+  owners-kept (x ∷ []) = tt
+  owners-kept (x ∷ y ∷ []) = cells-kept (x .slot) (y .slot) (x .cell) (y .cell)
+  owners-kept (x ∷ y ∷ z ∷ l) = tt
+
+  pub flip-kept : KeptBy m (flip m e)
+  unfolding flip
+  flip-kept = owners-kept (owners m e)
+
+pub known-kept : (w w' : List ℕ) (q : List Float) (s p n : ℕ) (bucket : Float) (m m' : Mesh) → Known w q s p n bucket m → Kept m m' → Rep w' s p m' → Known w' q s p n bucket m'
+known-kept w w' q s p n bucket m m' k e r =
+    record {
+      rep = r;
+      pts = pts-as q p m m' (sym (e .points)) (k .pts);
+      count = ap length (e .points) ∙ k .count;
+      side = e .bucket ∙ k .side;
+    }
+
+module _ (w : List ℕ) (q : List Float) (s p n : ℕ) (bucket : Float) (m : Mesh) (k : Known w q s p n bucket m) (u v : ℕ) where
+  pub is-edge : Segment n u v → IsEdge p u v
+  is-edge g = record { node = omega (arith, g .first, k .count, k .rep .points); apart = g .apart }
+
+  pub is-up : (a b : ℕ) → FirstAt m n u v a b → Up p a b
+  is-up a b g = record { node = omega (arith, g .up, g .known, k .count, k .rep .points); up = g .up }
+
+-- ---- what a flip says
+
+record Turned (w : List ℕ) (s p : ℕ) (m : Mesh) (o : Option Mesh) : Type 0 where
+  pub mesh : Mesh
+  pub is : o ≡ some mesh
+  pub rep : Rep w s p mesh
+  pub kept : Kept m mesh
+
+flip-yes : (w : List ℕ) (s p : ℕ) (m : Mesh) (o : Option Mesh) (r : Bool) → FlipTo w s p m o r → KeptBy m o → r ≡ true → Turned w s p m o
+flip-yes w s p m none r h k e = absurd (true≢false (sym e ∙ h .0))
+flip-yes w s p m (some m') r h k e = record { mesh = m'; is = refl; rep = h .1; kept = k }
+
+record Unturned (w : List ℕ) (s p : ℕ) (m : Mesh) (o : Option Mesh) : Type 0 where
+  pub is : o ≡ none
+  pub rep : Rep w s p m
+
+flip-no : (w : List ℕ) (s p : ℕ) (m : Mesh) (o : Option Mesh) (r : Bool) → FlipTo w s p m o r → r ≡ false → Unturned w s p m o
+flip-no w s p m none r h e = record { is = refl; rep = h .1 }
+flip-no w s p m (some m') r h e = absurd (false≢true (sym e ∙ h .0))
+
+-- ---- the turns of recover
+
+module _ (u v : ℕ) (m : Mesh) where
+  in-there : (n : ℕ) → has-edge m u v ≡ true → recover-in (suc n) m u v ≡ record { there = true; mesh = m }
+  unfolding recover-in
+  in-there n h = rw (h, recover-in)
+
+  in-stuck : (n : ℕ) → has-edge m u v ≡ false → flip-first m (first-crossing m u v) ≡ none → recover-in (suc n) m u v ≡ record { there = false; mesh = m }
+  unfolding recover-in
+  in-stuck n h e = rw (h, e, recover-in)
+
+  in-more : (n : ℕ) (m' : Mesh) → has-edge m u v ≡ false → flip-first m (first-crossing m u v) ≡ some m' → recover-in (suc n) m u v ≡ recover-in n m' u v
+  unfolding recover-in
+  in-more n m' h e = rw (h, e, recover-in)
+
+  in-end : recover-in 0 m u v ≡ record { there = has-edge m u v; mesh = m }
+  unfolding recover-in
+  in-end = refl
+
+  first-none : first-crossing m u v ≡ none → flip-first m (first-crossing m u v) ≡ none
+  unfolding flip-first
+  first-none c = rw c
+
+  first-some : (a b : ℕ) → a < b → first-crossing m u v ≡ some (a, b) → flip-first m (first-crossing m u v) ≡ flip m (key a b)
+  unfolding flip-first
+  first-some a b up c = (rw c) ∙ ap (flip m) (sym (key-up a b up))
+
+-- after k flips
+pub record Going (w : List ℕ) (q : List Float) (s p n used : ℕ) (bucket : Float) (u v k : ℕ) (m₀ : Mesh) : Type 0 where
+  pub mesh : Mesh
+  pub known : Known w q s p n bucket mesh
+  pub given : mesh .used ≡ used
+  pub same : recover-in used m₀ u v ≡ recover-in (used - k) mesh u v
+
+pub going-start : (w : List ℕ) (q : List Float) (s p n used : ℕ) (bucket : Float) (u v : ℕ) (m : Mesh) → Known w q s p n bucket m → m .used ≡ used → Going w q s p n used bucket u v 0 m
+going-start w q s p n used bucket u v m k e =
+    let z : used ≡ used - 0 = omega arith in
+    record { mesh = m; known = k; given = e; same = ap (λ (i : ℕ). recover-in i m u v) z }
+
+one-less : (n k : ℕ) → k < n → n - k ≡ suc (n - (k + 1))
+one-less n k h = omega arith
+
+module _ (w : List ℕ) (q : List Float) (s p n used : ℕ) (bucket : Float) (u v k : ℕ) (m₀ : Mesh) (e₀ : m₀ .used ≡ used) (g : Going w q s p n used bucket u v k m₀) where
+  to-recover : (w' : List ℕ) (y : Recovered) (r : Bool) → recover-in (used - k) (g .mesh) u v ≡ y → r ≡ y .there → Known w' q s p n bucket (y .mesh) → y .mesh .used ≡ used
+      → RecoverTo w' q s p n used bucket (recover m₀ u v) r
+  unfolding recover
+  to-recover w' y r z h f d =
+      let x : recover-in (m₀ .used) m₀ u v ≡ y = ap (λ (i : ℕ). recover-in i m₀ u v) e₀ ∙ (g .same ∙ z) in
+      subst (λ (t : Recovered). RecoverTo w' q s p n used bucket t r) (sym x) (record { there = h; known = f; same = d })
+
+  more : k < used → recover-in (used - k) (g .mesh) u v ≡ recover-in (suc (used - (k + 1))) (g .mesh) u v
+  more h = ap (λ (i : ℕ). recover-in i (g .mesh) u v) (one-less used k h)
+
+  pub going-end : used ≤ k → (r : Bool) → r ≡ has-edge (g .mesh) u v → RecoverTo w q s p n used bucket (recover m₀ u v) r
+  going-end h r e =
+      let z : used - k ≡ 0 = omega arith in
+      to-recover w (record { there = has-edge (g .mesh) u v; mesh = g .mesh }) r (ap (λ (i : ℕ). recover-in i (g .mesh) u v) z ∙ in-end u v (g .mesh)) e (g .known) (g .given)
+
+  module _ (h : k < used) (r : Bool) (e : r ≡ has-edge (g .mesh) u v) where
+    pub going-there : r ≡ true → RecoverTo w q s p n used bucket (recover m₀ u v) true
+    going-there z =
+        to-recover w (record { there = true; mesh = g .mesh }) true (more h ∙ in-there u v (g .mesh) (used - (k + 1)) (sym e ∙ z)) refl (g .known) (g .given)
+
+    module _ (z : r ≡ false) where
+      pub going-none : first-crossing (g .mesh) u v ≡ none → RecoverTo w q s p n used bucket (recover m₀ u v) false
+      going-none c =
+          to-recover w (record { there = false; mesh = g .mesh }) false
+          (more h ∙ in-stuck u v (g .mesh) (used - (k + 1)) (sym e ∙ z) (first-none u v (g .mesh) c)) refl (g .known) (g .given)
+
+      module _ (a b : ℕ) (c : FirstAt (g .mesh) n u v a b) (w' : List ℕ) (t : Bool) (f : FlipTo w' s p (g .mesh) (flip (g .mesh) (key a b)) t) where
+        pub going-stuck : t ≡ false → RecoverTo w' q s p n used bucket (recover m₀ u v) false
+        going-stuck y =
+            let o = flip-no w' s p (g .mesh) (flip (g .mesh) (key a b)) t f y in
+            to-recover w' (record { there = false; mesh = g .mesh }) false
+            (more h ∙ in-stuck u v (g .mesh) (used - (k + 1)) (sym e ∙ z) (first-some u v (g .mesh) a b (c .up) (c .is) ∙ o .is)) refl
+            (known-kept w w' q s p n bucket (g .mesh) (g .mesh) (g .known) (record { points = refl; used = refl; bucket = refl }) (o .rep)) (g .given)
+
+        pub going-on : t ≡ true → Going w' q s p n used bucket u v (k + 1) m₀
+        going-on y =
+            let o = flip-yes w' s p (g .mesh) (flip (g .mesh) (key a b)) t f (flip-kept (g .mesh) (key a b)) y in
+            record {
+              mesh = o .mesh;
+              known = known-kept w w' q s p n bucket (g .mesh) (o .mesh) (g .known) (o .kept) (o .rep);
+              given = o .kept .used ∙ g .given;
+              same = g .same ∙ (more h ∙ in-more u v (g .mesh) (used - (k + 1)) (o .mesh) (sym e ∙ z) (first-some u v (g .mesh) a b (c .up) (c .is) ∙ o .is));
+            }

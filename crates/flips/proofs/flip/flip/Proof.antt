@@ -1,0 +1,193 @@
+use mathlib.Core.Path.{_≡_, ap, sym, _∙_, subst}
+use mathlib.Core.Bool.{true}
+use Prim.Native.Nat.{ℕ, _<_}
+use native.Mathlib.Omega.{arith}
+use lib.ListN.{length}
+use borrow.Author.Tests.{not-true, not-false}
+use Rattle.definition.specs.Cells.{Tri, Mesh}
+use Rattle.definition.specs.Flips.{third, convex-pair}
+use Rattle.plane.specs.Points.{Within}
+use Rattle.cells.specs.Layout.{mesh-end}
+use Rattle.cells.specs.Rep.{Rep, Pts}
+use Rattle.cells.proofs.Frames.{keeps-refl}
+use Rattle.cells.proofs.Slots.{rep-see}
+use Rattle.flips.specs.Nodes.{tri-read}
+use Rattle.flips.specs.Flip.{TwinsAt, CanTurn}
+use Rattle.flips.specs.Twins.{IsTwins}
+use Rattle.flips.proofs.Flips.{Third, Twin, twin1, twin2, flip-none, flip-flat, flip-done, can-turn, convex-apart, within, four}
+use borrow.Author.Needs.{needs}
+use Rattle.flips.proofs.flip.flip.Statement.{statement}
+use Rattle.flips.proofs.flip.flip.Tie as tie
+
+-- the function's entry, and the slots of the two triangles
+abbrev top : tie.After-known-told → tie.Start
+top k = k .before .before .before .before .before .before .before
+
+abbrev slot1 : tie.After-known-told → ℕ
+slot1 k = k .before .t .given .0 .0
+
+abbrev slot2 : tie.After-known-told → ℕ
+slot2 k = k .before .t .given .0 .1 .0
+
+module _ (k : tie.After-known-told) (m : Mesh) (r : Rep (top k .args .w .now) (top k .args .s) (top k .args .p) m) where
+  twins : TwinsAt m (top k .args .u) (top k .args .v) (slot1 k) (slot2 k)
+  twins = subst (λ x. IsTwins m (top k .args .u) (top k .args .v) x) (k .before .t .given .1) (k .before .before .before .two-tris .ensures m r)
+
+  apart : top k .args .u ≡ top k .args .v → ⊥
+  apart e = omega (arith, top k .pre .1 .up, e)
+
+  one : Twin (top k .args .w .now) (top k .args .s) (top k .args .u) (top k .args .v) (slot1 k) m (twins .s)
+  one = let a = top k .args in twin1 (a .w .now) (a .s) (a .p) (a .u) (a .v) m r apart (slot1 k) (slot2 k) twins
+
+  two : Twin (top k .args .w .now) (top k .args .s) (top k .args .u) (top k .args .v) (slot2 k) m (twins .t)
+  two = let a = top k .args in twin2 (a .w .now) (a .s) (a .p) (a .u) (a .v) m r apart (slot1 k) (slot2 k) twins
+
+-- after both third nodes were read
+abbrev known : tie.After-third2 → tie.After-known-told
+known n = n .before .before .before .before
+
+abbrev node1 : tie.After-third2 → ℕ
+node1 n = n .before .before .third .result
+
+abbrev node2 : tie.After-third2 → ℕ
+node2 n = n .third2 .result
+
+module _ (n : tie.After-third2) (m : Mesh) (r : Rep (top (known n) .args .w .now) (top (known n) .args .s) (top (known n) .args .p) m) where
+  is1 : node1 n ≡ third (twins (known n) m r .s) (top (known n) .args .u, top (known n) .args .v)
+  is1 = n .before .before .third .ensures ∙ ap (λ (t : Tri). third t (top (known n) .args .u, top (known n) .args .v)) (one (known n) m r .read)
+
+  is2 : node2 n ≡ third (twins (known n) m r .t) (top (known n) .args .u, top (known n) .args .v)
+  is2 = n .third2 .ensures ∙ ap (λ (t : Tri). third t (top (known n) .args .u, top (known n) .args .v)) (two (known n) m r .read)
+
+  third1 : Third (length (m .points)) (top (known n) .args .u) (top (known n) .args .v) (node1 n)
+  third1 = let a = top (known n) .args in subst (λ (x : ℕ). Third (length (m .points)) (a .u) (a .v) x) (sym is1) (one (known n) m r .third)
+
+  third2 : Third (length (m .points)) (top (known n) .args .u) (top (known n) .args .v) (node2 n)
+  third2 = let a = top (known n) .args in subst (λ (x : ℕ). Third (length (m .points)) (a .u) (a .v) x) (sym is2) (two (known n) m r .third)
+
+-- after the test of the pair
+module _ (v : tie.After-convex-pair) (m : Mesh) (r : Rep (top (known (v .before)) .args .w .now) (top (known (v .before)) .args .s) (top (known (v .before)) .args .p) m) (q : Pts (top (known (v .before)) .args .q .now) (top (known (v .before)) .args .p) m) where
+  is-convex : v .convex-pair .result ≡ convex-pair m (top (known (v .before)) .args .u) (top (known (v .before)) .args .v) (node1 (v .before)) (node2 (v .before))
+  is-convex =
+      let a = top (known (v .before)) .args in
+      let f = third1 (v .before) m r in
+      v .convex-pair .ensures m (four (a .q .now) (a .p) m q (a .u) (a .v) (node1 (v .before)) (node2 (v .before)) (f .u-known) (f .v-known) (f .x-known) (third2 (v .before) m r .x-known))
+
+  can : v .convex-pair .result ≡ true
+      → CanTurn m (top (known (v .before)) .args .u) (top (known (v .before)) .args .v) (slot1 (known (v .before))) (slot2 (known (v .before))) (node1 (v .before)) (node2 (v .before))
+  can h =
+      let a = top (known (v .before)) .args in
+      let n = v .before in
+      can-turn m (a .u) (a .v) (slot1 (known n)) (slot2 (known n)) (node1 n) (node2 n) (one (known n) m r .given) (two (known n) m r .given) (third1 n m r) (third2 n m r)
+      (convex-apart m (a .u) (a .v) (node1 n) (node2 n) (sym is-convex ∙ h))
+
+two-tris-requires : tie.Need-two-tris-requires
+two-tris-requires c κs = search needs
+
+enum-known-t : tie.Need-enum-known-t
+enum-known-t c = search needs
+
+enum-told : tie.Need-enum-told
+enum-told c = search needs
+
+same-length : tie.Need-same-length
+same-length c = search needs
+
+returns : tie.Need-returns
+returns c =
+    let k = c .before .before in
+    let a = k .before .before .before .before .args in
+    record {
+      is = λ m r q. flip-none (a .w .now) (a .s) (a .p) m (a .u) (a .v) (subst (λ x. IsTwins m (a .u) (a .v) x) (c .enum-told .given .1) (k .two-tris .ensures m r)) r;
+      keeps = keeps-refl (a .w .now) (mesh-end (a .s) (a .p));
+    }
+
+third-requires : tie.Need-third-requires
+third-requires c κs =
+    let k = c .before in
+    let t = top k in
+    let a = t .args in
+    let m = t .pre .0 .0 in
+    let r = t .pre .0 .1 in
+    rep-see (a .w .now) (a .s) (a .p) m r (slot1 k) (omega (arith, one k m r .given, r .used))
+
+third-requires-2 : tie.Need-third-requires-2
+third-requires-2 c κs =
+    let k = c .before .before .before in
+    let t = top k in
+    let a = t .args in
+    let m = t .pre .0 .0 in
+    let r = t .pre .0 .1 in
+    rep-see (a .w .now) (a .s) (a .p) m r (slot2 k) (omega (arith, two k m r .given, r .used))
+
+convex-pair-requires : tie.Need-convex-pair-requires
+convex-pair-requires c κs =
+    let t = top (known c) in
+    let a = t .args in
+    let m = t .pre .0 .0 in
+    let r = t .pre .0 .1 in
+    let f = third1 c m r in
+    let g = third2 c m r in
+    let in-slice : (x : ℕ) → x < length (m .points) → Within (a .q .now) x = λ x h. within (a .q .now) (a .p) (length (m .points)) x h (r .points) (t .pre .0 .2 .fits) in
+    (in-slice (a .u) (f .u-known), in-slice (a .v) (f .v-known), in-slice (node1 c) (f .x-known), in-slice (node2 c) (g .x-known))
+
+same-length-2 : tie.Need-same-length-2
+same-length-2 c = search needs
+
+returns-2 : tie.Need-returns-2
+returns-2 c =
+    let v = c .before in
+    let n = v .before in
+    let k = known n in
+    let a = top k .args in
+    record {
+      is = λ m r q.
+          flip-flat (a .s) (a .p) m (a .u) (a .v) (slot1 k) (slot2 k) (top k .pre .1 .up) (twins k m r) (node1 n) (node2 n) (is1 n m r) (is2 n m r)
+          (v .convex-pair .result) (is-convex v m r q) (a .w .now) (not-true (v .convex-pair .result) (c .if1 .taken)) r;
+      keeps = keeps-refl (a .w .now) (mesh-end (a .s) (a .p));
+    }
+
+turn-requires : tie.Need-turn-requires
+turn-requires c κs =
+    let e = c .before in
+    let v = e .before in
+    let t = top (known (v .before)) in
+    (t .pre .0 .0, t .pre .0 .1, can v (t .pre .0 .0) (t .pre .0 .1) (t .pre .0 .2) (not-false (v .convex-pair .result) (e .if1 .left)))
+
+same-length-3 : tie.Need-same-length-3
+same-length-3 c = search needs
+
+returns-3 : tie.Need-returns-3
+returns-3 c =
+    let s = c .before .before in
+    let e = s .before .before in
+    let v = e .before in
+    let n = v .before in
+    let k = known n in
+    let a = top k .args in
+    let yes = not-false (v .convex-pair .result) (e .if1 .left) in
+    record {
+      is = λ m r q.
+          flip-done (a .s) (a .p) m (a .u) (a .v) (slot1 k) (slot2 k) (top k .pre .1 .up) (twins k m r) (node1 n) (node2 n) (is1 n m r) (is2 n m r)
+          (v .convex-pair .result) (is-convex v m r q) (s .turn .last .0) yes (tri-read (a .w .now) (a .s) (slot1 k)) (one k m r .read)
+          (s .turn .ensures .rep m r (can v m r q yes));
+      keeps = s .turn .ensures .keeps;
+    }
+
+pub flip-spec : {M : Type 1} → statement M
+flip-spec =
+    tie.close
+    (tie.spec
+    two-tris-requires
+    enum-known-t
+    enum-told
+    same-length
+    returns
+    third-requires
+    third-requires-2
+    convex-pair-requires
+    same-length-2
+    returns-2
+    turn-requires
+    same-length-3
+    returns-3)

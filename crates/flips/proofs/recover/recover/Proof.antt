@@ -1,0 +1,199 @@
+-- After k flips the memory stands for a mesh from which the rest of the flips gives what the whole recovery gives.
+use mathlib.Core.Path.{_≡_, _∙_, subst}
+use Prim.Native.Nat.{_-_, _≤_}
+use native.Mathlib.Omega.{arith}
+use borrow.Author.Needs.{needs}
+use borrow.Author.Tests.{not-true, not-false}
+use Rattle.definition.specs.Cells.{Mesh}
+use Rattle.cells.specs.Layout.{mesh-end}
+use Rattle.cells.specs.Frames.{Keeps}
+use Rattle.cells.proofs.Frames.{keeps-refl, keeps-trans}
+use Rattle.flips.specs.Cross.{Known, FirstAt}
+use Rattle.flips.specs.Crossings.{IsFirst}
+use Rattle.flips.proofs.Recovers.{is-edge, is-up, Going, going-start, going-there, going-none, going-stuck, going-on, going-end}
+use Rattle.flips.proofs.recover.recover.Statement.{statement}
+use Rattle.flips.proofs.recover.recover.Tie as tie
+
+abbrev Inv-loop : tie.InvT-loop
+Inv-loop w₀ q s p n used bucket u v k₀ w k =
+    (k ≤ used) × Keeps w₀ w (mesh-end s p) × ((m : Mesh) → Known w₀ q s p n bucket m → m .used ≡ used → Going w q s p n used bucket u v k m)
+
+abbrev μ-loop : tie.MeasureT-loop
+μ-loop w₀ q s p n used bucket u v k₀ w k = used - k
+
+loop-holds : tie.Need-loop-holds Inv-loop μ-loop
+loop-holds c =
+    let a = c .before .before .args in
+    (omega arith, keeps-refl (a .w .now) (mesh-end (a .s) (a .p)), λ m k e. going-start (a .w .now) (a .q .now) (a .s) (a .p) (a .n) (a .used) (a .bucket) (a .u) (a .v) m k e)
+
+has-edge-requires : tie.Need-has-edge-requires Inv-loop μ-loop
+has-edge-requires c κs =
+    let l = c .before .before in
+    let t = l .before .before .before in
+    let a = t .args in
+    let g = l .loop .inv .2 (t .pre .0 .0) (t .pre .0 .1) (t .pre .0 .2) in
+    ((g .mesh, g .known .rep), is-edge (l .loop .w) (a .q .now) (a .s) (a .p) (a .n) (a .bucket) (g .mesh) (g .known) (a .u) (a .v) (t .pre .1))
+
+same-length : tie.Need-same-length Inv-loop μ-loop
+same-length c = c .before .before .before .before .loop .inv .1 .len
+
+returns : tie.Need-returns Inv-loop μ-loop
+returns c =
+    let h = c .before in
+    let i = h .before .before in
+    let l = i .before in
+    let a = l .before .before .before .args in
+    record {
+      is = λ m k e.
+          let g = l .loop .inv .2 m k e in
+          going-there (l .loop .w) (a .q .now) (a .s) (a .p) (a .n) (a .used) (a .bucket) (a .u) (a .v) (l .loop .k) m e g (i .loop-test .taken)
+          (h .has-edge .result) (h .has-edge .ensures (g .mesh) (g .known .rep)) (c .if1 .taken);
+      keeps = l .loop .inv .1;
+    }
+
+first-crossing-requires : tie.Need-first-crossing-requires Inv-loop μ-loop
+first-crossing-requires c κs =
+    let l = c .before .before .before .before .before in
+    let t = l .before .before .before in
+    let g = l .loop .inv .2 (t .pre .0 .0) (t .pre .0 .1) (t .pre .0 .2) in
+    ((g .mesh, g .known), t .pre .1)
+
+enum-known-e : tie.Need-enum-known-e Inv-loop μ-loop
+enum-known-e c = search needs
+
+enum-told : tie.Need-enum-told Inv-loop μ-loop
+enum-told c = search needs
+
+same-length-2 : tie.Need-same-length-2 Inv-loop μ-loop
+same-length-2 c = c .before .before .before .before .before .before .before .before .loop .inv .1 .len
+
+returns-2 : tie.Need-returns-2 Inv-loop μ-loop
+returns-2 c =
+    let f = c .before .before in
+    let e1 = f .before .before in
+    let h = e1 .before in
+    let i = h .before .before in
+    let l = i .before in
+    let a = l .before .before .before .args in
+    record {
+      is = λ m k e.
+          let g = l .loop .inv .2 m k e in
+          going-none (l .loop .w) (a .q .now) (a .s) (a .p) (a .n) (a .used) (a .bucket) (a .u) (a .v) (l .loop .k) m e g (i .loop-test .taken)
+          (h .has-edge .result) (h .has-edge .ensures (g .mesh) (g .known .rep)) (e1 .if1 .left)
+          (subst (λ x. IsFirst (g .mesh) (a .n) (a .u) (a .v) x) (c .enum-told .given .1) (f .first-crossing .ensures (g .mesh) (g .known)));
+      keeps = l .loop .inv .1;
+    }
+
+flip-requires : tie.Need-flip-requires Inv-loop μ-loop
+flip-requires c κs =
+    let k = c .before in
+    let f = k .before .before .before in
+    let l = f .before .before .before .before .before .before in
+    let t = l .before .before .before in
+    let a = t .args in
+    let g = l .loop .inv .2 (t .pre .0 .0) (t .pre .0 .1) (t .pre .0 .2) in
+    let z : FirstAt (g .mesh) (a .n) (a .u) (a .v) (k .before .e .given .0 .0) (k .before .e .given .0 .1 .0) =
+    subst (λ x. IsFirst (g .mesh) (a .n) (a .u) (a .v) x) (k .before .e .given .1) (f .first-crossing .ensures (g .mesh) (g .known)) in (
+      (g .mesh, g .known .rep, g .known .pts),
+      is-up (l .loop .w) (a .q .now) (a .s) (a .p) (a .n) (a .bucket) (g .mesh) (g .known) (a .u) (a .v) (k .before .e .given .0 .0) (k .before .e .given .0 .1 .0) z,
+    )
+
+same-length-3 : tie.Need-same-length-3 Inv-loop μ-loop
+same-length-3 c =
+    let q = c .before .before .before in
+    q .flip .kept .0 ∙ q .before .before .before .before .before .before .before .before .before .before .before .loop .inv .1 .len
+
+returns-3 : tie.Need-returns-3 Inv-loop μ-loop
+returns-3 c =
+    let q = c .before .before .before in
+    let k = q .before .before in
+    let f = k .before .before .before in
+    let e1 = f .before .before in
+    let h = e1 .before in
+    let i = h .before .before in
+    let l = i .before in
+    let a = l .before .before .before .args in
+    record {
+      is = λ m j e.
+          let g = l .loop .inv .2 m j e in
+          going-stuck (l .loop .w) (a .q .now) (a .s) (a .p) (a .n) (a .used) (a .bucket) (a .u) (a .v) (l .loop .k) m e g (i .loop-test .taken)
+          (h .has-edge .result) (h .has-edge .ensures (g .mesh) (g .known .rep)) (e1 .if1 .left) (k .before .e .given .0 .0) (k .before .e .given .0 .1 .0)
+          (subst (λ x. IsFirst (g .mesh) (a .n) (a .u) (a .v) x) (k .before .e .given .1) (f .first-crossing .ensures (g .mesh) (g .known)))
+          (q .flip .last .0) (q .flip .result) (q .flip .ensures .is (g .mesh) (g .known .rep) (g .known .pts)) (not-true (q .flip .result) (c .if2 .taken));
+      keeps = keeps-trans (a .w .now) (l .loop .w) (q .flip .last .0) (mesh-end (a .s) (a .p)) (l .loop .inv .1) (q .flip .ensures .keeps);
+    }
+
+add-k : tie.Need-add-k Inv-loop μ-loop
+add-k c = search needs
+
+loop-less : tie.Need-loop-less Inv-loop μ-loop
+loop-less c = search needs
+
+loop-again : tie.Need-loop-again Inv-loop μ-loop
+loop-again c =
+    let q = c .before .before .before in
+    let k = q .before .before in
+    let f = k .before .before .before in
+    let e1 = f .before .before in
+    let h = e1 .before in
+    let i = h .before .before in
+    let l = i .before in
+    let a = l .before .before .before .args in (
+      omega (arith, i .loop-test .taken),
+      keeps-trans (a .w .now) (l .loop .w) (q .flip .last .0) (mesh-end (a .s) (a .p)) (l .loop .inv .1) (q .flip .ensures .keeps),
+      λ m j e.
+          let g = l .loop .inv .2 m j e in
+          going-on (l .loop .w) (a .q .now) (a .s) (a .p) (a .n) (a .used) (a .bucket) (a .u) (a .v) (l .loop .k) m e g (i .loop-test .taken)
+          (h .has-edge .result) (h .has-edge .ensures (g .mesh) (g .known .rep)) (e1 .if1 .left) (k .before .e .given .0 .0) (k .before .e .given .0 .1 .0)
+          (subst (λ x. IsFirst (g .mesh) (a .n) (a .u) (a .v) x) (k .before .e .given .1) (f .first-crossing .ensures (g .mesh) (g .known)))
+          (q .flip .last .0) (q .flip .result) (q .flip .ensures .is (g .mesh) (g .known .rep) (g .known .pts)) (not-false (q .flip .result) (c .if2 .left)),
+    )
+
+has-edge-requires-2 : tie.Need-has-edge-requires-2 Inv-loop μ-loop
+has-edge-requires-2 c κs =
+    let l = c .before .before in
+    let t = l .before .before .before in
+    let a = t .args in
+    let g = l .loop .inv .2 (t .pre .0 .0) (t .pre .0 .1) (t .pre .0 .2) in
+    ((g .mesh, g .known .rep), is-edge (l .loop .w) (a .q .now) (a .s) (a .p) (a .n) (a .bucket) (g .mesh) (g .known) (a .u) (a .v) (t .pre .1))
+
+same-length-4 : tie.Need-same-length-4 Inv-loop μ-loop
+same-length-4 c = c .before .before .before .loop .inv .1 .len
+
+returns-4 : tie.Need-returns-4 Inv-loop μ-loop
+returns-4 c =
+    let n = c .before .before in
+    let l = n .before in
+    let a = l .before .before .before .args in
+    record {
+      is = λ m k e.
+          let g = l .loop .inv .2 m k e in
+          going-end (l .loop .w) (a .q .now) (a .s) (a .p) (a .n) (a .used) (a .bucket) (a .u) (a .v) (l .loop .k) m e g (n .loop-test .left)
+          (c .has-edge2 .result) (c .has-edge2 .ensures (g .mesh) (g .known .rep));
+      keeps = l .loop .inv .1;
+    }
+
+pub recover-spec : {M : Type 1} → statement M
+recover-spec =
+    tie.close
+    (tie.spec
+    Inv-loop
+    μ-loop
+    loop-holds
+    has-edge-requires
+    same-length
+    returns
+    first-crossing-requires
+    enum-known-e
+    enum-told
+    same-length-2
+    returns-2
+    flip-requires
+    same-length-3
+    returns-3
+    add-k
+    loop-less
+    loop-again
+    has-edge-requires-2
+    same-length-4
+    returns-4)

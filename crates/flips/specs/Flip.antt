@@ -1,0 +1,48 @@
+-- What a flip asks and gives.
+use mathlib.Core.Path.{_≡_}
+use mathlib.Core.Bool.{Bool, true, false}
+use mathlib.Core.List.{List, [], _∷_}
+use mathlib.Core.Option.{Option, none, some}
+use Prim.Native.Nat.{ℕ, _<_}
+use lib.ListN.{length, getD}
+use lib.Ieee.{Float}
+use Rattle.definition.specs.Cells.{Tri, tri, Mesh, new-live, key, owners}
+use Rattle.definition.specs.Flips.{flip}
+use Rattle.cells.specs.Layout.{mesh-end}
+use Rattle.cells.specs.Rep.{Rep, Pts}
+use Rattle.cells.specs.Frames.{Keeps}
+
+-- both slots hold triangles
+pub record Kinds (w : List ℕ) (i j : ℕ) : Type 0 where
+  pub first : getD w i 0 ≡ 3
+  pub second : getD w j 0 ≡ 3
+
+-- the owners of u-v are two triangles, in slots i and j
+pub record TwinsAt (m : Mesh) (u v i j : ℕ) : Type 0 where
+  pub s : Tri
+  pub t : Tri
+  pub own : owners m (key u v) ≡ new-live i (tri s) ∷ new-live j (tri t) ∷ []
+
+-- the slots i and j were given out, and u, v, x, y are four nodes
+pub record CanTurn (m : Mesh) (u v i j x y : ℕ) : Type 0 where
+  pub i-given : i < m .used
+  pub j-given : j < m .used
+  pub u-known : u < length (m .points)
+  pub v-known : v < length (m .points)
+  pub x-known : x < length (m .points)
+  pub y-known : y < length (m .points)
+  pub xy : x ≡ y → ⊥
+  pub xu : x ≡ u → ⊥
+  pub xv : x ≡ v → ⊥
+  pub yu : y ≡ u → ⊥
+  pub yv : y ≡ v → ⊥
+
+-- the answer, and the mesh that the memory stands for afterwards
+abbrev pub FlipTo : List ℕ → ℕ → ℕ → Mesh → Option Mesh → Bool → Type 0
+FlipTo w s p m none r = (r ≡ false) × Rep w s p m
+FlipTo w s p m (some m') r = (r ≡ true) × Rep w s p m'
+
+-- the edge u-v was flipped as the definition says, for each mesh that the memory stood for; beyond the mesh's own areas nothing changed
+pub record Flips (w w' : List ℕ) (q : List Float) (s p u v : ℕ) (r : Bool) : Type 0 where
+  pub is : (m : Mesh) → Rep w s p m → Pts q p m → FlipTo w' s p m (flip m (key u v)) r
+  pub keeps : Keeps w w' (mesh-end s p)

@@ -1,0 +1,42 @@
+// An edge recovered by flips.
+use crate::cross::Crossing;
+use crate::cross::first_crossing;
+use crate::flip::flip;
+use cells::find::has_edge;
+ghost use mathlib.Core.Path.{_≡_};
+ghost use Rattle.definition.specs.Cells.{Mesh};
+ghost use Rattle.flips.specs.Cross.{Known, Segment};
+ghost use Rattle.flips.specs.Recover.{Recovers};
+
+// The edge u-v recovered by flips of edges that cross it, at most as many as slots were given out; the flips made stay.
+pub fn recover(
+    w: &mut [u32],
+    q: &[f64],
+    s: usize,
+    p: usize,
+    n: usize,
+    used: usize,
+    bucket: f64,
+    u: usize,
+    v: usize,
+) -> bool
+    requires { ⌜ ((m : Mesh) × Known (now w) (now q) s p n bucket m × (m .used ≡ used)) ⌝ }
+    requires { ⌜ Segment n u v ⌝ }
+    ensures { λ r. ⌜ Recovers (now (w .entry)) (now (w .exit)) (now (q .entry)) s p n used bucket u v r ⌝ }
+{
+    let mut k = 0;
+    while k < used {
+        if has_edge(w, s, p, u, v) {
+            return true;
+        }
+        let e = first_crossing(w, q, s, p, n, bucket, u, v);
+        let Crossing::At(a, b) = e else {
+            return false;
+        };
+        if !flip(w, q, s, p, a, b) {
+            return false;
+        }
+        k += 1;
+    }
+    has_edge(w, s, p, u, v)
+}

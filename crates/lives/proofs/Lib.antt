@@ -1,0 +1,6 @@
+pub mod Lists
+pub mod Scratches
+pub mod Pushes
+pub mod Takes
+pub mod Walking
+pub mod Steps

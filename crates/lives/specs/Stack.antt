@@ -1,0 +1,132 @@
+-- The live region in hand: a mark for each slot, the list of the cells in reach, and the stack as a ring of s + 1 codes with the sentinel s.
+use mathlib.Core.Path.{_≡_}
+use mathlib.Core.Bool.{Bool, true, false}
+use mathlib.Core.List.{List, [], _∷_, _++_}
+use Prim.Native.Nat.{ℕ, suc, _+_, _*_, _^_, _<_, _≤_}
+use lib.ListN.{length, getD}
+use lib.Ieee.{Float}
+use Rattle.rings.specs.Rings.{Distinct, Below, Ring}
+use Rattle.definition.specs.Lists.{any}
+use Rattle.definition.specs.Cells.{Live, Mesh, live-tri, in-slot}
+use Rattle.cells.specs.Layout.{codes, marks-at, others-at, list-at, refused-at, stack-at, all-end}
+use Rattle.cells.specs.Rep.{Rep, Pts, Has, slots}
+
+-- the numbers of l stand from b on
+abbrev pub Stored : List ℕ → ℕ → List ℕ → Type 0
+Stored w b [] = Unit {0}
+Stored w b (x ∷ l) = (getD w b 0 ≡ x) × Stored w (b + 1) l
+
+-- each is a live triangle
+abbrev pub Inner : Mesh → List Live → Type 0
+Inner m [] = Unit {0}
+Inner m (x ∷ l) = Has x (m .live) × (live-tri x ≡ true) × Inner m l
+
+-- turned round: the ring's last code is the top
+abbrev pub rev : List ℕ → List ℕ
+rev [] = []
+rev (x ∷ l) = rev l ++ x ∷ []
+
+-- a cell of slot i is in the list
+abbrev pub listed : ℕ → List Live → Bool
+listed i l = any (in-slot i) l
+
+-- 2 seen, 1 on the stack, 0 neither
+abbrev pub mark : Bool → Bool → ℕ
+mark true b = 2
+mark false true = 1
+mark false false = 0
+
+-- none of the second was seen
+abbrev pub Fresh : List Live → List Live → Type 0
+Fresh seen [] = Unit {0}
+Fresh seen (x ∷ l) = (listed (x .slot) seen ≡ false) × Fresh seen l
+
+-- the slot on top, or another number
+abbrev pub top-or : ℕ → List Live → ℕ
+top-or n [] = n
+top-or n (x ∷ st) = x .slot
+
+-- nothing changed but marks, list and stack
+pub record Scratch (w w' : List ℕ) (s p : ℕ) : Type 0 where
+  pub len : length w' ≡ length w
+  pub mesh : (i : ℕ) → i < marks-at s p → getD w' i 0 ≡ getD w i 0
+  pub others : (i : ℕ) → others-at s p ≤ i → i < list-at s p → getD w' i 0 ≡ getD w i 0
+  pub rest : (i : ℕ) → refused-at s p ≤ i → i < stack-at s p → getD w' i 0 ≡ getD w i 0
+
+-- the cells in reach so far, those seen and those on the stack
+pub record Hold (w : List ℕ) (s p : ℕ) (m : Mesh) (out seen st : List Live) : Type 0 where
+  pub rep : Rep w s p m
+  pub fits : all-end s p ≤ length w
+  pub ring : Ring w (stack-at s p) (s + 1) s (rev (slots st))
+  pub stack : Inner m st
+  pub inner : Inner m out
+  pub fresh : Fresh seen st
+  pub distinct : Distinct (slots seen)
+  pub below : Below (m .used) (slots seen)
+  pub few : length out ≤ length seen
+  pub stored : Stored w (list-at s p) (slots out)
+  pub marks : (i : ℕ) → i < m .used → getD w (marks-at s p + i) 0 ≡ mark (listed i seen) (listed i st)
+
+-- and so after a change
+pub record PushTo (w w' : List ℕ) (s p : ℕ) (m : Mesh) (out seen st : List Live) : Type 0 where
+  pub hold : Hold w' s p m out seen st
+  pub scratch : Scratch w w' s p
+
+-- the live cell e, in slot j, is met
+pub record Met (w : List ℕ) (s p j : ℕ) (m : Mesh) (out seen st : List Live) (e : Live) : Type 0 where
+  pub hold : Hold w s p m out seen st
+  pub has : Has e (m .live)
+  pub slot : j ≡ e .slot
+  pub inside : j < s
+
+-- x, in slot i, is on top
+pub record OnTop (w : List ℕ) (s p i : ℕ) (m : Mesh) (out seen st : List Live) (x : Live) : Type 0 where
+  pub hold : Hold w s p m out seen (x ∷ st)
+  pub slot : i ≡ x .slot
+  pub inside : i < s
+
+-- so with n cells in the list
+pub record StepFrom (w : List ℕ) (s p n i : ℕ) (m : Mesh) (out seen st : List Live) (x : Live) : Type 0 where
+  pub top : OnTop w s p i m out seen st x
+  pub len : n ≡ length out
+
+-- x, in slot i, may come to the end of the list of n
+pub record CanList (w : List ℕ) (s p n i : ℕ) (m : Mesh) (out seen st : List Live) (x : Live) : Type 0 where
+  pub hold : Hold w s p m out seen st
+  pub slot : i ≡ x .slot
+  pub has : Has x (m .live)
+  pub tri : live-tri x ≡ true
+  pub len : n ≡ length out
+  pub more : n < length seen
+  pub inside : i < s
+  pub room : n < s
+
+-- a visit is done, with r cells in the list
+pub record StepTo (w w' : List ℕ) (s p r : ℕ) (m : Mesh) (out seen st : List Live) : Type 0 where
+  pub to : PushTo w w' s p m out seen st
+  pub len : r ≡ length out
+
+-- the lent slices stand for the mesh, of which so many slots were given out
+pub record Lent (w : List ℕ) (q : List Float) (s p used : ℕ) (m : Mesh) : Type 0 where
+  pub rep : Rep w s p m
+  pub pts : Pts q p m
+  pub given : used ≡ m .used
+
+-- the r live triangles `out` are listed in their order
+pub record LiveTo (w w' : List ℕ) (s p r : ℕ) (m : Mesh) (out : List Live) : Type 0 where
+  pub len : r ≡ length out
+  pub few : r ≤ s
+  pub stored : Stored w' (list-at s p) (slots out)
+  pub inner : Inner m out
+  pub scratch : Scratch w w' s p
+
+-- the marks of the first n slots are 0
+pub record Unmarked (w w' : List ℕ) (s p n : ℕ) : Type 0 where
+  pub zero : (i : ℕ) → i < n → getD w' (marks-at s p + i) 0 ≡ 0
+  pub scratch : Scratch w w' s p
+
+-- what clearing so many marks asks
+pub record CanClear (w : List ℕ) (s p n : ℕ) : Type 0 where
+  pub fits : all-end s p ≤ length w
+  pub small : codes s p ≤ 2 ^ 32
+  pub few : n ≤ s

@@ -1,0 +1,109 @@
+-- The listed cells removed one after the other: what `remove-cells` removes at once.
+use mathlib.Core.Path.{_≡_, refl, ap, sym, _∙_, subst}
+use mathlib.Core.Logic.{_≢_}
+use mathlib.Core.Bool.{Bool, true, false, not, cond, _||_}
+use mathlib.Core.List.{List, [], _∷_, _++_}
+use Prim.Native.Nat.{ℕ, zero, suc, _+_, _-_, _*_, _≤_, _<_}
+use native.Mathlib.Omega.{arith}
+use lib.Dec.{eqb}
+use lib.ListN.{length, getD, drop}
+use borrow.Author.Tests.{eq-eqb, ne-eqb}
+use Rattle.rings.proofs.Lists.{Same, same, differ, decide}
+use Rattle.definition.specs.Lists.{filter, any}
+use Rattle.definition.specs.Cells.{Quad, quad, Live, Mesh, with-live, in-slot, among, without, without-all, remove-cell, remove-cells, push-cell, new-live, new-quad}
+use Rattle.definition.specs.Attempt.{replaced}
+use Rattle.cells.specs.Layout.{mesh-end, list-at}
+use Rattle.cells.specs.Rep.{Rep}
+use Rattle.cells.specs.Frames.{Keeps}
+use Rattle.cells.proofs.Frames.{keeps-refl, keeps-trans}
+use Rattle.meshes.specs.Changes.{Turns, Anything, CanPush, quad-of-nodes}
+use Rattle.regions.specs.Listing.{Listed}
+use Rattle.regions.specs.Flood.{tri-live}
+use Rattle.regions.specs.Fill.{Gone, Replaced}
+use Rattle.regions.proofs.Visits.{tri-inside}
+use Rattle.regions.proofs.Fills.{Item, item, items-end}
+
+-- ---- one after the other
+
+unfoldable pub removes : Mesh → List Live → Mesh
+removes m [] = m
+removes m (x ∷ xs) = removes (remove-cell m (x .slot)) xs
+
+eqb-swap : (a b : ℕ) → eqb a b ≡ eqb b a
+eqb-swap a b = go (decide a b)
+  where
+    go : Same a b → eqb a b ≡ eqb b a
+    go (same e) = eq-eqb a b e ∙ sym (eq-eqb b a (sym e))
+    go (differ e) = ne-eqb a b e ∙ sym (ne-eqb b a (λ q. e (sym q)))
+
+none-gone : (l : List Live) → without-all [] l ≡ l
+unfolding without-all filter among any
+none-gone [] = refl
+none-gone (y ∷ l) = ap (λ (k : List Live). y ∷ k) (none-gone l)
+
+one-gone : (x : Live) (xs l : List Live) → without-all xs (without (x .slot) l) ≡ without-all (x ∷ xs) l
+unfolding without-all without filter among any in-slot
+one-gone x xs [] = refl
+one-gone x xs (y ∷ l) = go (eqb (x .slot) (y .slot)) refl (one-gone x xs l)
+  where
+    go : (b : Bool) → eqb (x .slot) (y .slot) ≡ b → without-all xs (without (x .slot) l) ≡ without-all (x ∷ xs) l
+        → without-all xs (cond (not (eqb (x .slot) (y .slot))) (y ∷ without (x .slot) l) (without (x .slot) l))
+        ≡ cond (not (eqb (y .slot) (x .slot) || any (in-slot (y .slot)) xs)) (y ∷ without-all (x ∷ xs) l) (without-all (x ∷ xs) l)
+    go true e h =
+        ap (λ (b : Bool). without-all xs (cond (not b) (y ∷ without (x .slot) l) (without (x .slot) l))) e ∙ h
+        ∙ sym (ap (λ (b : Bool). cond (not (b || any (in-slot (y .slot)) xs)) (y ∷ without-all (x ∷ xs) l) (without-all (x ∷ xs) l)) (eqb-swap (y .slot) (x .slot) ∙ e))
+    go false e h =
+        ap (λ (b : Bool). without-all xs (cond (not b) (y ∷ without (x .slot) l) (without (x .slot) l))) e
+        ∙ ap (λ (k : List Live). cond (not (any (in-slot (y .slot)) xs)) (y ∷ k) k) h
+        ∙ sym (ap (λ (b : Bool). cond (not (b || any (in-slot (y .slot)) xs)) (y ∷ without-all (x ∷ xs) l) (without-all (x ∷ xs) l)) (eqb-swap (y .slot) (x .slot) ∙ e))
+
+removes-all : (m : Mesh) (xs : List Live) → removes m xs ≡ remove-cells m xs
+unfolding removes remove-cells remove-cell with-live
+removes-all m [] = sym (ap (λ (l : List Live). with-live m (m .used) l) (none-gone (m .live)))
+removes-all m (x ∷ xs) = removes-all (remove-cell m (x .slot)) xs ∙ ap (λ (l : List Live). with-live m (m .used) l) (one-gone x xs (m .live))
+
+-- ---- the loop: the cells of the first i places are gone
+
+pub record Removing (w : List ℕ) (s p i : ℕ) (m : Mesh) (xs : List Live) : Type 0 where
+  pub now : Mesh
+  pub rep : Rep w s p now
+  pub rest : removes now (drop i xs) ≡ remove-cells m xs
+
+pub remove-start : (w : List ℕ) (s p n : ℕ) (m : Mesh) (xs : List Live) → Listed w s p n m xs → Removing w s p 0 m xs
+remove-start w s p n m xs h = record { now = m; rep = h .rep; rest = removes-all m xs }
+
+module _ (w₀ w : List ℕ) (s p n i : ℕ) (m : Mesh) (xs : List Live) (h : Listed w₀ s p n m xs) (k : Keeps w₀ w (mesh-end s p)) (g : Removing w s p i m xs) where
+  pub remove-end : n ≤ i → Rep w s p (remove-cells m xs)
+  unfolding removes
+  remove-end l = subst (λ (v : Mesh). Rep w s p v) (sym (ap (removes (g .now)) (items-end w₀ s p n i m xs h l)) ∙ g .rest) (g .rep)
+
+  module _ (l : i < n) (j : ℕ) (e : j ≡ getD w (list-at s p + i) 0) where
+    here : Item m xs i j
+    here = item w₀ s p n i m xs h l j (e ∙ k .high (list-at s p + i) (omega arith))
+
+    pub removed-inside : j < s
+    removed-inside = tri-inside w₀ s p m (h .rep) j (here .tri)
+
+    pub remove-more : (w' : List ℕ) → Turns w w' s p Anything (λ m. remove-cell m j) → Removing w' s p (i + 1) m xs
+    unfolding removes new-live
+    remove-more w' t =
+        record {
+          now = remove-cell (g .now) j;
+          rep = t .rep (g .now) (g .rep) tt;
+          rest = sym (ap (removes (g .now)) (here .is)) ∙ g .rest;
+        }
+
+-- ---- the quad
+
+module _ (w w1 w2 : List ℕ) (s p i n a b c d : ℕ) (g : Gone w w1 s p n remove-cells) (t : Turns w1 w2 s p (λ m. CanPush m s i (quad-of-nodes a b c d)) (λ m. push-cell m (quad-of-nodes a b c d))) where
+  pub replacing : Replaced w w2 s p i n a b c d
+  unfolding replaced remove-cells with-live
+  replacing =
+      record {
+        rep = λ m xs h k. t .rep (remove-cells m xs) (g .rep m xs h) (record { next = k .next; free = k .free; shape = k .shape });
+        keeps = keeps-trans w w1 w2 (mesh-end s p) (g .keeps) (t .keeps);
+      }
+
+pub can-push : (m : Mesh) (xs : List Live) (s i a b c d : ℕ) → CanPush m s i (quad-of-nodes a b c d) → CanPush (remove-cells m xs) s i (quad-of-nodes a b c d)
+unfolding remove-cells with-live
+can-push m xs s i a b c d k = record { next = k .next; free = k .free; shape = k .shape }

@@ -1,0 +1,5 @@
+// The region that a quad replaces.
+pub mod flood;
+pub mod lists;
+pub mod place;
+pub mod region;

@@ -1,0 +1,48 @@
+// The list of slots in hand and the marks of slots.
+use cells::layout::list_at;
+use cells::layout::marks_at;
+use rings::wide;
+ghost use mathlib.Core.Path.{_≡_};
+ghost use Prim.Native.Nat.{_+_};
+ghost use lib.ListN.{getD, set};
+ghost use Rattle.cells.specs.Layout.{marks-at, list-at};
+ghost use Rattle.regions.specs.Listing.{CanList, CanMark, Cleared};
+
+// The slot in place i of the list.
+pub fn listed(w: &[u32], s: usize, p: usize, i: usize) -> usize
+    requires { ⌜ CanList (now w) s p i ⌝ }
+    ensures { λ r. ⌜ r ≡ getD (now (w .entry)) (list-at s p + i) 0 ⌝ }
+{
+    wide(w[list_at(s, p) + i])
+}
+
+// The mark of slot j: 0 where it has none.
+pub fn mark(w: &[u32], s: usize, p: usize, j: usize) -> usize
+    requires { ⌜ CanList (now w) s p j ⌝ }
+    ensures { λ r. ⌜ r ≡ getD (now (w .entry)) (marks-at s p + j) 0 ⌝ }
+{
+    wide(w[marks_at(s, p) + j])
+}
+
+// Slot j comes to place n of the list and is marked.
+pub fn append(w: &mut [u32], s: usize, p: usize, n: usize, j: usize)
+    requires { ⌜ CanList (now w) s p n ⌝ }
+    requires { ⌜ CanList (now w) s p j ⌝ }
+    ensures { λ r. ⌜ now (w .exit) ≡ set (set (now (w .entry)) (marks-at s p + j) 1) (list-at s p + n) j ⌝ }
+{
+    w[marks_at(s, p) + j] = 1;
+    w[list_at(s, p) + n] = j as u32;
+}
+
+// No slot is marked.
+pub fn clear_marks(w: &mut [u32], s: usize, p: usize)
+    requires { ⌜ CanMark (now w) s p ⌝ }
+    ensures { λ r. ⌜ Cleared (now (w .entry)) (now (w .exit)) s p ⌝ }
+{
+    let from = marks_at(s, p);
+    let mut i = 0;
+    while i < s {
+        w[from + i] = 0;
+        i += 1;
+    }
+}

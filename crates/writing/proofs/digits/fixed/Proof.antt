@@ -1,0 +1,71 @@
+-- `digits::fixed`. Invariant: i bytes of the text are written, and the next goes to p.
+use borrow.Author.Needs.{needs}
+use Rattle.writing.proofs.Puts.{and-next, one-byte, no-text, same-text}
+use mathlib.Core.Path.{_≡_, refl, sym}
+use mathlib.Core.List.{[], _∷_, _++_}
+use Prim.Native.Nat.{_+_, _-_, _≤_}
+use native.Mathlib.Numerals.{add-one}
+use lib.ListN.{length, getD, take, length-set}
+use lib.Seq.{take-suc, take-all}
+use denote.Ref.{now}
+use Rattle.writing.specs.Put.{Written}
+use native.Mathlib.Omega.{arith}
+use Rattle.writing.proofs.digits.fixed.Statement.{statement}
+use Rattle.writing.proofs.digits.fixed.Tie as tie
+
+abbrev Inv-loop : tie.InvT-loop
+Inv-loop out₀ at text p₀ i₀ out p i = (i ≤ length text) × (p ≡ at + i) × (length out ≡ length out₀) × Written out₀ out at (take i text) p
+
+abbrev μ-loop : tie.MeasureT-loop
+μ-loop out₀ at text p₀ i₀ out p i = length text - i
+
+loop-holds : tie.Need-loop-holds Inv-loop μ-loop
+loop-holds c = (omega arith, omega arith, refl, no-text _ _)
+
+shared-slice-read-out : tie.Need-shared-slice-read-out Inv-loop μ-loop
+shared-slice-read-out c = search needs
+
+slice-write-out : tie.Need-slice-write-out Inv-loop μ-loop
+slice-write-out c = omega arith
+
+add-p : tie.Need-add-p Inv-loop μ-loop
+add-p c = search needs
+
+add-i : tie.Need-add-i Inv-loop μ-loop
+add-i c = search needs
+
+loop-less : tie.Need-loop-less Inv-loop μ-loop
+loop-less c = search needs
+
+loop-again : tie.Need-loop-again Inv-loop μ-loop
+loop-again c =
+    let l = c .before .before .loop in
+    let t = now (c .before .before .before .args .text) in (
+      omega arith,
+      omega arith,
+      simp length-set (l .inv .2),
+      same-text (and-next (l .inv .3) (omega arith) (one-byte (l .out) (l .p) (getD t (l .i) 0) (omega arith)))
+          (sym (rw (add-one (l .i)) (take-suc t (l .i) 0 (c .before .loop-test .taken)))),
+    )
+
+same-length : tie.Need-same-length Inv-loop μ-loop
+same-length c = c .before .loop .inv .2
+
+returns : tie.Need-returns Inv-loop μ-loop
+returns c = same-text (c .before .loop .inv .3) (take-all (c .before .loop .i) (now (c .before .before .args .text)) (c .loop-test .left))
+
+pub fixed-spec : {M : Type 1} → statement M
+fixed-spec =
+    tie.close
+    (tie.spec
+    Inv-loop
+    μ-loop
+    loop-holds
+    shared-slice-read-out
+    slice-write-out
+    add-p
+    add-i
+    loop-less
+    loop-again
+    same-length
+    returns)

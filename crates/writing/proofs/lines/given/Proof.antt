@@ -1,0 +1,104 @@
+-- `lines::given`. Invariant: i points are written, a line each.
+use borrow.Author.Needs.{needs}
+use Rattle.writing.proofs.Puts.{and-next, no-text, same-text}
+use Rattle.writing.proofs.Rows.{place-more, no-lines}
+use mathlib.Core.Path.{_≡_, refl, ap, _∙_}
+use Prim.Native.Nat.{ℕ, _+_, _-_, _*_, _≤_}
+use lib.ListN.{length}
+use denote.Ref.{now}
+use Rattle.definition.specs.Lists.{rows}
+use Rattle.definition.specs.Text.{show-bits, lines-of}
+use Rattle.writing.specs.Put.{Written}
+use native.Mathlib.Omega.{arith}
+use Rattle.writing.proofs.lines.given.Statement.{statement}
+use Rattle.writing.proofs.lines.given.Tie as tie
+
+abbrev Inv-loop : tie.InvT-loop
+Inv-loop out₀ at bits n p₀ i₀ out p i = (i ≤ n) × (p ≤ at + 51 * i) × (length out ≡ length out₀) × Written out₀ out at (lines-of show-bits (rows 3 i bits)) p
+
+abbrev μ-loop : tie.MeasureT-loop
+μ-loop out₀ at bits n p₀ i₀ out p i = n - i
+
+loop-holds : tie.Need-loop-holds Inv-loop μ-loop
+loop-holds c = (omega arith, omega arith, refl, same-text (no-text _ _) (no-lines show-bits 3 (now (c .before .before .args .bits))))
+
+mul-k : tie.Need-mul-k Inv-loop μ-loop
+mul-k c = search needs
+
+mul-place : tie.Need-mul-place Inv-loop μ-loop
+mul-place c = search needs
+
+shared-slice-read-place : tie.Need-shared-slice-read-place Inv-loop μ-loop
+shared-slice-read-place c = search needs
+
+add-place : tie.Need-add-place Inv-loop μ-loop
+add-place c = search needs
+
+mul-place-2 : tie.Need-mul-place-2 Inv-loop μ-loop
+mul-place-2 c = search needs
+
+shared-slice-read-place-2 : tie.Need-shared-slice-read-place-2 Inv-loop μ-loop
+shared-slice-read-place-2 c = search needs
+
+add-place-2 : tie.Need-add-place-2 Inv-loop μ-loop
+add-place-2 c = search needs
+
+mul-place-3 : tie.Need-mul-place-3 Inv-loop μ-loop
+mul-place-3 c = search needs
+
+shared-slice-read-place-3 : tie.Need-shared-slice-read-place-3 Inv-loop μ-loop
+shared-slice-read-place-3 c = search needs
+
+place-requires : tie.Need-place-requires Inv-loop μ-loop
+place-requires c κs = search needs
+
+add-i : tie.Need-add-i Inv-loop μ-loop
+add-i c = search needs
+
+loop-less : tie.Need-loop-less Inv-loop μ-loop
+loop-less c = search needs
+
+loop-again : tie.Need-loop-again Inv-loop μ-loop
+loop-again c =
+    let a = c .before .before .before .before .before .before .before .before .before .before .before .args in
+    let l = c .before .before .before .before .before .before .before .before .loop in
+    let f = c .before .before .place in (
+      omega (arith, c .before .before .before .before .before .before .before .loop-test .taken),
+      omega (arith, f .ensures .short, l .inv .1),
+      f .kept .0 ∙ l .inv .2,
+      same-text (and-next (l .inv .3) (omega (arith, l .inv .1, c .before .before .before .before .before .before .before .before .before .before .before .pre, c .before .before .before .before .before .before .before .loop-test .taken)) (f .ensures .written))
+          (place-more show-bits (l .i) (now (a .bits)) (omega (arith, c .before .before .before .before .before .before .before .before .before .before .before .pre, c .before .before .before .before .before .before .before .loop-test .taken))),
+    )
+
+same-length : tie.Need-same-length Inv-loop μ-loop
+same-length c = c .before .loop .inv .2
+
+returns : tie.Need-returns Inv-loop μ-loop
+returns c =
+    let a = c .before .before .before .before .args in
+    let l = c .before .loop in
+    let e : l .i ≡ a .n = omega arith in
+    record { written = same-text (l .inv .3) (ap (λ (m : ℕ). lines-of show-bits (rows 3 m (now (a .bits)))) e); short = omega (arith, l .inv .1, e) }
+
+pub given-spec : {M : Type 1} → statement M
+given-spec =
+    tie.close
+    (tie.spec
+    Inv-loop
+    μ-loop
+    loop-holds
+    mul-k
+    mul-place
+    shared-slice-read-place
+    add-place
+    mul-place-2
+    shared-slice-read-place-2
+    add-place-2
+    mul-place-3
+    shared-slice-read-place-3
+    place-requires
+    add-i
+    loop-less
+    loop-again
+    same-length
+    returns)

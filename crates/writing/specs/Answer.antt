@@ -1,0 +1,68 @@
+-- What the code's structs stand for, and what writing an answer gives.
+use mathlib.Core.List.{List, [], _∷_}
+use mathlib.Core.Path.{_≡_, refl}
+use Prim.Native.Nat.{ℕ, _*_, _≤_}
+use lib.Ieee.{Float}
+use lib.ListN.{length, take, drop}
+use Rattle.definition.specs.Counts as def
+use Rattle.definition.specs.Call.{Lent}
+use Rattle.definition.specs.Call as call
+use Rattle.definition.specs.Text.{Bytes, show-lists}
+use Rattle.writing.specs.declared.Counts.{Counts}
+use Rattle.writing.specs.declared.Lengths.{Lengths}
+
+-- the definition's counts
+unfoldable pub counts-of : Counts → def.Counts
+counts-of c =
+    record {
+      front-empty = c .«front_empty»;
+      attempts = c .attempts;
+      placement = c .placement;
+      invalid-quad = c .«invalid_quad»;
+      recovery = c .recovery;
+      region = c .region;
+      odd-region = c .«odd_region»;
+      mismatch-insertions = c .«mismatch_insertions»;
+      limit = c .limit;
+    }
+
+-- the definition's lengths
+unfoldable pub lengths-of : Lengths → call.Lengths
+lengths-of n = record { quads = n .quads; triangles = n .triangles; points = n .points; components = n .components }
+
+-- in the order of their names
+unfoldable pub lengths-listed : call.Lengths → List ℕ
+lengths-listed n = n .quads ∷ n .triangles ∷ n .points ∷ n .components ∷ []
+
+-- the slices that are shown
+unfoldable pub shown : List Float → List ℕ → List ℕ → List ℕ → Lent
+shown points quads triangles components =
+    record { points = points; triangles = []; quads = quads; triangles-out = triangles; components = components; work = []; float-work = [] }
+
+-- the others are never looked at
+pub only-shown : (given : List (List ℕ)) (c : def.Counts) (n : call.Lengths) (l : Lent)
+    → show-lists given c n l ≡ show-lists given c n (shown (l .points) (l .quads) (l .triangles-out) (l .components))
+unfolding show-lists shown
+only-shown given c n l = refl
+
+-- the program's lists are no longer than what it lends
+pub record Few (n : Lengths) : Type 0 where
+  pub quads : n .quads ≤ 160
+  pub triangles : n .triangles ≤ 160
+  pub points : n .points ≤ 96
+  pub components : n .components ≤ 160
+
+-- the slices hold what is to be shown
+pub record Held (n : Lengths) (given : ℕ) (bits : List ℕ) (points : List Float) (quads triangles components : List ℕ) : Type 0 where
+  pub given-few : given ≤ n .points
+  pub given-held : 3 * given ≤ length bits
+  pub points-held : 3 * n .points ≤ length points
+  pub quads-held : 4 * n .quads ≤ length quads
+  pub triangles-held : 3 * n .triangles ≤ length triangles
+  pub components-held : n .components ≤ length components
+
+-- the text stands at the front of the slice, in its first r bytes, and the rest is as it was
+pub record Answered (before after : List ℕ) (t : Bytes) (r : ℕ) : Type 0 where
+  pub text : take r after ≡ t
+  pub past : drop r after ≡ drop r before
+  pub fits : r ≤ length before

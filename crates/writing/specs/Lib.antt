@@ -1,0 +1,3 @@
+-- What writing the program's answer means, in the definition's terms.
+pub mod Put
+pub mod Answer
