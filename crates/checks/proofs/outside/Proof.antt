@@ -1,0 +1,29 @@
+-- Neither x nor y is beyond the limit, or one is.
+use mathlib.Core.Path.{sym, _∙_}
+use borrow.Author.Needs.{needs}
+use Rattle.definition.specs.Call.{outside}
+use Rattle.checks.proofs.outside.Statement.{statement}
+use Rattle.checks.proofs.outside.Tie as tie
+
+within-requires : tie.Need-within-requires
+within-requires c κs = search needs
+
+within-requires-2 : tie.Need-within-requires-2
+within-requires-2 c κs = search needs
+
+returns : tie.Need-returns
+unfolding outside
+returns c =
+    λ z.
+    let e = sym (c .before .before .within .ensures) ∙ c .before .if1 .taken in
+    rw (e, ← c .within2 .ensures)
+
+returns-2 : tie.Need-returns-2
+unfolding outside
+returns-2 c =
+    λ z.
+    let e = sym (c .before .within .ensures) ∙ c .if1 .left in
+    rw e
+
+pub outside-spec : {M : Type 1} → statement M
+outside-spec = tie.close (tie.spec within-requires within-requires-2 returns returns-2)

@@ -1,0 +1,72 @@
+-- Every entry passed is below the given points; the first that is not answers.
+use mathlib.Core.Path.{sym}
+use Prim.Native.Nat.{ℕ, _-_, _≤_, _<_}
+use native.Mathlib.Omega.{arith}
+use borrow.Author.Needs.{needs}
+use borrow.Author.Count.{below-more}
+use lib.ListN.{getD}
+use Rattle.checks.specs.Stated.{asked}
+use Rattle.checks.specs.Tests.{passes}
+use Rattle.checks.specs.Passed.{known, known-pass}
+use Rattle.checks.proofs.unknown_node.Statement.{statement}
+use Rattle.checks.proofs.unknown_node.Tie as tie
+
+abbrev Inv-loop : tie.InvT-loop
+Inv-loop triangles given n i₀ i = (i ≤ n) × ((k : ℕ) → k < i → getD triangles k 0 < given)
+
+abbrev μ-loop : tie.MeasureT-loop
+μ-loop triangles given n i₀ i = n - i
+
+mul-n : tie.Need-mul-n Inv-loop μ-loop
+mul-n c = omega arith
+
+loop-holds : tie.Need-loop-holds Inv-loop μ-loop
+loop-holds c = omega arith
+
+mul-wide : tie.Need-mul-wide Inv-loop μ-loop
+mul-wide c = omega arith
+
+shared-slice-read-wide : tie.Need-shared-slice-read-wide Inv-loop μ-loop
+shared-slice-read-wide c = omega arith
+
+wide-requires : tie.Need-wide-requires Inv-loop μ-loop
+wide-requires c κs = search needs
+
+returns : tie.Need-returns Inv-loop μ-loop
+returns c =
+    λ l e.
+    let g = c .before .before .before .before in
+    let w = c .before .wide .ensures in
+    sym (passes _ (λ f. let h = (rw e at (known (asked (g .before .before .before .args .a)) l f)) (g .loop .i) (omega arith) in omega arith))
+
+add-i : tie.Need-add-i Inv-loop μ-loop
+add-i c = omega arith
+
+loop-less : tie.Need-loop-less Inv-loop μ-loop
+loop-less c = omega arith
+
+loop-again : tie.Need-loop-again Inv-loop μ-loop
+loop-again c =
+    let g = c .before .before .before .before in
+    let w = c .before .wide .ensures in
+    (omega arith, below-more _ _ (g .loop .inv .1) (omega arith))
+
+returns-2 : tie.Need-returns-2 Inv-loop μ-loop
+returns-2 c = λ l e. sym (known-pass _ l (rw e (λ k h. c .before .loop .inv .1 k (omega arith))))
+
+pub unknown-node-spec : {M : Type 1} → statement M
+unknown-node-spec =
+    tie.close
+    (tie.spec
+    Inv-loop
+    μ-loop
+    mul-n
+    loop-holds
+    mul-wide
+    shared-slice-read-wide
+    wide-requires
+    returns
+    add-i
+    loop-less
+    loop-again
+    returns-2)

@@ -1,0 +1,5 @@
+pub mod Insertion
+pub mod Order
+pub mod Steps
+pub mod Rating
+pub mod Rounds

@@ -1,0 +1,66 @@
+-- The loop's invariant: the first p come before t. The measure is what is left of the count.
+use mathlib.Core.Path.{_≡_, sym, _∙_}
+use Prim.Native.Nat.{_≤_, _-_}
+use native.Mathlib.Omega.{arith}
+use borrow.Author.Tests.{not-true, not-false}
+use borrow.Author.Needs.{needs}
+use lib.ListN.{length, length-map}
+use Rattle.trials.proofs.Steps.{Met, met-none, met-more, met-place, met-end}
+use Rattle.trials.proofs.kept.Trials.place.Statement.{statement}
+use Rattle.trials.proofs.kept.Trials.place.Tie as tie
+
+abbrev Inv-loop : tie.InvT-loop
+Inv-loop t self count p₀ p = Met t self count p
+
+abbrev μ-loop : tie.MeasureT-loop
+μ-loop t self count p₀ p = count - p
+
+-- the array's length, of what owning it tells
+whole : (c : tie.Start Inv-loop μ-loop) → length (c .args .t1 .kept) ≡ 8
+whole c = simp length-map at (c .good .0 .1 .1 .0 .1 .0 .1)
+
+room : (c : tie.Start Inv-loop μ-loop) → c .args .t1 .count ≤ length (c .args .t1 .kept)
+room c = omega (arith, whole c, c .pre)
+
+loop-holds : tie.Need-loop-holds Inv-loop μ-loop
+loop-holds c = met-none _ _
+
+mul-before : tie.Need-mul-before Inv-loop μ-loop
+mul-before c = search needs
+
+element-copy-out-before : tie.Need-element-copy-out-before Inv-loop μ-loop
+element-copy-out-before c = search needs
+
+before-requires : tie.Need-before-requires Inv-loop μ-loop
+before-requires c κs = search needs
+
+returns : tie.Need-returns Inv-loop μ-loop
+returns c = let k = c .before .before .before in met-place _ _ _ _ (k .before .loop .inv) (room (k .before .before)) _ (k .loop-test .taken) (sym (c .before .before2 .ensures) ∙ not-true _ (c .if1 .taken))
+
+add-p : tie.Need-add-p Inv-loop μ-loop
+add-p c = search needs
+
+loop-less : tie.Need-loop-less Inv-loop μ-loop
+loop-less c = search needs
+
+loop-again : tie.Need-loop-again Inv-loop μ-loop
+loop-again c = let k = c .before .before .before in met-more _ _ _ _ (k .before .loop .inv) (room (k .before .before)) _ (k .loop-test .taken) (sym (c .before .before2 .ensures) ∙ not-false _ (c .if1 .left))
+
+returns-2 : tie.Need-returns-2 Inv-loop μ-loop
+returns-2 c = met-end _ _ _ _ (c .before .loop .inv) (room (c .before .before)) (c .loop-test .left)
+
+pub place-spec : {M : Type 1} → statement M
+place-spec =
+    tie.close
+    (tie.spec
+    Inv-loop
+    μ-loop
+    loop-holds
+    mul-before
+    element-copy-out-before
+    before-requires
+    returns
+    add-p
+    loop-less
+    loop-again
+    returns-2)

@@ -1,0 +1,78 @@
+-- The loop's invariant: the array with what is carried put at i is the one at entry with t put at p. The measure is what is left of the count.
+use mathlib.Core.Path.{_≡_, refl}
+use Prim.Native.Nat.{_-_}
+use native.Mathlib.Omega.{arith}
+use borrow.Author.Needs.{needs}
+use lib.ListN.{length, length-map}
+use Rattle.trials.proofs.Steps.{Pushed, pushed-none, pushed-more, put-full, put-room}
+use Rattle.trials.proofs.kept.Trials.put.Statement.{statement}
+use Rattle.trials.proofs.kept.Trials.put.Tie as tie
+
+abbrev Inv-loop : tie.InvT-loop
+Inv-loop p self₀ count carried₀ i₀ self carried i = Pushed p self₀ count carried₀ self carried i
+
+abbrev μ-loop : tie.MeasureT-loop
+μ-loop p self₀ count carried₀ i₀ self carried i = count - i
+
+-- the array's length, of what owning it tells
+whole : (c : tie.Start Inv-loop μ-loop) → length (c .args .t1 .kept) ≡ 8
+whole c = simp length-map at (c .good .0 .1 .1 .0 .1 .0 .1)
+
+loop-holds : tie.Need-loop-holds Inv-loop μ-loop
+loop-holds c = pushed-none _ _ _ (c .pre .0)
+
+mul-next : tie.Need-mul-next Inv-loop μ-loop
+mul-next c = search needs
+
+element-copy-out-next : tie.Need-element-copy-out-next Inv-loop μ-loop
+element-copy-out-next c = search needs
+
+mul-carried : tie.Need-mul-carried Inv-loop μ-loop
+mul-carried c = search needs
+
+element-set-from-carried : tie.Need-element-set-from-carried Inv-loop μ-loop
+element-set-from-carried c = search needs
+
+add-i : tie.Need-add-i Inv-loop μ-loop
+add-i c = search needs
+
+loop-less : tie.Need-loop-less Inv-loop μ-loop
+loop-less c = search needs
+
+loop-again : tie.Need-loop-again Inv-loop μ-loop
+loop-again c = let k = c .before .before in pushed-more _ _ _ _ _ _ _ (k .loop .inv) _ (c .before .loop-test .taken) (omega (arith, whole (k .before), k .before .pre .1))
+
+returns : tie.Need-returns Inv-loop μ-loop
+returns c = let k = c .before .before in put-full _ _ _ _ _ _ _ (k .loop .inv) refl (k .before .pre .0) (c .before .loop-test .left) (c .if1 .taken) (whole (k .before))
+
+mul-carried-2 : tie.Need-mul-carried-2 Inv-loop μ-loop
+mul-carried-2 c = search needs
+
+element-set-from-carried-2 : tie.Need-element-set-from-carried-2 Inv-loop μ-loop
+element-set-from-carried-2 c = search needs
+
+add-self : tie.Need-add-self Inv-loop μ-loop
+add-self c = search needs
+
+returns-2 : tie.Need-returns-2 Inv-loop μ-loop
+returns-2 c = let k = c .before .before in put-room _ _ _ _ _ _ _ (k .loop .inv) refl (k .before .pre .0) (c .before .loop-test .left) (omega (arith, c .if1 .left, k .before .pre .1)) (whole (k .before))
+
+pub put-spec : {M : Type 1} → statement M
+put-spec =
+    tie.close
+    (tie.spec
+    Inv-loop
+    μ-loop
+    loop-holds
+    mul-next
+    element-copy-out-next
+    mul-carried
+    element-set-from-carried
+    add-i
+    loop-less
+    loop-again
+    returns
+    mul-carried-2
+    element-set-from-carried-2
+    add-self
+    returns-2)
