@@ -1,0 +1,153 @@
+-- The loop's invariant: the cells from place k on decide. The measure is how many are left.
+use mathlib.Core.Path.{_≡_, refl, ap, sym, _∙_, subst}
+use mathlib.Core.Bool.{Bool, true, false, not}
+use mathlib.Core.List.{List, [], _∷_, _++_}
+use Prim.Native.Nat.{ℕ, suc, _+_, _-_, _*_, _/_, _<_, _≤_, _^_}
+use native.Mathlib.Omega.{arith}
+use lib.ListN.{length, getD, set, length-set}
+use Rattle.definition.specs.Lists.{any}
+use Rattle.definition.specs.Cells.{Live, Mesh, has-node}
+use Rattle.definition.specs.Candidates.{walls, segment-inside}
+use Rattle.candidates.specs.Hand.{InHand, Ends}
+use Rattle.candidates.proofs.Fences.{open-cell, not-was, was}
+use Rattle.candidates.proofs.Scans.{Passing, Failing, scan-here, passing-start, passing-stop, passing-more, passing-end, failing-start, failing-stop, failing-more, failing-end, spot-open, spot-has}
+use borrow.Author.Needs.{needs}
+use Rattle.candidates.proofs.inside.in_region.Statement.{statement}
+use Rattle.candidates.proofs.inside.in_region.Tie as tie
+use Rattle.candidates.proofs.inside.in_region.Reads as reads
+use Rattle.candidates.proofs.inside.in_region.Lts as lts
+use Rattle.rings.proofs.wide.Reads as wide-reads
+use Rattle.candidates.proofs.inside.cell_has.Reads as cell-has-reads
+
+abbrev Inv-loop : tie.InvT-loop
+Inv-loop w q s p n v k₀ k = (k ≤ n) × ((m : Mesh) (g : List Live) → InHand w q s p n m g → Failing w s p n k m (has-node v) (any (has-node v) g))
+
+abbrev μ-loop : tie.MeasureT-loop
+μ-loop w q s p n v k₀ k = n - k
+
+loop-holds : tie.Need-loop-holds Inv-loop μ-loop
+loop-holds c =
+    let t = c .before .before in
+    let a = t .args in
+    (omega arith, λ m g h. failing-start (a .w .now) (a .q .now) (a .s) (a .p) (a .n) (a .v) m g h)
+
+mul-wide : tie.Need-mul-wide Inv-loop μ-loop
+mul-wide c = search needs
+
+mul-wide-2 : tie.Need-mul-wide-2 Inv-loop μ-loop
+mul-wide-2 c = search needs
+
+add-wide : tie.Need-add-wide Inv-loop μ-loop
+add-wide c = search needs
+
+add-wide-2 : tie.Need-add-wide-2 Inv-loop μ-loop
+add-wide-2 c =
+    let i = c in
+    let l = i .before in
+    let x = l .loop in
+    let t = l .before .before .before in
+    let a = t .args in
+    omega (arith, c .loop-test .taken, t .pre .2 .few, t .pre .2 .rep .room .small, t .pre .2 .rep .room .fits)
+
+mul-wide-3 : tie.Need-mul-wide-3 Inv-loop μ-loop
+mul-wide-3 c =
+    let i = c in
+    let l = i .before in
+    let x = l .loop in
+    let t = l .before .before .before in
+    let a = t .args in
+    omega (arith, c .loop-test .taken, t .pre .2 .few, t .pre .2 .rep .room .small, t .pre .2 .rep .room .fits)
+
+shared-slice-read-wide : tie.Need-shared-slice-read-wide Inv-loop μ-loop
+shared-slice-read-wide c =
+    let i = c .before in
+    let l = i .before in
+    let x = l .loop in
+    let t = l .before .before .before in
+    let a = t .args in
+    omega (arith, i .loop-test .taken, t .pre .2 .few, t .pre .2 .rep .room .fits)
+
+wide-requires : tie.Need-wide-requires Inv-loop μ-loop
+wide-requires c κs = search needs
+
+cell-has-requires : tie.Need-cell-has-requires Inv-loop μ-loop
+cell-has-requires c κs =
+    let wd = c in
+    let i = wd .before .before in
+    let l = i .before in
+    let x = l .loop in
+    let t = l .before .before .before in
+    let a = t .args in
+    let m = t .pre .0 in
+    let g = t .pre .1 in
+    let h = t .pre .2 in
+    let b = x .inv .1 m g h in
+    let y = scan-here (a .w .now) (a .s) (a .p) (a .n) (x .k) (wd .wide .result) m (b .rest) (h .rep) (b .scan) (i .loop-test .taken) (wd .wide .ensures) in
+    ((m, h .rep, y .top .t), y .inside)
+
+returns : tie.Need-returns Inv-loop μ-loop
+returns c =
+    let oc = c .before in
+    let wd = oc .before in
+    let i = wd .before .before in
+    let l = i .before in
+    let x = l .loop in
+    let t = l .before .before .before in
+    let a = t .args in
+    λ m g h.
+    let b = x .inv .1 m g h in
+    let y = scan-here (a .w .now) (a .s) (a .p) (a .n) (x .k) (wd .wide .result) m (b .rest) (h .rep) (b .scan) (i .loop-test .taken) (wd .wide .ensures) in
+    failing-stop (a .w .now) (a .s) (a .p) (a .n) (x .k) m (has-node (a .v)) (any (has-node (a .v)) g) (wd .wide .result) b y (spot-has m (wd .wide .result) (a .v) (y .x) (y .top) ∙ sym (oc .cell-has .ensures m (h .rep) (y .top .t)) ∙ c .if1 .taken)
+
+add-k : tie.Need-add-k Inv-loop μ-loop
+add-k c = search needs
+
+loop-less : tie.Need-loop-less Inv-loop μ-loop
+loop-less c =
+    let oc = c .before in
+    let wd = oc .before in
+    let i = wd .before .before in
+    omega (arith, i .loop-test .taken)
+
+loop-again : tie.Need-loop-again Inv-loop μ-loop
+loop-again c =
+    let oc = c .before in
+    let wd = oc .before in
+    let i = wd .before .before in
+    let l = i .before in
+    let x = l .loop in
+    let t = l .before .before .before in
+    let a = t .args in (
+      omega (arith, i .loop-test .taken),
+      λ m g h.
+          let b = x .inv .1 m g h in
+          let y = scan-here (a .w .now) (a .s) (a .p) (a .n) (x .k) (wd .wide .result) m (b .rest) (h .rep) (b .scan) (i .loop-test .taken) (wd .wide .ensures) in
+          failing-more (a .w .now) (a .s) (a .p) (a .n) (x .k) m (has-node (a .v)) (any (has-node (a .v)) g) (wd .wide .result) b y (spot-has m (wd .wide .result) (a .v) (y .x) (y .top) ∙ sym (oc .cell-has .ensures m (h .rep) (y .top .t)) ∙ c .if1 .left),
+    )
+
+returns-2 : tie.Need-returns-2 Inv-loop μ-loop
+returns-2 c =
+    let l = c .before in
+    let x = l .loop in
+    let t = l .before .before .before in
+    let a = t .args in
+    λ m g h. failing-end (a .w .now) (a .s) (a .p) (a .n) (x .k) m (has-node (a .v)) (any (has-node (a .v)) g) (x .inv .1 m g h) (c .loop-test .left)
+
+pub in-region-spec : {M : Type 1} → statement M
+in-region-spec =
+    tie.close
+    (tie.spec Inv-loop μ-loop
+    loop-holds
+    mul-wide
+    mul-wide-2
+    add-wide
+    add-wide-2
+    mul-wide-3
+    shared-slice-read-wide
+    wide-requires
+    cell-has-requires
+    returns
+    add-k
+    loop-less
+    loop-again
+    returns-2)

@@ -1,0 +1,25 @@
+use mathlib.Core.Path.{_≡_, refl, ap, sym, _∙_, subst}
+use Rattle.definition.specs.Candidates.{turned}
+use Rattle.plane.specs.Vectors.{vec}
+use borrow.Author.Needs.{needs}
+use Rattle.ideals.proofs.turned.Statement.{statement}
+use Rattle.ideals.proofs.turned.Tie as tie
+use Rattle.ideals.proofs.turned.Reads as reads
+use Rattle.ideals.proofs.turned.Lts as lts
+
+returns : tie.Need-returns
+unfolding vec turned
+returns c =
+    rw (c .before .if1 .taken)
+
+returns-2 : tie.Need-returns-2
+unfolding vec turned
+returns-2 c =
+    rw (c .before .if1 .left)
+
+pub turned-spec : {M : Type 1} → statement M
+turned-spec =
+    tie.close
+    (tie.spec
+    returns
+    returns-2)

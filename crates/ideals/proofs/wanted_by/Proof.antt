@@ -1,0 +1,121 @@
+use mathlib.Core.Path.{_≡_, refl, ap, sym, _∙_, subst}
+use mathlib.Core.Bool.{Bool, true, false, not}
+use Prim.Native.Nat.{ℕ, suc, _+_, _-_, _*_, _/_, _<_, _≤_, _^_}
+use native.Mathlib.Omega.{arith}
+use lib.Ieee.{Float}
+use Rattle.definition.specs.Floats.{_≼_, 1e-12, f64}
+use Rattle.definition.specs.Lists.{any}
+use Rattle.definition.specs.Numbers.{base}
+use Rattle.definition.specs.Plane.{Vec, norm, over}
+use Rattle.definition.specs.Candidates.{toward, halfway}
+use Rattle.plane.specs.Vectors.{vec}
+use Rattle.ideals.specs.Wanted.{close}
+use Rattle.ideals.proofs.Halves.{by-same, by-other, by-inner, by-tiny, by-half, toward-read, within}
+use borrow.Author.Needs.{needs}
+use Rattle.ideals.proofs.wanted_by.Statement.{statement}
+use Rattle.ideals.proofs.wanted_by.Tie as tie
+use Rattle.ideals.proofs.wanted_by.Reads as reads
+use Rattle.ideals.proofs.wanted_by.Lts as lts
+use Rattle.cells.proofs.find.is_front.Reads as is-front-reads
+use Rattle.plane.proofs.vectors.from_to.Reads as from-to-reads
+use Rattle.plane.proofs.vectors.norm.Reads as norm-reads
+use Rattle.plane.proofs.vectors.over.Reads as over-reads
+use Rattle.ideals.proofs.half_close.Reads as half-close-reads
+
+returns : tie.Need-returns
+returns c =
+    let t = c .before .before .before in
+    let a = t .args in
+    λ m r k y. by-same m (a .a) (a .other) (vec (a .u)) (a .every) (vec (a .e)) (a .v) (c .if1 .taken)
+
+returns-2 : tie.Need-returns-2
+returns-2 c =
+    let e1 = c .before in
+    let t = e1 .before .before .before in
+    let a = t .args in
+    λ m r k y. by-other m (a .a) (a .other) (vec (a .u)) (a .every) (vec (a .e)) (a .v) (e1 .if1 .left) (c .if2 .taken)
+
+is-front-requires : tie.Need-is-front-requires
+is-front-requires c κs =
+    let e1 = c .before in
+    let t = e1 .before .before .before in
+    let a = t .args in
+    ((t .pre .0, t .pre .1), record { node = omega (arith, t .pre .3 .node, t .pre .1 .points); apart = λ z. e1 .if1 .left (sym z) })
+
+from-to-requires : tie.Need-from-to-requires
+from-to-requires c κs =
+    let e2 = c .before .before in
+    let e1 = e2 .before in
+    let t = e1 .before .before .before in
+    let a = t .args in
+    let y = within (a .q .now) (a .p) (t .pre .0) (t .pre .2) in
+    (y (a .a) (t .pre .3 .node), y (a .v) (t .pre .3 .end))
+
+norm-requires : tie.Need-norm-requires
+norm-requires c κs = search needs
+
+returns-3 : tie.Need-returns-3
+unfolding base _≼_ 1e-12 f64
+returns-3 c =
+    let nm = c .before in
+    let ft = nm .before in
+    let t3 = ft .before in
+    let is = t3 .before in
+    let e2 = is .before in
+    let e1 = e2 .before in
+    let t = e1 .before .before .before in
+    let a = t .args in
+    λ m r k y.
+    let d : vec (ft .from-to .result) ≡ toward m (a .a) (a .v) = toward-read (a .q .now) (a .p) m k (a .a) (a .v) y (vec (ft .from-to .result)) (ft .from-to .ensures) in
+    let n : nm .norm .result ≡ norm (toward m (a .a) (a .v)) = nm .norm .ensures ∙ ap norm d in
+    by-tiny m (a .a) (a .other) (vec (a .u)) (a .every) (vec (a .e)) (a .v) (e1 .if1 .left) (e2 .if2 .left) (sym (is .is-front .ensures m r) ∙ t3 .if3 .taken) (subst (λ (x : Float). (x ≼ base .tiny-length) ≡ true) n (c .if4 .taken))
+
+over-requires : tie.Need-over-requires
+over-requires c κs = search needs
+
+half-close-requires : tie.Need-half-close-requires
+half-close-requires c κs = search needs
+
+returns-4 : tie.Need-returns-4
+unfolding base _≼_ 1e-12 f64
+returns-4 c =
+    let ov = c .before in
+    let e4 = ov .before in
+    let nm = e4 .before in
+    let ft = nm .before in
+    let t3 = ft .before in
+    let is = t3 .before in
+    let e2 = is .before in
+    let e1 = e2 .before in
+    let t = e1 .before .before .before in
+    let a = t .args in
+    λ m r k y.
+    let d : vec (ft .from-to .result) ≡ toward m (a .a) (a .v) = toward-read (a .q .now) (a .p) m k (a .a) (a .v) y (vec (ft .from-to .result)) (ft .from-to .ensures) in
+    let n : nm .norm .result ≡ norm (toward m (a .a) (a .v)) = nm .norm .ensures ∙ ap norm d in
+    let o : vec (ov .over .result) ≡ over (toward m (a .a) (a .v)) (norm (toward m (a .a) (a .v))) = ov .over .ensures ∙ ap (λ (x : Vec). over x (nm .norm .result)) d ∙ ap (over (toward m (a .a) (a .v))) n in
+    by-half m (a .a) (a .other) (vec (a .u)) (a .every) (vec (a .e)) (a .v) (c .half-close .result) (e1 .if1 .left) (e2 .if2 .left) (sym (is .is-front .ensures m r) ∙ t3 .if3 .taken) (subst (λ (x : Float). (x ≼ base .tiny-length) ≡ false) n (e4 .if4 .left))
+    (c .half-close .ensures ∙ ap (λ (x : Vec). any (close (a .every) (vec (a .e))) (halfway base (vec (a .u)) x)) o)
+
+returns-5 : tie.Need-returns-5
+returns-5 c =
+    let is = c .before in
+    let e2 = is .before in
+    let e1 = e2 .before in
+    let t = e1 .before .before .before in
+    let a = t .args in
+    λ m r k y. by-inner m (a .a) (a .other) (vec (a .u)) (a .every) (vec (a .e)) (a .v) (e1 .if1 .left) (e2 .if2 .left) (sym (is .is-front .ensures m r) ∙ c .if3 .left)
+
+pub wanted-by-spec : {M : Type 1} → statement M
+wanted-by-spec =
+    tie.close
+    (tie.spec
+    returns
+    returns-2
+    is-front-requires
+    from-to-requires
+    norm-requires
+    returns-3
+    over-requires
+    half-close-requires
+    returns-4
+    returns-5)

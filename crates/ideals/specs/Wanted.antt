@@ -1,0 +1,34 @@
+-- Ideals asked one at a time.
+use mathlib.Core.Path.{_≡_}
+use mathlib.Core.Bool.{Bool, true, false, _||_}
+use mathlib.Core.List.{List}
+use Prim.Native.Nat.{ℕ, _<_, _≤_}
+use lib.ListN.{length}
+use Rattle.definition.specs.Lists.{any, below, flat-map}
+use Rattle.definition.specs.Floats.{_≼_}
+use Rattle.definition.specs.Numbers.{Turn, leftward, rightward, base}
+use Rattle.definition.specs.Plane.{Vec, dot}
+use Rattle.definition.specs.Cells.{Mesh, cells-at}
+use Rattle.definition.specs.Candidates.{ideal-by}
+
+-- the ideal i is near the unit e, or any does
+abbrev pub close : Bool → Vec → Vec → Bool
+close every e i = every || (base .edge-dot ≼ dot e i)
+
+-- the front edge from a to v gives such an ideal; u is the unit from a to other
+abbrev pub wanted-by : Mesh → ℕ → ℕ → Vec → Bool → Vec → ℕ → Bool
+wanted-by m a other u every e v = any (close every e) (ideal-by base m a other u (cells-at m a) v)
+
+-- some front edge at a does
+abbrev pub some-wanted : Mesh → ℕ → ℕ → Vec → Bool → Vec → Bool
+some-wanted m a other u every e = any (close every e) (flat-map (ideal-by base m a other u (cells-at m a)) (below (length (m .points))))
+
+-- a quarter turn by its flag
+abbrev pub turn : Bool → Turn
+turn true = leftward
+turn false = rightward
+
+-- a and v are nodes of the mesh
+pub record At (m : Mesh) (a v : ℕ) : Type 0 where
+  pub node : a < length (m .points)
+  pub end : v < length (m .points)
