@@ -1,4 +1,3 @@
 pub mod Chain0
 pub mod Chain1
 pub mod Chain2
-pub mod Chain3
