@@ -9,7 +9,7 @@ use Rattle.definition.specs.Counts as def
 use Rattle.definition.specs.Call.{Lent}
 use Rattle.definition.specs.Call as call
 use Rattle.definition.specs.Text.{Bytes, bytes, show, show-bits, line-of, lines-of, listed, points-between, show-lists}
-use Rattle.writing.specs.Put.{Written}
+use Rattle.writing.specs.Put.{put, Written}
 use Rattle.writing.specs.Answer.{lengths-listed, Answered}
 use Rattle.writing.proofs.Puts.{take-put, drop-put}
 

@@ -1,7 +1,7 @@
 -- Digits of numbers.
 use mathlib.Core.Bool.{Bool, true, false, not, cond}
 use mathlib.Core.Path.{_≡_, refl, sym, ap, subst, _∙_}
-use mathlib.Core.List.{[], _∷_, _++_}
+use mathlib.Core.List.{List, [], _∷_, _++_}
 use Prim.Native.Nat.{ℕ, zero, suc, _+_, _-_, _*_, _/_, _%_, _^_, _<_, _≤_}
 use native.Mathlib.Nat.{pow-suc}
 use native.Mathlib.Omega.{arith}
@@ -10,7 +10,7 @@ use lib.Dec.{T, ltb}
 use lib.Ieee.Compare.{differs-from-itself}
 use lib.Ieee.{Float, nan, inf, fin, binary64, toBits, ne, isNan}
 use lib.ListN.{length, length-append}
-use Rattle.definition.specs.Text.{decimal-in, show, hex-in}
+use Rattle.definition.specs.Text.{Bytes, decimal-in, show, hex-in}
 
 -- ---- decimal
 

@@ -6,6 +6,7 @@ use mathlib.Core.Path.{refl, ap}
 use mathlib.Core.List.{_++_}
 use Rattle.definition.specs.Text.{Bytes, bytes, show, listed}
 use Rattle.writing.specs.Answer.{counts-of}
+use native.Mathlib.Omega.{arith}
 use Rattle.writing.proofs.counted.Statement.{statement}
 use Rattle.writing.proofs.counted.Tie as tie
 

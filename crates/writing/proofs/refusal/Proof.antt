@@ -1,7 +1,8 @@
 -- `refusal`: the word and the number, each with a newline.
 use borrow.Author.Needs.{needs}
-use Rattle.writing.proofs.Puts.{and-next}
+use Rattle.writing.proofs.Puts.{and-next, same-text}
 use Rattle.writing.proofs.Parts.{at-front}
+use mathlib.Core.Path.{refl}
 use Rattle.definition.specs.Text.{bytes, line-of, show-refusal}
 use native.Mathlib.Omega.{arith}
 use Rattle.writing.proofs.refusal.Statement.{statement}

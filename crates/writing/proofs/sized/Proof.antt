@@ -6,6 +6,7 @@ use mathlib.Core.Path.{refl, ap}
 use mathlib.Core.List.{_++_}
 use Rattle.definition.specs.Text.{Bytes, bytes, show}
 use Rattle.writing.specs.Answer.{lengths-of, lengths-listed}
+use native.Mathlib.Omega.{arith}
 use Rattle.writing.proofs.sized.Statement.{statement}
 use Rattle.writing.proofs.sized.Tie as tie
 

@@ -5,6 +5,7 @@ use Rattle.reading.proofs.Threes.{three-off, three-one, three-two, thre
 use mathlib.Core.Path.{_≡_}
 use lib.ListN.{drop}
 use denote.Ref.{now}
+use Rattle.definition.specs.Text.{node}
 use Rattle.reading.specs.Found.{taken, number-as, up-to, and-then}
 use Rattle.reading.proofs.lists.corners.Statement.{statement}
 use Rattle.reading.proofs.lists.corners.Tie as tie

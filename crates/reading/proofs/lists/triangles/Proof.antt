@@ -2,14 +2,14 @@
 use borrow.Author.Needs.{needs}
 use Rattle.reading.proofs.Chains.{found}
 use Rattle.reading.proofs.Rows.{prepend, rows-start, rows-off, rows-more, rows-done, rows-store, past-store}
-use mathlib.Core.Path.{_≡_, refl, sym, _∙_}
-use mathlib.Core.List.{List}
-use Prim.Native.Nat.{ℕ, _-_, _*_, _≤_}
+use mathlib.Core.Path.{_≡_, refl, sym, ap, _∙_}
+use mathlib.Core.List.{List, [], _∷_}
+use Prim.Native.Nat.{ℕ, _+_, _-_, _*_, _≤_}
 use lib.ListN.{length, drop, length-set}
 use denote.Ref.{now}
 use Rattle.definition.specs.Lists.{rows}
-use Rattle.definition.specs.Text.{three, node, times}
-use Rattle.reading.specs.Found.{taken, corners-as}
+use Rattle.definition.specs.Text.{three, node, hex, times}
+use Rattle.reading.specs.Found.{taken, corners-as, rows-as}
 use native.Mathlib.Omega.{arith}
 use Rattle.reading.proofs.lists.triangles.Statement.{statement}
 use Rattle.reading.proofs.lists.triangles.Tie as tie

@@ -3,6 +3,7 @@ use borrow.Author.Needs.{needs}
 use Rattle.reading.proofs.Bytes.{same-byte, other-byte, no-byte, all-bytes}
 use mathlib.Core.Path.{sym, _∙_}
 use mathlib.Core.List.{[], _∷_}
+use lib.ListN.{length, drop}
 use Prim.Native.Nat.{_+_}
 use denote.Ref.{now}
 use native.Mathlib.Omega.{arith}

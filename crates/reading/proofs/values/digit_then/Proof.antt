@@ -4,8 +4,8 @@ use Rattle.reading.proofs.Chains.{found, then-off, then-other, then-bot
 use mathlib.Core.Path.{_≡_}
 use lib.ListN.{drop}
 use denote.Ref.{now}
-use Rattle.definition.specs.Text.{one-digit}
-use Rattle.reading.specs.Found.{taken, step-as, number-as}
+use Rattle.definition.specs.Text.{exactly, hex, one-digit}
+use Rattle.reading.specs.Found.{taken, step-as, number-as, bits-as, up-to}
 use Rattle.reading.proofs.values.digit_then.Statement.{statement}
 use Rattle.reading.proofs.values.digit_then.Tie as tie
 

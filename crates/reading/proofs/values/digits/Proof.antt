@@ -1,8 +1,8 @@
 -- `values::digits`. Invariant: v is the number of the digits up to p, at most `most`, and the definition's number goes on from it.
 use borrow.Author.Needs.{needs}
-use mathlib.Core.Path.{_≡_, sym, ap, _∙_}
+use mathlib.Core.Path.{_≡_, refl, sym, ap, _∙_}
 use mathlib.Core.Bool.{true}
-use Prim.Native.Nat.{_+_, _-_, _≤_}
+use Prim.Native.Nat.{_+_, _-_, _*_, _≤_}
 use lib.ListN.{length, getD, drop}
 use denote.Ref.{now}
 use borrow.Author.Tests.{not-true, not-false}

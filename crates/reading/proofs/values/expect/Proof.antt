@@ -3,7 +3,7 @@ use borrow.Author.Needs.{needs}
 use Rattle.reading.proofs.Bytes.{same-byte, other-byte, no-byte, all-bytes}
 use mathlib.Core.Path.{_≡_, refl, sym, _∙_}
 use lib.ListN.{length, drop}
-use Prim.Native.Nat.{_-_, _≤_}
+use Prim.Native.Nat.{_+_, _-_, _≤_}
 use denote.Ref.{now}
 use Rattle.definition.specs.Text.{exactly}
 use native.Mathlib.Omega.{arith}

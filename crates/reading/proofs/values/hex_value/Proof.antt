@@ -3,6 +3,7 @@ use borrow.Author.Needs.{needs}
 use Rattle.reading.proofs.Digits.{digit-within}
 use Rattle.reading.proofs.Hexes.{of-digit, of-low, of-high, of-letter}
 use mathlib.Core.Path.{sym, _∙_}
+use native.Mathlib.Omega.{arith}
 use Rattle.reading.proofs.values.hex_value.Statement.{statement}
 use Rattle.reading.proofs.values.hex_value.Tie as tie
 

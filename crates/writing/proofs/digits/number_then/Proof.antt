@@ -2,6 +2,7 @@
 use borrow.Author.Needs.{needs}
 use Rattle.writing.proofs.Puts.{and-next, one-byte}
 use Rattle.writing.proofs.Shows.{show-short}
+use Rattle.definition.specs.Text.{show-bits}
 use native.Mathlib.Omega.{arith}
 use Rattle.writing.proofs.digits.number_then.Statement.{statement}
 use Rattle.writing.proofs.digits.number_then.Tie as tie

@@ -2,6 +2,7 @@
 use borrow.Author.Needs.{needs}
 use Rattle.writing.proofs.Puts.{and-next, same-text}
 use mathlib.Core.List.{append-assoc}
+use mathlib.Core.Path.{_∙_}
 use Rattle.definition.specs.Text.{line-of}
 use native.Mathlib.Omega.{arith}
 use Rattle.writing.proofs.lines.place.Statement.{statement}
