@@ -127,7 +127,8 @@ struct Tally {
     refused: usize,
     agree: usize,
     partings: BTreeMap<Parting, usize>,
-    limited: usize,
+    by_attempts: usize,
+    by_triangles: usize,
     short: usize,
 }
 
@@ -166,7 +167,13 @@ impl Comparison {
         }
         let full = input.run_unchecked(UNBOUNDED);
         account::check(&input, &full);
-        tally.limited += full.refusals.limit;
+        if full.refusals.limit == 1 {
+            if full.refusals.attempts > 200 * input.triangles.len() + 10_000 {
+                tally.by_attempts += 1;
+            } else {
+                tally.by_triangles += 1;
+            }
+        }
         if input.triangles.len() <= 64 && full.refusals.attempts < 400 && r.once_in(3) {
             tally.short += account::check_lent(&input, &full, &mut r);
         }
@@ -189,8 +196,8 @@ impl Comparison {
 
     /// A line a kind, then the sums. True when nothing parts but by the two patches.
     pub fn print(&self) -> bool {
-        println!("kind runs refused agree cosine off_front both other limit short_of_memory");
-        let mut sums = [0; 9];
+        println!("kind runs refused agree cosine off_front both other by_attempts by_triangles short_of_memory");
+        let mut sums = [0; 10];
         for (kind, t) in &self.kinds {
             let of = |why| t.partings.get(&why).copied().unwrap_or(0);
             let row = [
@@ -201,7 +208,8 @@ impl Comparison {
                 of(Parting::OffFront),
                 of(Parting::Both),
                 of(Parting::Other),
-                t.limited,
+                t.by_attempts,
+                t.by_triangles,
                 t.short,
             ];
             println!("{kind} {}", row.map(|n| n.to_string()).join(" "));

@@ -1,2 +1,4 @@
 pub mod Near
 pub mod Halves
+pub mod Around
+pub mod Closes

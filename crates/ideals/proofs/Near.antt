@@ -3,11 +3,13 @@ use mathlib.Core.Path.{_≡_, refl, ap, sym, _∙_, subst}
 use mathlib.Core.Logic.{_≢_}
 use mathlib.Core.Bool.{Bool, true, false, not, cond, _&&_, _||_, or-false, false≢true}
 use mathlib.Core.List.{List, [], _∷_}
-use Prim.Native.Nat.{ℕ}
+use Prim.Native.Nat.{ℕ, min, max}
+use native.Mathlib.Omega.{arith}
 use lib.Dec.{eqb}
 use borrow.Author.Tests.{eq-eqb, ne-eqb}
 use Rattle.rings.proofs.Lists.{Same, same, differ, decide}
 use Rattle.definition.specs.Lists.{filter, any, contains}
+use Rattle.definition.specs.Plane.{Edge}
 use Rattle.definition.specs.Cells.{Tri, Quad, Cell, tri, quad, Live, Mesh, nodes, tri-nodes, quad-nodes, key, tri-has, has-side, owns, owners, has-node, cells-at, front-owners, is-front}
 use Rattle.cells.proofs.Edges.{joins, tri-side, quad-side}
 use Rattle.cells.proofs.Fronts.{filter-hit, filter-miss}
@@ -49,7 +51,7 @@ quad-bool false false false false false false false true h = h
 quad-bool false false false false false false false false h = h
 
 -- a cell that has the edge u-v has the node u
-side-node : (u v : ℕ) (c : Cell) → has-side (key u v) c ≡ true → contains (nodes c) u ≡ true
+pub side-node : (u v : ℕ) (c : Cell) → has-side (key u v) c ≡ true → contains (nodes c) u ≡ true
 unfolding contains any nodes tri-nodes quad-nodes tri-has
 side-node u v (tri t) h =
     rw (eqb-swap u (t .n0), eqb-swap u (t .n1), eqb-swap u (t .n2))
@@ -57,6 +59,14 @@ side-node u v (tri t) h =
 side-node u v (quad q) h =
     rw (eqb-swap u (q .n0), eqb-swap u (q .n1), eqb-swap u (q .n2), eqb-swap u (q .n3))
     (quad-bool (eqb (q .n0) u) (eqb (q .n1) u) (eqb (q .n2) u) (eqb (q .n3) u) (eqb (q .n0) v) (eqb (q .n1) v) (eqb (q .n2) v) (eqb (q .n3) v) (sym (quad-side q u v) ∙ h))
+
+key-swap : (u v : ℕ) → key u v ≡ key v u
+unfolding key
+key-swap u v = let p : min u v ≡ min v u = omega arith in let q : max u v ≡ max v u = omega arith in rw (p, q)
+
+-- and the node v
+pub side-end : (u v : ℕ) (c : Cell) → has-side (key u v) c ≡ true → contains (nodes c) v ≡ true
+side-end u v c h = side-node v u c (ap (λ (e : Edge). has-side e c) (key-swap v u) ∙ h)
 
 among-near : (u v : ℕ) (l : List Live) → filter (owns (key u v)) (filter (has-node u) l) ≡ filter (owns (key u v)) l
 unfolding filter owns has-node

@@ -1,15 +1,16 @@
 -- Ideals asked one at a time.
 use mathlib.Core.Path.{_≡_}
-use mathlib.Core.Bool.{Bool, true, false, _||_}
+use mathlib.Core.Bool.{Bool, true, false, not, _&&_, _||_}
 use mathlib.Core.List.{List}
 use Prim.Native.Nat.{ℕ, _<_, _≤_}
 use lib.ListN.{length}
+use lib.Ieee.{Float}
 use Rattle.definition.specs.Lists.{any, below, flat-map}
-use Rattle.definition.specs.Floats.{_≼_}
+use Rattle.definition.specs.Floats.{_⊗_, _≺_, _≼_}
 use Rattle.definition.specs.Numbers.{Turn, leftward, rightward, base}
-use Rattle.definition.specs.Plane.{Vec, dot}
+use Rattle.definition.specs.Plane.{Vec, norm, over, dot}
 use Rattle.definition.specs.Cells.{Mesh, cells-at}
-use Rattle.definition.specs.Candidates.{ideal-by}
+use Rattle.definition.specs.Candidates.{toward, ideal-by, ideals, edge-candidate}
 
 -- the ideal i is near the unit e, or any does
 abbrev pub close : Bool → Vec → Vec → Bool
@@ -32,3 +33,19 @@ turn false = rightward
 pub record At (m : Mesh) (a v : ℕ) : Type 0 where
   pub node : a < length (m .points)
   pub end : v < length (m .points)
+
+-- the unit e is near an ideal; u is the unit from a to other
+abbrev pub near-ideal : Turn → Mesh → ℕ → ℕ → Vec → Vec → Bool
+near-ideal t m a other u e = any (λ i. base .edge-dot ≼ dot e i) (ideals base t m a other u (cells-at m a))
+
+-- a length between the edge factors
+abbrev pub edge-reach : Float → Float → Bool
+edge-reach d target = not (d ≺ base .edge-low ⊗ target) && not (base .edge-high ⊗ target ≺ d)
+
+-- v is an edge candidate at a; with a and other in one place there is none
+abbrev pub by-edge : Turn → Mesh → ℕ → ℕ → Float → ℕ → Bool
+by-edge t m a other target v =
+    let u = toward m a other in
+    let un = norm u in
+    let near = cells-at m a in
+    not (un ≼ base .tiny-length) && edge-candidate base m a other target near (ideals base t m a other (over u un) near) v

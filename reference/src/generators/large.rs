@@ -103,7 +103,7 @@ fn heap(r: &mut Random, triangles: usize) -> Shape {
     s
 }
 
-/// No more than 1,000 triangles: it takes long.
+/// No more than 1,000 triangles, which reach the limit on attempts: it takes long.
 fn hub(r: &mut Random, triangles: usize) -> Shape {
     let room = Room {
         triangles: triangles.min(1000),

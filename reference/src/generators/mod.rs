@@ -66,7 +66,7 @@ pub const KINDS: &[Kind] = &[
     ("refused", extremes::refused),
 ];
 
-/// Made only where they are asked for: one is slow, the other is for one test.
+/// Made only where they are asked for: one needs more triangles than a text has, the other is for one test.
 const ASKED: &[Kind] = &[
     ("hub", |r, m| stepped(soups::hub, r, m)),
     ("strip", strips::strip),

@@ -286,23 +286,24 @@ pub fn slots(r: &mut Random, _: &Room) -> Shape {
     s.within(8.0)
 }
 
-/// Squares and slim triangles at one node: each quad frees all edges at it, so the
-/// attempts grow with the square of the triangles.
+/// Squares, and triangles without extent, at one node. Each quad frees all edges at it, and those without length
+/// come first in every round, so the attempts grow with the square of the triangles: from about 900 on they reach
+/// their limit.
 pub fn hub(r: &mut Random, room: &Room) -> Shape {
-    let slim = room.triangles / 2;
+    let points = room.triangles / 2;
     let squares = room.triangles / 4;
     let mut s = Shape {
         step: 1.0,
         ..Shape::default()
     };
     let hub = s.add(0.0, 0.0);
-    for _ in 0..slim {
-        let a = s.add(0.3 + 0.1 * r.unit(), 0.0);
-        let b = s.add(0.3, 0.01 + 0.01 * r.unit());
+    for _ in 0..points {
+        let a = s.add(0.0, 0.0);
+        let b = s.add(0.0, 0.0);
         s.tris.push([hub, a, b]);
     }
     for _ in 0..squares {
-        let a = s.add(1.0, 0.0);
+        let a = s.add(1.0 + 0.1 * r.unit(), 0.0);
         let b = s.add(1.0, 1.0);
         let c = s.add(0.0, 1.0);
         s.tris.extend([[hub, a, b], [hub, b, c]]);

@@ -1,0 +1,116 @@
+use mathlib.Core.Path.{_≡_, refl, ap, sym, _∙_, subst}
+use mathlib.Core.Bool.{Bool, true, false, not}
+use lib.Ieee.{Float}
+use Rattle.definition.specs.Plane.{norm}
+use Rattle.definition.specs.Candidates.{toward}
+use Rattle.plane.specs.Vectors.{vec}
+use Rattle.candidates.proofs.Aheads.{ahead-read}
+use Rattle.ideals.specs.Wanted.{turn, At}
+use Rattle.ideals.proofs.Halves.{toward-read, within}
+use Rattle.ideals.proofs.Closes.{not-was, was}
+use Rattle.choices.specs.Choice.{too-far}
+use Rattle.choices.proofs.Tests.{choice-far, choice-edge, choice-behind, choice-side}
+use borrow.Author.Needs.{needs}
+use Rattle.choices.proofs.is_choice.Statement.{statement}
+use Rattle.choices.proofs.is_choice.Tie as tie
+use Rattle.choices.proofs.is_choice.Reads as reads
+use Rattle.choices.proofs.is_choice.Lts as lts
+use Rattle.candidates.proofs.sides.ahead.Reads as ahead-reads
+use Rattle.candidates.proofs.sides.side_candidate.Reads as side-candidate-reads
+use Rattle.choices.proofs.too_far.Reads as too-far-reads
+use Rattle.ideals.proofs.edge_candidate.Reads as edge-candidate-reads
+use Rattle.plane.proofs.vectors.from_to.Reads as from-to-reads
+use Rattle.plane.proofs.vectors.norm.Reads as norm-reads
+
+from-to-requires : tie.Need-from-to-requires
+from-to-requires c κs =
+    let t = c .before .before in
+    let a = t .args in
+    let y = within (a .q .now) (a .p) (t .pre .0) (t .pre .2 .pts) in
+    (y (a .a) (t .pre .4 .first), y (a .v) (t .pre .4 .second))
+
+norm-requires : tie.Need-norm-requires
+norm-requires c κs = search needs
+
+too-far-requires : tie.Need-too-far-requires
+too-far-requires c κs = search needs
+
+returns : tie.Need-returns
+returns c =
+    let tf = c .before in
+    let nm = tf .before in
+    let ft = nm .before in
+    let t = ft .before .before .before in
+    let a = t .args in
+    λ m g h y e.
+    let d : vec (ft .from-to .result) ≡ toward m (a .a) (a .v) = toward-read (a .q .now) (a .p) m (h .pts) (a .a) (a .v) (record { node = e .first; end = e .second }) (vec (ft .from-to .result)) (ft .from-to .ensures) in
+    let n : nm .norm .result ≡ norm (toward m (a .a) (a .v)) = nm .norm .ensures ∙ ap norm d in
+    choice-far (turn (a .left)) m (a .a) (a .other) (vec (a .normal)) (a .target) g (a .v) (sym (c .if1 .taken) ∙ tf .too-far .ensures ∙ ap (λ (x : Float). too-far x (a .target)) n)
+
+edge-candidate-requires : tie.Need-edge-candidate-requires
+edge-candidate-requires c κs =
+    let ft = c .before .before .before in
+    let t = ft .before .before .before in
+    (t .pre .0, t .pre .2 .rep, t .pre .2 .pts, t .pre .3, record { node = t .pre .4 .first; end = t .pre .4 .second })
+
+returns-2 : tie.Need-returns-2
+returns-2 c =
+    let ec = c .before in
+    let ft = ec .before .before .before .before in
+    let t = ft .before .before .before in
+    let a = t .args in
+    λ m g h y e.
+    choice-edge (turn (a .left)) m (a .a) (a .other) (vec (a .normal)) (a .target) g (a .v)
+    (sym (c .if2 .taken) ∙ ec .edge-candidate .ensures m (h .rep) (h .pts) y (record { node = e .first; end = e .second }))
+
+ahead-requires : tie.Need-ahead-requires
+ahead-requires c κs = search needs
+
+returns-3 : tie.Need-returns-3
+returns-3 c =
+    let ah = c .before in
+    let e2 = ah .before in
+    let ec = e2 .before in
+    let ft = ec .before .before .before .before in
+    let t = ft .before .before .before in
+    let a = t .args in
+    λ m g h y e.
+    choice-behind (turn (a .left)) m (a .a) (a .other) (vec (a .normal)) (a .target) g (a .v)
+    (sym (e2 .if2 .left) ∙ ec .edge-candidate .ensures m (h .rep) (h .pts) y (record { node = e .first; end = e .second }))
+    (not-was (ah .ahead .result) (c .if3 .taken) ∙ ah .ahead .ensures ∙ ahead-read (a .q .now) (a .p) m (h .pts) (a .a) (a .v) e (vec (a .normal)) (vec (ft .from-to .result)) (a .target) (ft .from-to .ensures))
+
+side-candidate-requires : tie.Need-side-candidate-requires
+side-candidate-requires c κs =
+    let ec = c .before .before .before in
+    let ft = ec .before .before .before .before in
+    let t = ft .before .before .before in
+    (t .pre .0, t .pre .1, t .pre .2, t .pre .4)
+
+returns-4 : tie.Need-returns-4
+returns-4 c =
+    let e3 = c .before in
+    let ah = e3 .before in
+    let e2 = ah .before in
+    let ec = e2 .before in
+    let ft = ec .before .before .before .before in
+    let t = ft .before .before .before in
+    let a = t .args in
+    λ m g h y e.
+    choice-side (turn (a .left)) m (a .a) (a .other) (vec (a .normal)) (a .target) g (a .v) (c .side-candidate .result)
+    (sym (e2 .if2 .left) ∙ ec .edge-candidate .ensures m (h .rep) (h .pts) y (record { node = e .first; end = e .second }))
+    (c .side-candidate .ensures m g h e)
+
+pub is-choice-spec : {M : Type 1} → statement M
+is-choice-spec =
+    tie.close
+    (tie.spec
+    from-to-requires
+    norm-requires
+    too-far-requires
+    returns
+    edge-candidate-requires
+    returns-2
+    ahead-requires
+    returns-3
+    side-candidate-requires
+    returns-4)

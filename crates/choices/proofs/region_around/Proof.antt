@@ -1,0 +1,40 @@
+use mathlib.Core.Path.{_≡_, refl, ap, sym, _∙_, subst}
+use Prim.Native.Nat.{ℕ, suc, _+_, _-_, _*_, _/_, _<_, _≤_, _^_}
+use native.Mathlib.Omega.{arith}
+use mathlib.Core.List.{List}
+use Rattle.definition.specs.Floats.{_⊕_, _⊗_, 2·2, 0·8, f64}
+use Rattle.definition.specs.Numbers.{base}
+use Rattle.definition.specs.Cells.{Live}
+use Rattle.lives.specs.Stack.{LiveTo}
+use Rattle.plane.specs.Points.{node, ground}
+use Rattle.choices.proofs.Tests.{region-read}
+use borrow.Author.Needs.{needs}
+use Rattle.choices.proofs.region_around.Statement.{statement}
+use Rattle.choices.proofs.region_around.Tie as tie
+use Rattle.choices.proofs.region_around.Reads as reads
+use Rattle.choices.proofs.region_around.Lts as lts
+use Rattle.lives.proofs.live.live_region.Reads as live-region-reads
+use Rattle.plane.proofs.points.at.Reads as at-reads
+
+at-requires : tie.Need-at-requires
+at-requires c κs = search needs
+
+live-region-requires : tie.Need-live-region-requires
+live-region-requires c κs = search needs
+
+same-length : tie.Need-same-length
+same-length c = search needs
+
+returns : tie.Need-returns
+unfolding base _⊕_ _⊗_ 2·2 0·8 f64 node ground
+returns c =
+    let lr = c .before .before in
+    let t = c .before .before .before .before .before .before .before in
+    let a = t .args in
+    λ m l h.
+    subst (LiveTo (a .w .now) (lr .live-region .last .0) (a .s) (a .p) (lr .live-region .result) m)
+    (region-read (a .q .now) (a .p) m (l .pts) (a .seed) (a .a) h _ _ ((base .side-high ⊕ base .side-margin) ⊗ a .target) (c .before .before .before .before .at .ensures))
+    (lr .live-region .ensures m l)
+
+pub region-around-spec : {M : Type 1} → statement M
+region-around-spec = tie.close (tie.spec at-requires live-region-requires same-length returns)

@@ -1,0 +1,90 @@
+-- The side nodes for an end of a front edge, listed in lent memory.
+use mathlib.Core.Path.{_≡_}
+use mathlib.Core.Bool.{Bool, cond, _&&_, _||_}
+use mathlib.Core.List.{List, []}
+use Prim.Native.Nat.{ℕ, _+_, _*_, _^_, _<_, _≤_}
+use lib.ListN.{length, getD, set, take, drop}
+use lib.Ieee.{Float}
+use Rattle.rings.specs.Rings.{Below}
+use Rattle.definition.specs.Floats.{_⊗_, _≺_}
+use Rattle.definition.specs.Numbers.{Turn, base}
+use Rattle.definition.specs.Plane.{Vec}
+use Rattle.definition.specs.Cells.{Live, Mesh}
+use Rattle.definition.specs.Candidates.{walls, side-candidate}
+use Rattle.cells.specs.Layout.{marks-at, refused-at, near-at, buckets-at, stack-at}
+use Rattle.cells.specs.Walk.{one-if}
+use Rattle.lives.specs.Stack.{Lent, Stored}
+use Rattle.candidates.specs.Hand.{InHand}
+use Rattle.ideals.specs.Wanted.{by-edge}
+
+-- what a search for the side nodes of a asks: the mesh in lent memory, nodes and a seed, and p words from `at` on between the candidates' areas
+pub record CanChoose (w : List ℕ) (q : List Float) (s p used n at a other seed : ℕ) (m : Mesh) : Type 0 where
+  pub lent : Lent w q s p used m
+  pub count : n ≡ length (m .points)
+  pub first : a < n
+  pub second : other < n
+  pub apart : a ≡ other → ⊥
+  pub seeded : seed < s
+  pub from : near-at s p ≤ at
+  pub to : at + p ≤ buckets-at s p
+
+-- nothing changed but marks, list, stack and the p words from `at` on
+pub record Spare (w w' : List ℕ) (s p at : ℕ) : Type 0 where
+  pub len : length w' ≡ length w
+  pub mesh : (i : ℕ) → i < marks-at s p → getD w' i 0 ≡ getD w i 0
+  pub before : (i : ℕ) → refused-at s p ≤ i → i < at → getD w' i 0 ≡ getD w i 0
+  pub behind : (i : ℕ) → at + p ≤ i → i < stack-at s p → getD w' i 0 ≡ getD w i 0
+
+-- the k nodes cs, all below n, stand from `at` on
+pub record ChosenTo (w w' : List ℕ) (s p n at k : ℕ) (cs : List ℕ) : Type 0 where
+  pub len : k ≡ length cs
+  pub few : k ≤ n
+  pub are : take k (drop at w') ≡ cs
+  pub below : (i : ℕ) → i < k → getD w' (at + i) 0 < n
+  pub spare : Spare w w' s p at
+
+-- ---- one node
+
+-- a length beyond the reach of either kind of candidate
+abbrev pub too-far : Float → Float → Bool
+too-far d target = (base .edge-high ⊗ target ≺ d) && (base .side-high ⊗ target ≺ d)
+
+-- v is a side node for a, by an edge or from the region in hand
+abbrev pub is-choice : Turn → Mesh → ℕ → ℕ → Vec → Float → List Live → ℕ → Bool
+is-choice t m a other n target region v = by-edge t m a other target v || side-candidate base m a other n target region (walls m region) v
+
+-- ---- the scan
+
+-- the region is in hand, and the nodes of the mesh are scanned
+pub record CanScan (w : List ℕ) (q : List Float) (s p k n at a other : ℕ) (m : Mesh) (region : List Live) : Type 0 where
+  pub hand : InHand w q s p k m region
+  pub count : n ≡ length (m .points)
+  pub first : a < n
+  pub second : other < n
+  pub from : near-at s p ≤ at
+  pub to : at + p ≤ buckets-at s p
+
+-- nothing changed but the p words from b on
+pub record Besides (w w' : List ℕ) (b p : ℕ) : Type 0 where
+  pub len : length w' ≡ length w
+  pub before : (i : ℕ) → i < b → getD w' i 0 ≡ getD w i 0
+  pub behind : (i : ℕ) → b + p ≤ i → getD w' i 0 ≡ getD w i 0
+
+-- the r nodes cs stand from b on
+pub record ScannedTo (w w' : List ℕ) (p n b r : ℕ) (cs : List ℕ) : Type 0 where
+  pub len : r ≡ length cs
+  pub few : r ≤ n
+  pub stored : Stored w' b cs
+  pub known : Below n cs
+  pub besides : Besides w w' b p
+
+-- what a node more at the end of r asks
+pub record CanAdd (w : List ℕ) (b r v : ℕ) : Type 0 where
+  pub fits : b + r < length w
+  pub small : v < 2 ^ 32
+
+-- v stands behind the r nodes from b on, if it counts
+pub record AddedTo (w w' : List ℕ) (b r v : ℕ) (yes : Bool) (k : ℕ) : Type 0 where
+  pub text : w' ≡ cond yes (set w (b + r) v) w
+  pub count : k ≡ r + one-if yes
+  pub most : k ≤ r + 1

@@ -1,0 +1,161 @@
+// The side nodes for an end of a front edge, ascending.
+use candidates::sides::SIDE_HIGH;
+use candidates::sides::ahead;
+use candidates::sides::side_candidate;
+use ideals::EDGE_HIGH;
+use ideals::edge_candidate;
+use lives::live::live_region;
+use plane::points::at;
+use plane::vectors::Vec;
+use plane::vectors::from_to;
+use plane::vectors::norm;
+ghost use mathlib.Core.Path.{_≡_};
+ghost use mathlib.Core.Bool.{_&&_, _||_};
+ghost use mathlib.Core.List.{List};
+ghost use Prim.Native.Nat.{_+_, _*_, _<_, _≤_};
+ghost use lib.ListN.{length};
+ghost use Rattle.definition.specs.Floats.{_⊕_, _⊗_};
+ghost use Rattle.definition.specs.Lists.{filter, below};
+ghost use Rattle.definition.specs.Numbers.{base};
+ghost use Rattle.definition.specs.Cells.{Live, Mesh, node-at};
+ghost use Rattle.definition.specs.Candidates.{live-region, candidates};
+ghost use Rattle.plane.specs.Vectors.{vec};
+ghost use Rattle.lives.specs.Stack.{Lent, LiveTo};
+ghost use Rattle.candidates.specs.Hand.{InHand, Ends};
+ghost use Rattle.ideals.specs.Wanted.{turn, At};
+ghost use Rattle.choices.specs.Choice.{CanChoose, ChosenTo, too-far, is-choice, CanScan, ScannedTo, CanAdd, AddedTo};
+
+// Side nodes are looked for within the side's highest factor and this many targets more.
+pub const SIDE_MARGIN: f64 = 0.8;
+
+// A length beyond the reach of either kind of candidate.
+fn too_far(d: f64, target: f64) -> bool
+    ensures { λ r. ⌜ r ≡ too-far d target ⌝ }
+{
+    if d > EDGE_HIGH * target {
+        return d > SIDE_HIGH * target;
+    }
+    false
+}
+
+// v is a side node for a: an edge candidate, or a side candidate in the region of k triangles in hand. A node that is too far is neither, which is found out first.
+fn is_choice(
+    w: &[u32],
+    q: &[f64],
+    s: usize,
+    p: usize,
+    k: usize,
+    left: bool,
+    a: usize,
+    other: usize,
+    normal: Vec,
+    target: f64,
+    v: usize,
+) -> bool
+    requires { ⌜ ((m : Mesh) × (region : List Live) × InHand (now w) (now q) s p k m region × At m a other × Ends m a v) ⌝ }
+    ensures { λ r. ⌜ ((m : Mesh) (region : List Live) → InHand (now (w .entry)) (now (q .entry)) s p k m region → At m a other → Ends m a v → r ≡ is-choice (turn left) m a other (vec normal) target region v) ⌝ }
+{
+    let d = from_to(q, a, v);
+    if too_far(norm(d), target) {
+        return false;
+    }
+    if edge_candidate(w, q, s, p, a, other, target, left, v) {
+        return true;
+    }
+    if !ahead(normal, d, target) {
+        return false;
+    }
+    side_candidate(w, q, s, p, k, a, other, normal, target, v)
+}
+
+// The node v comes behind the r nodes from b on, if it counts; how many they are then.
+fn add(w: &mut [u32], b: usize, r: usize, v: usize, yes: bool) -> usize
+    requires { ⌜ CanAdd (now w) b r v ⌝ }
+    ensures { λ k. ⌜ AddedTo (now (w .entry)) (now (w .exit)) b r v yes k ⌝ }
+{
+    if yes {
+        w[b + r] = v as u32;
+        return r + 1;
+    }
+    r
+}
+
+// The side nodes for a, with the region of k triangles in hand, ascending, come to b; how many they are.
+fn scan(
+    w: &mut [u32],
+    q: &[f64],
+    s: usize,
+    p: usize,
+    k: usize,
+    n: usize,
+    b: usize,
+    left: bool,
+    a: usize,
+    other: usize,
+    normal: Vec,
+    target: f64,
+) -> usize
+    requires { ⌜ ((m : Mesh) × (region : List Live) × CanScan (now w) (now q) s p k n b a other m region) ⌝ }
+    ensures { λ r. ⌜ ((m : Mesh) (region : List Live) → CanScan (now (w .entry)) (now (q .entry)) s p k n b a other m region → ScannedTo (now (w .entry)) (now (w .exit)) p n b r (filter (is-choice (turn left) m a other (vec normal) target region) (below n))) ⌝ }
+{
+    let mut r: usize = 0;
+    let mut v: usize = 0;
+    while v < n {
+        let yes = is_choice(w, q, s, p, k, left, a, other, normal, target, v);
+        r = add(w, b, r, v, yes);
+        v += 1;
+    }
+    r
+}
+
+// The live region around the node a that its side nodes are looked for in; how many triangles it has.
+fn region_around(
+    w: &mut [u32],
+    q: &[f64],
+    s: usize,
+    p: usize,
+    used: usize,
+    seed: usize,
+    a: usize,
+    target: f64,
+) -> usize
+    requires { ⌜ ((m : Mesh) × Lent (now w) (now q) s p used m × (a < length (m .points))) ⌝ }
+    requires { ⌜ seed < s ⌝ }
+    ensures { λ k. ⌜ ((m : Mesh) → Lent (now (w .entry)) (now (q .entry)) s p used m → a < length (m .points) → LiveTo (now (w .entry)) (now (w .exit)) s p k m (live-region m seed (node-at m a) ((base .side-high ⊕ base .side-margin) ⊗ target))) ⌝ }
+{
+    let o = at(q, a);
+    live_region(
+        w,
+        q,
+        s,
+        p,
+        used,
+        seed,
+        o.x,
+        o.y,
+        (SIDE_HIGH + SIDE_MARGIN) * target,
+    )
+}
+
+// The side nodes for the end a of the edge from a to other, ascending, come to `at`; how many they are.
+pub fn candidates(
+    w: &mut [u32],
+    q: &[f64],
+    s: usize,
+    p: usize,
+    used: usize,
+    n: usize,
+    at: usize,
+    left: bool,
+    a: usize,
+    other: usize,
+    seed: usize,
+    normal: Vec,
+    target: f64,
+) -> usize
+    requires { ⌜ ((m : Mesh) × CanChoose (now w) (now q) s p used n at a other seed m) ⌝ }
+    ensures { λ k. ⌜ ((m : Mesh) → CanChoose (now (w .entry)) (now (q .entry)) s p used n at a other seed m → ChosenTo (now (w .entry)) (now (w .exit)) s p n at k (candidates base (turn left) m a other seed (vec normal) target)) ⌝ }
+{
+    let k = region_around(w, q, s, p, used, seed, a, target);
+    scan(w, q, s, p, k, n, at, left, a, other, normal, target)
+}

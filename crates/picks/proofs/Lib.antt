@@ -1,0 +1,4 @@
+pub mod Tests
+pub mod Ways
+pub mod Picks
+pub mod Turns
