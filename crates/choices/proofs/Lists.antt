@@ -1,9 +1,8 @@
 -- The nodes listed so far, and what stays.
 use mathlib.Core.Path.{_≡_, refl, ap, sym, _∙_, subst}
-use mathlib.Core.Logic.{_≢_}
-use mathlib.Core.Bool.{Bool, true, false, cond}
+use mathlib.Core.Bool.{Bool, true, false}
 use mathlib.Core.List.{List, [], _∷_, _++_, append-nil}
-use Prim.Native.Nat.{ℕ, zero, suc, _+_, _-_, _*_, _≤_, _<_}
+use Prim.Native.Nat.{ℕ, zero, suc, _+_, _*_, _≤_, _<_}
 use native.Mathlib.Numerals.{add-one}
 use native.Mathlib.Omega.{arith}
 use lib.ListN.{length, getD, set, take, drop, length-set, length-append}
@@ -13,9 +12,8 @@ use Rattle.rings.specs.Rings.{Below}
 use Rattle.rings.proofs.Rings.{on, off}
 use Rattle.definition.specs.Lists.{filter, numbers, below}
 use Rattle.definition.specs.Cells.{Live, Mesh}
-use Rattle.cells.specs.Layout.{mesh-end, marks-at, list-at, refused-at, near-at, buckets-at, stack-at}
-use Rattle.cells.specs.Rep.{Rep, slots}
-use Rattle.cells.specs.Walk.{one-if}
+use Rattle.cells.specs.Layout.{mesh-end, list-at, near-at, buckets-at}
+use Rattle.cells.specs.Rep.{slots}
 use Rattle.cells.specs.Frames.{Under}
 use Rattle.cells.proofs.Corners.{below-at}
 use Rattle.cells.proofs.Frames.{rep-under}
@@ -25,7 +23,7 @@ use Rattle.lives.specs.Stack.{Lent, LiveTo, Stored}
 use Rattle.lives.proofs.Lists.{stored-kept, stored-snoc, slots-length}
 use Rattle.lives.proofs.Scratches.{scratch-rep}
 use Rattle.candidates.specs.Hand.{InHand}
-use Rattle.choices.specs.Choice.{CanChoose, Spare, ChosenTo, CanScan, Besides, ScannedTo, AddedTo}
+use Rattle.choices.specs.Choice.{CanChoose, ChosenTo, CanScan, Besides, ScannedTo, AddedTo}
 
 -- ---- lists of numbers
 

@@ -1,12 +1,11 @@
 -- One node: too far, by an edge, or from the region.
-use mathlib.Core.Path.{_≡_, refl, ap, sym, _∙_, subst}
-use mathlib.Core.Bool.{Bool, true, false, not, _&&_, _||_, and-false, false≢true}
+use mathlib.Core.Path.{_≡_, refl, ap, sym, _∙_}
+use mathlib.Core.Bool.{Bool, true, false, _&&_, and-false, false≢true}
 use mathlib.Core.List.{List}
 use Prim.Native.Nat.{ℕ, _<_}
-use lib.Dec.{eqb}
 use lib.ListN.{length}
 use lib.Ieee.{Float}
-use Rattle.definition.specs.Lists.{any, filter, below}
+use Rattle.definition.specs.Lists.{filter, below}
 use Rattle.definition.specs.Floats.{_≺_, _⊗_, _⊕_}
 use Rattle.definition.specs.Numbers.{Turn, base}
 use Rattle.definition.specs.Plane.{Node, Vec, flat, norm, from-to}
@@ -19,11 +18,11 @@ use Rattle.plane.specs.Points.{node-of}
 use Rattle.ideals.specs.Wanted.{by-edge}
 use Rattle.choices.specs.Choice.{too-far, is-choice}
 
-both-left : (a b : Bool) → (a && b) ≡ true → a ≡ true
+pub both-left : (a b : Bool) → (a && b) ≡ true → a ≡ true
 both-left true b h = refl
 both-left false b h = h
 
-both-right : (a b : Bool) → (a && b) ≡ true → b ≡ true
+pub both-right : (a b : Bool) → (a && b) ≡ true → b ≡ true
 both-right true b h = h
 both-right false b h = absurd (false≢true h)
 

@@ -1,13 +1,14 @@
 -- The side nodes for an end of a front edge, listed in lent memory.
 use mathlib.Core.Path.{_≡_}
-use mathlib.Core.Bool.{Bool, cond, _&&_, _||_}
-use mathlib.Core.List.{List, []}
-use Prim.Native.Nat.{ℕ, _+_, _*_, _^_, _<_, _≤_}
+use mathlib.Core.Bool.{Bool, true, cond, _&&_, _||_}
+use mathlib.Core.List.{List}
+use Prim.Native.Nat.{ℕ, _+_, _^_, _<_, _≤_}
 use lib.ListN.{length, getD, set, take, drop}
-use lib.Ieee.{Float}
+use lib.Ieee.{Float, binary64, fits}
 use Rattle.rings.specs.Rings.{Below}
-use Rattle.definition.specs.Floats.{_⊗_, _≺_}
+use Rattle.definition.specs.Floats.{_⊕_, _⊗_, _≺_}
 use Rattle.definition.specs.Numbers.{Turn, base}
+use Rattle.definition.specs.Root.{sqrt}
 use Rattle.definition.specs.Plane.{Vec}
 use Rattle.definition.specs.Cells.{Live, Mesh}
 use Rattle.definition.specs.Candidates.{walls, side-candidate}
@@ -48,6 +49,14 @@ pub record ChosenTo (w w' : List ℕ) (s p n at k : ℕ) (cs : List ℕ) : Type 
 -- a length beyond the reach of either kind of candidate
 abbrev pub too-far : Float → Float → Bool
 too-far d target = (base .edge-high ⊗ target ≺ d) && (base .side-high ⊗ target ≺ d)
+
+-- the square of a vector's length, whose root is the length
+abbrev pub square : Vec → Float
+square d = d .dx ⊗ d .dx ⊕ d .dy ⊗ d .dy
+
+-- a length is too far where its square is beyond x
+pub record FarFrom (x target : Float) : Type 0 where
+  pub beyond : (z : Float) → fits binary64 z ≡ true → (x ≺ z) ≡ true → too-far (sqrt z) target ≡ true
 
 -- v is a side node for a, by an edge or from the region in hand
 abbrev pub is-choice : Turn → Mesh → ℕ → ℕ → Vec → Float → List Live → ℕ → Bool

@@ -10,9 +10,8 @@ use plane::vectors::Vec;
 use plane::vectors::from_to;
 use plane::vectors::norm;
 ghost use mathlib.Core.Path.{_≡_};
-ghost use mathlib.Core.Bool.{_&&_, _||_};
 ghost use mathlib.Core.List.{List};
-ghost use Prim.Native.Nat.{_+_, _*_, _<_, _≤_};
+ghost use Prim.Native.Nat.{_+_, _*_, _<_};
 ghost use lib.ListN.{length};
 ghost use Rattle.definition.specs.Floats.{_⊕_, _⊗_};
 ghost use Rattle.definition.specs.Lists.{filter, below};
@@ -23,10 +22,13 @@ ghost use Rattle.plane.specs.Vectors.{vec};
 ghost use Rattle.lives.specs.Stack.{Lent, LiveTo};
 ghost use Rattle.candidates.specs.Hand.{InHand, Ends};
 ghost use Rattle.ideals.specs.Wanted.{turn, At};
-ghost use Rattle.choices.specs.Choice.{CanChoose, ChosenTo, too-far, is-choice, CanScan, ScannedTo, CanAdd, AddedTo};
+ghost use Rattle.choices.specs.Choice.{CanChoose, ChosenTo, too-far, square, FarFrom, is-choice, CanScan, ScannedTo, CanAdd, AddedTo};
 
 // Side nodes are looked for within the side's highest factor and this many targets more.
 pub const SIDE_MARGIN: f64 = 0.8;
+
+// A length is tried as too far at this many times the highest factor.
+const FARTHER: f64 = 1.001;
 
 // A length beyond the reach of either kind of candidate.
 fn too_far(d: f64, target: f64) -> bool
@@ -38,7 +40,31 @@ fn too_far(d: f64, target: f64) -> bool
     false
 }
 
-// v is a side node for a: an edge candidate, or a side candidate in the region of k triangles in hand. A node that is too far is neither, which is found out first.
+// The square of a vector's length, whose root is the length.
+fn square(d: Vec) -> f64
+    ensures { λ r. ⌜ r ≡ square (vec d) ⌝ }
+{
+    d.dx * d.dx + d.dy * d.dy
+}
+
+// A number that the square of a length is beyond only where the length is too far, so that the root need not be taken; infinity where none is found.
+fn far_square(target: f64) -> f64
+    ensures { λ r. ⌜ FarFrom r target ⌝ }
+{
+    let d = Vec {
+        dx: EDGE_HIGH * target * FARTHER,
+        dy: 0.0,
+    };
+    let z = square(d);
+    if z > 0.0 {
+        if too_far(norm(d), target) {
+            return z;
+        }
+    }
+    1.0 / 0.0
+}
+
+// v is a side node for a: an edge candidate, or a side candidate in the region of k triangles in hand. A node whose distance has a square beyond `far` is neither, which is found out first.
 fn is_choice(
     w: &[u32],
     q: &[f64],
@@ -50,13 +76,15 @@ fn is_choice(
     other: usize,
     normal: Vec,
     target: f64,
+    far: f64,
     v: usize,
 ) -> bool
     requires { ⌜ ((m : Mesh) × (region : List Live) × InHand (now w) (now q) s p k m region × At m a other × Ends m a v) ⌝ }
+    requires { ⌜ FarFrom far target ⌝ }
     ensures { λ r. ⌜ ((m : Mesh) (region : List Live) → InHand (now (w .entry)) (now (q .entry)) s p k m region → At m a other → Ends m a v → r ≡ is-choice (turn left) m a other (vec normal) target region v) ⌝ }
 {
     let d = from_to(q, a, v);
-    if too_far(norm(d), target) {
+    if square(d) > far {
         return false;
     }
     if edge_candidate(w, q, s, p, a, other, target, left, v) {
@@ -98,10 +126,11 @@ fn scan(
     requires { ⌜ ((m : Mesh) × (region : List Live) × CanScan (now w) (now q) s p k n b a other m region) ⌝ }
     ensures { λ r. ⌜ ((m : Mesh) (region : List Live) → CanScan (now (w .entry)) (now (q .entry)) s p k n b a other m region → ScannedTo (now (w .entry)) (now (w .exit)) p n b r (filter (is-choice (turn left) m a other (vec normal) target region) (below n))) ⌝ }
 {
+    let far = far_square(target);
     let mut r: usize = 0;
     let mut v: usize = 0;
     while v < n {
-        let yes = is_choice(w, q, s, p, k, left, a, other, normal, target, v);
+        let yes = is_choice(w, q, s, p, k, left, a, other, normal, target, far, v);
         r = add(w, b, r, v, yes);
         v += 1;
     }

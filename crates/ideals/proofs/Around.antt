@@ -3,16 +3,16 @@ use mathlib.Core.Path.{_≡_, refl, ap, sym, _∙_, subst}
 use mathlib.Core.Logic.{_≢_}
 use mathlib.Core.Bool.{Bool, true, false, _||_, or-true, false≢true}
 use mathlib.Core.List.{List, [], _∷_}
-use Prim.Native.Nat.{ℕ, zero, suc, _+_, _*_, _≤_, _<_}
+use Prim.Native.Nat.{ℕ, _+_, _*_, _≤_, _<_}
 use native.Mathlib.Omega.{arith}
 use lib.Dec.{eqb}
 use lib.ListN.{length}
 use borrow.Author.Tests.{eq-eqb, ne-eqb, eqb-true}
 use Rattle.rings.specs.Rings.{nx, Below}
 use Rattle.rings.proofs.Lists.{Same, same, differ, decide, room}
-use Rattle.definition.specs.Lists.{filter, any, contains}
-use Rattle.definition.specs.Cells.{Live, Mesh, nodes, key, has-side, owns, owners}
-use Rattle.cells.specs.Layout.{rings-at, codes}
+use Rattle.definition.specs.Lists.{any, contains}
+use Rattle.definition.specs.Cells.{Live, Mesh, nodes, key, owns, owners}
+use Rattle.cells.specs.Layout.{rings-at}
 use Rattle.cells.specs.Rep.{Rep, Room, corners}
 use Rattle.cells.specs.Walk.{own, node-after, node-before, beside, CanRead, Pos, left}
 use Rattle.cells.proofs.Corners.{cells-weaken}

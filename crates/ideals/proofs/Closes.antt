@@ -1,20 +1,19 @@
 -- The ideals at a node asked together: some front edge, the turned unit, and the tests of an edge candidate.
-use mathlib.Core.Path.{_≡_, refl, ap, sym, _∙_, subst}
+use mathlib.Core.Path.{_≡_, refl, ap, sym, _∙_}
 use mathlib.Core.Logic.{_≢_}
 use mathlib.Core.Bool.{Bool, true, false, not, _&&_, _||_, and-false, and-true, or-false, or-true, or-assoc, false≢true}
 use mathlib.Core.List.{List, [], _∷_, _++_}
-use mathlib.Core.Option.{Option, none, some}
-use Prim.Native.Nat.{ℕ, zero, suc, _+_, _*_, _≤_, _<_}
+use mathlib.Core.Option.{none, some}
+use Prim.Native.Nat.{ℕ, zero, suc, _+_, _≤_, _<_}
 use native.Mathlib.Omega.{arith}
-use lib.Dec.{eqb, leb}
 use lib.ListN.{length}
 use lib.Ieee.{Float}
 use borrow.Author.Tests.{eq-eqb, ne-eqb}
 use Rattle.rings.proofs.Lists.{Same, same, differ, decide}
 use Rattle.definition.specs.Lists.{filter, any, first, flat-map, numbers, below}
-use Rattle.definition.specs.Floats.{_≺_, _≼_, _⊗_}
+use Rattle.definition.specs.Floats.{_≼_}
 use Rattle.definition.specs.Numbers.{Turn, base}
-use Rattle.definition.specs.Plane.{Vec, Edge, norm, over, dot}
+use Rattle.definition.specs.Plane.{Vec, norm, over, dot}
 use Rattle.definition.specs.Cells.{Live, Mesh, key, live-tri, owns, owners, tri-owners, tri-owner, cells-at, front-owners, is-front}
 use Rattle.definition.specs.Candidates.{toward, ideal-by, turned, or-turned, ideals, edge-candidate}
 use Rattle.ideals.specs.Wanted.{close, wanted-by, some-wanted, near-ideal, edge-reach, by-edge}

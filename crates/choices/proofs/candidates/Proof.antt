@@ -1,14 +1,11 @@
-use mathlib.Core.Path.{_≡_, refl, ap, sym, _∙_, subst}
-use Prim.Native.Nat.{ℕ, suc, _+_, _-_, _*_, _/_, _<_, _≤_, _^_}
+use mathlib.Core.Path.{_∙_, subst}
 use native.Mathlib.Omega.{arith}
-use lib.ListN.{length}
 use Rattle.definition.specs.Lists.{filter, below}
 use Rattle.plane.specs.Vectors.{vec}
 use Rattle.ideals.specs.Wanted.{turn}
 use Rattle.choices.specs.Choice.{ChosenTo, is-choice}
 use Rattle.choices.proofs.Tests.{region-of, chosen-are}
 use Rattle.choices.proofs.Lists.{can-scan, chosen-to}
-use borrow.Author.Needs.{needs}
 use Rattle.choices.proofs.candidates.Statement.{statement}
 use Rattle.choices.proofs.candidates.Tie as tie
 use Rattle.choices.proofs.candidates.Reads as reads

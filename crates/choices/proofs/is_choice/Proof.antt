@@ -1,15 +1,17 @@
-use mathlib.Core.Path.{_≡_, refl, ap, sym, _∙_, subst}
-use mathlib.Core.Bool.{Bool, true, false, not}
-use lib.Ieee.{Float}
+use mathlib.Core.Path.{_≡_, ap, sym, _∙_}
+use lib.Ieee.{Float, binary64, fits}
+use Rattle.definition.specs.Floats.{_≺_}
+use Rattle.definition.specs.Root.{sqrt}
 use Rattle.definition.specs.Plane.{norm}
 use Rattle.definition.specs.Candidates.{toward}
 use Rattle.plane.specs.Vectors.{vec}
 use Rattle.candidates.proofs.Aheads.{ahead-read}
-use Rattle.ideals.specs.Wanted.{turn, At}
+use Rattle.ideals.specs.Wanted.{turn}
 use Rattle.ideals.proofs.Halves.{toward-read, within}
-use Rattle.ideals.proofs.Closes.{not-was, was}
+use Rattle.ideals.proofs.Closes.{not-was}
 use Rattle.choices.specs.Choice.{too-far}
 use Rattle.choices.proofs.Tests.{choice-far, choice-edge, choice-behind, choice-side}
+use Rattle.choices.proofs.Roots.{norm-root, square-fits}
 use borrow.Author.Needs.{needs}
 use Rattle.choices.proofs.is_choice.Statement.{statement}
 use Rattle.choices.proofs.is_choice.Tie as tie
@@ -17,46 +19,43 @@ use Rattle.choices.proofs.is_choice.Reads as reads
 use Rattle.choices.proofs.is_choice.Lts as lts
 use Rattle.candidates.proofs.sides.ahead.Reads as ahead-reads
 use Rattle.candidates.proofs.sides.side_candidate.Reads as side-candidate-reads
-use Rattle.choices.proofs.too_far.Reads as too-far-reads
+use Rattle.choices.proofs.square.Reads as square-reads
 use Rattle.ideals.proofs.edge_candidate.Reads as edge-candidate-reads
 use Rattle.plane.proofs.vectors.from_to.Reads as from-to-reads
-use Rattle.plane.proofs.vectors.norm.Reads as norm-reads
 
 from-to-requires : tie.Need-from-to-requires
 from-to-requires c κs =
     let t = c .before .before in
     let a = t .args in
-    let y = within (a .q .now) (a .p) (t .pre .0) (t .pre .2 .pts) in
-    (y (a .a) (t .pre .4 .first), y (a .v) (t .pre .4 .second))
+    let y = within (a .q .now) (a .p) (t .pre .0 .0) (t .pre .0 .2 .pts) in
+    (y (a .a) (t .pre .0 .4 .first), y (a .v) (t .pre .0 .4 .second))
 
-norm-requires : tie.Need-norm-requires
-norm-requires c κs = search needs
-
-too-far-requires : tie.Need-too-far-requires
-too-far-requires c κs = search needs
+square-requires : tie.Need-square-requires
+square-requires c κs = search needs
 
 returns : tie.Need-returns
+unfolding _≺_
 returns c =
-    let tf = c .before in
-    let nm = tf .before in
-    let ft = nm .before in
+    let sq = c .before in
+    let ft = sq .before in
     let t = ft .before .before .before in
     let a = t .args in
     λ m g h y e.
     let d : vec (ft .from-to .result) ≡ toward m (a .a) (a .v) = toward-read (a .q .now) (a .p) m (h .pts) (a .a) (a .v) (record { node = e .first; end = e .second }) (vec (ft .from-to .result)) (ft .from-to .ensures) in
-    let n : nm .norm .result ≡ norm (toward m (a .a) (a .v)) = nm .norm .ensures ∙ ap norm d in
-    choice-far (turn (a .left)) m (a .a) (a .other) (vec (a .normal)) (a .target) g (a .v) (sym (c .if1 .taken) ∙ tf .too-far .ensures ∙ ap (λ (x : Float). too-far x (a .target)) n)
+    let n : norm (toward m (a .a) (a .v)) ≡ sqrt (sq .square .result) = ap norm (sym d) ∙ norm-root (vec (ft .from-to .result)) ∙ ap sqrt (sym (sq .square .ensures)) in
+    choice-far (turn (a .left)) m (a .a) (a .other) (vec (a .normal)) (a .target) g (a .v)
+    (sym (ap (λ (x : Float). too-far x (a .target)) n ∙ t .pre .1 .beyond (sq .square .result) (ap (fits binary64) (sq .square .ensures) ∙ square-fits (vec (ft .from-to .result))) (c .if1 .taken)))
 
 edge-candidate-requires : tie.Need-edge-candidate-requires
 edge-candidate-requires c κs =
-    let ft = c .before .before .before in
+    let ft = c .before .before in
     let t = ft .before .before .before in
-    (t .pre .0, t .pre .2 .rep, t .pre .2 .pts, t .pre .3, record { node = t .pre .4 .first; end = t .pre .4 .second })
+    (t .pre .0 .0, t .pre .0 .2 .rep, t .pre .0 .2 .pts, t .pre .0 .3, record { node = t .pre .0 .4 .first; end = t .pre .0 .4 .second })
 
 returns-2 : tie.Need-returns-2
 returns-2 c =
     let ec = c .before in
-    let ft = ec .before .before .before .before in
+    let ft = ec .before .before .before in
     let t = ft .before .before .before in
     let a = t .args in
     λ m g h y e.
@@ -71,7 +70,7 @@ returns-3 c =
     let ah = c .before in
     let e2 = ah .before in
     let ec = e2 .before in
-    let ft = ec .before .before .before .before in
+    let ft = ec .before .before .before in
     let t = ft .before .before .before in
     let a = t .args in
     λ m g h y e.
@@ -82,9 +81,9 @@ returns-3 c =
 side-candidate-requires : tie.Need-side-candidate-requires
 side-candidate-requires c κs =
     let ec = c .before .before .before in
-    let ft = ec .before .before .before .before in
+    let ft = ec .before .before .before in
     let t = ft .before .before .before in
-    (t .pre .0, t .pre .1, t .pre .2, t .pre .4)
+    (t .pre .0 .0, t .pre .0 .1, t .pre .0 .2, t .pre .0 .4)
 
 returns-4 : tie.Need-returns-4
 returns-4 c =
@@ -92,7 +91,7 @@ returns-4 c =
     let ah = e3 .before in
     let e2 = ah .before in
     let ec = e2 .before in
-    let ft = ec .before .before .before .before in
+    let ft = ec .before .before .before in
     let t = ft .before .before .before in
     let a = t .args in
     λ m g h y e.
@@ -105,8 +104,7 @@ is-choice-spec =
     tie.close
     (tie.spec
     from-to-requires
-    norm-requires
-    too-far-requires
+    square-requires
     returns
     edge-candidate-requires
     returns-2

@@ -1,10 +1,6 @@
-use mathlib.Core.Path.{_≡_, refl, ap, sym, _∙_, subst}
-use Prim.Native.Nat.{ℕ, suc, _+_, _-_, _*_, _/_, _<_, _≤_, _^_}
-use native.Mathlib.Omega.{arith}
-use mathlib.Core.List.{List}
+use mathlib.Core.Path.{subst}
 use Rattle.definition.specs.Floats.{_⊕_, _⊗_, 2·2, 0·8, f64}
 use Rattle.definition.specs.Numbers.{base}
-use Rattle.definition.specs.Cells.{Live}
 use Rattle.lives.specs.Stack.{LiveTo}
 use Rattle.plane.specs.Points.{node, ground}
 use Rattle.choices.proofs.Tests.{region-read}

@@ -1,13 +1,12 @@
 -- The loop's invariant: the nodes below v are scanned, r of them listed. The measure is how many are left.
-use mathlib.Core.Path.{_≡_, refl, ap, sym, _∙_, subst}
-use mathlib.Core.List.{List, [], _∷_, _++_}
-use Prim.Native.Nat.{ℕ, suc, _+_, _-_, _*_, _/_, _<_, _≤_, _^_}
+use mathlib.Core.Path.{_≡_, refl, _∙_}
+use mathlib.Core.List.{List}
+use Prim.Native.Nat.{_-_, _<_, _≤_}
 use native.Mathlib.Omega.{arith}
-use lib.ListN.{length, getD, set, length-set}
+use lib.ListN.{length}
 use Rattle.definition.specs.Cells.{Live, Mesh}
 use Rattle.plane.specs.Vectors.{vec}
-use Rattle.candidates.specs.Hand.{InHand, Ends}
-use Rattle.ideals.specs.Wanted.{turn, At}
+use Rattle.ideals.specs.Wanted.{turn}
 use Rattle.choices.specs.Choice.{is-choice, CanScan}
 use Rattle.choices.proofs.Lists.{Listing, listing-start, listing-more, listing-end, hand-kept}
 use borrow.Author.Needs.{needs}
@@ -17,17 +16,21 @@ use Rattle.choices.proofs.scan.Reads as reads
 use Rattle.choices.proofs.scan.Lts as lts
 use Rattle.choices.proofs.add.Reads as add-reads
 use Rattle.choices.proofs.is_choice.Reads as is-choice-reads
+use Rattle.choices.proofs.far_square.Reads as far-square-reads
 
 abbrev Inv-loop : tie.InvT-loop
-Inv-loop w₀ q s p k n b left a other normal target r₀ v₀ w r v =
+Inv-loop w₀ q s p k n b left a other normal target far r₀ v₀ w r v =
     (length w ≡ length w₀) × (r ≤ v) × (v ≤ n) × ((m : Mesh) (g : List Live) → CanScan w₀ q s p k n b a other m g → Listing w₀ w p b v r (is-choice (turn left) m a other (vec normal) target g))
 
 abbrev μ-loop : tie.MeasureT-loop
-μ-loop w₀ q s p k n b left a other normal target r₀ v₀ w r v = n - v
+μ-loop w₀ q s p k n b left a other normal target far r₀ v₀ w r v = n - v
+
+far-square-requires : tie.Need-far-square-requires Inv-loop μ-loop
+far-square-requires c κs = search needs
 
 loop-holds : tie.Need-loop-holds Inv-loop μ-loop
 loop-holds c =
-    let t = c .before .before in
+    let t = c .before .before .before in
     let a = t .args in
     (refl, omega arith, omega arith, λ m g h. listing-start (a .w .now) (a .p) (a .b) (is-choice (turn (a .left)) m (a .a) (a .other) (vec (a .normal)) (a .target) g))
 
@@ -36,7 +39,8 @@ is-choice-requires c κs =
     let i = c .before in
     let l = i .before in
     let x = l .loop in
-    let t = l .before .before .before in
+    let fs = l .before in
+    let t = fs .before .before .before in
     let a = t .args in
     let m = t .pre .0 in
     let g = t .pre .1 in
@@ -44,11 +48,14 @@ is-choice-requires c κs =
     let y = x .inv .3 m g h in
     let n : a .n ≡ length (m .points) = h .count in
     let v : x .v < a .n = i .loop-test .taken in (
-      m,
-      g,
-      hand-kept (a .w .now) (x .w) (a .q .now) (a .s) (a .p) (a .k) (a .b) m g (h .hand) (h .from) (y .besides),
-      record { node = omega (arith, h .first); end = omega (arith, h .second) },
-      record { first = omega (arith, h .first); second = omega arith },
+      (
+        m,
+        g,
+        hand-kept (a .w .now) (x .w) (a .q .now) (a .s) (a .p) (a .k) (a .b) m g (h .hand) (h .from) (y .besides),
+        record { node = omega (arith, h .first); end = omega (arith, h .second) },
+        record { first = omega (arith, h .first); second = omega arith },
+      ),
+      fs .far-square .ensures,
     )
 
 add-requires : tie.Need-add-requires Inv-loop μ-loop
@@ -56,7 +63,8 @@ add-requires c κs =
     let i = c .before .before .before in
     let l = i .before in
     let x = l .loop in
-    let t = l .before .before .before in
+    let fs = l .before in
+    let t = fs .before .before .before in
     let a = t .args in
     let h = t .pre .2 in
     let r = h .hand .rep in
@@ -80,7 +88,8 @@ loop-again c =
     let i = ic .before .before in
     let l = i .before in
     let x = l .loop in
-    let t = l .before .before .before in
+    let fs = l .before in
+    let t = fs .before .before .before in
     let a = t .args in
     let e = ad .add .ensures in (
       ad .add .kept .0 ∙ x .inv .0,
@@ -105,7 +114,8 @@ returns c =
     let i = c in
     let l = i .before in
     let x = l .loop in
-    let t = l .before .before .before in
+    let fs = l .before in
+    let t = fs .before .before .before in
     let a = t .args in
     λ m g h. listing-end (a .w .now) (x .w) (a .p) (a .n) (a .b) (x .v) (x .r) (is-choice (turn (a .left)) m (a .a) (a .other) (vec (a .normal)) (a .target) g) (x .inv .3 m g h) (x .inv .1) (x .inv .2) (i .loop-test .left)
 
@@ -113,6 +123,7 @@ pub scan-spec : {M : Type 1} → statement M
 scan-spec =
     tie.close
     (tie.spec Inv-loop μ-loop
+    far-square-requires
     loop-holds
     is-choice-requires
     add-requires

@@ -1,4 +1,3 @@
-use mathlib.Core.Path.{_≡_, refl, ap, sym, _∙_, subst}
 use Rattle.definition.specs.Floats.{_≺_, _⊗_, 2·2, 2·5, f64}
 use Rattle.definition.specs.Numbers.{base}
 use Rattle.choices.proofs.too_far.Statement.{statement}

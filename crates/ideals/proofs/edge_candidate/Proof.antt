@@ -1,6 +1,5 @@
-use mathlib.Core.Path.{_≡_, refl, ap, sym, _∙_, subst}
-use mathlib.Core.Bool.{Bool, true, false, not}
-use Prim.Native.Nat.{ℕ, suc, _+_, _-_, _*_, _/_, _<_, _≤_, _^_}
+use mathlib.Core.Path.{_≡_, ap, sym, _∙_, subst}
+use mathlib.Core.Bool.{true, false}
 use native.Mathlib.Omega.{arith}
 use lib.Ieee.{Float}
 use Rattle.definition.specs.Floats.{_≼_, 1e-12, f64}
@@ -8,7 +7,7 @@ use Rattle.definition.specs.Numbers.{base}
 use Rattle.definition.specs.Plane.{Vec, norm, over}
 use Rattle.definition.specs.Cells.{tri, new-live, key}
 use Rattle.definition.specs.Candidates.{toward}
-use Rattle.cells.proofs.Slots.{Found, owner-found, owner-none}
+use Rattle.cells.proofs.Slots.{owner-found, owner-none}
 use Rattle.plane.specs.Vectors.{vec}
 use Rattle.ideals.specs.Wanted.{turn, edge-reach, near-ideal}
 use Rattle.ideals.proofs.Halves.{toward-read, within}

@@ -1,5 +1,4 @@
-use mathlib.Core.Path.{_≡_, refl, ap, sym, _∙_, subst}
-use mathlib.Core.Bool.{Bool, true, false}
+use mathlib.Core.Path.{sym, _∙_}
 use Rattle.definition.specs.Floats.{_≼_, 0·866, f64}
 use Rattle.definition.specs.Numbers.{base}
 use Rattle.plane.specs.Vectors.{vec}

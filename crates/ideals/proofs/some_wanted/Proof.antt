@@ -1,7 +1,6 @@
 -- The loop's invariant: an edge at a that none of the cells to come has gives no ideal. The measure is how many links are left.
-use mathlib.Core.Path.{_≡_, refl, ap, sym, _∙_, subst}
-use mathlib.Core.Bool.{Bool, true, false}
-use Prim.Native.Nat.{ℕ, suc, _+_, _-_, _*_, _/_, _<_, _≤_, _^_}
+use mathlib.Core.Path.{sym, _∙_, subst}
+use Prim.Native.Nat.{ℕ}
 use native.Mathlib.Omega.{arith}
 use Rattle.definition.specs.Cells.{Mesh}
 use Rattle.cells.specs.Rep.{Rep, Pts}

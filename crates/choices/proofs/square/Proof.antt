@@ -1,0 +1,14 @@
+use mathlib.Core.Path.{refl}
+use Rattle.definition.specs.Floats.{_⊕_, _⊗_}
+use Rattle.plane.specs.Vectors.{vec}
+use Rattle.choices.proofs.square.Statement.{statement}
+use Rattle.choices.proofs.square.Tie as tie
+use Rattle.choices.proofs.square.Reads as reads
+use Rattle.choices.proofs.square.Lts as lts
+
+returns : tie.Need-returns
+unfolding _⊕_ _⊗_ vec
+returns c = refl
+
+pub square-spec : {M : Type 1} → statement M
+square-spec = tie.close (tie.spec returns)

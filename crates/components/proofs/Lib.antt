@@ -1,0 +1,10 @@
+pub mod Members
+pub mod Grows
+pub mod Meets
+pub mod Floods
+pub mod Wipes
+pub mod Classes
+pub mod Sweeps
+pub mod Odds
+pub mod Orders
+pub mod Sizings

@@ -1,0 +1,5 @@
+// The components of the live triangles.
+pub mod flood;
+pub mod marks;
+pub mod odd;
+pub mod sizes;

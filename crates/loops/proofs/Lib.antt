@@ -1,0 +1,9 @@
+pub mod Lists
+pub mod Unused
+pub mod Places
+pub mod Ends
+pub mod Walking
+pub mod Linking
+pub mod Tracing
+pub mod Looping
+pub mod Measuring

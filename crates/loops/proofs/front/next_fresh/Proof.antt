@@ -1,0 +1,84 @@
+-- The loop's invariant: the edges passed are in loops. The measure is how many are left.
+use mathlib.Core.Path.{_≡_, ap, sym, _∙_}
+use Prim.Native.Nat.{ℕ, _+_, _-_}
+use lib.ListN.{getD}
+use lib.Dec.{eqb}
+use borrow.Author.Tests.{eq-eqb, ne-eqb}
+use Rattle.cells.specs.Layout.{front-used-at}
+use Rattle.loops.proofs.Looping.{Passing, passing-start, passing-on, passing-found, passing-end}
+use borrow.Author.Needs.{needs}
+use Rattle.loops.proofs.front.next_fresh.Statement.{statement}
+use Rattle.loops.proofs.front.next_fresh.Tie as tie
+
+abbrev Inv-loop : tie.InvT-loop
+Inv-loop w s p k i used x₀ x = (used ≡ front-used-at s p) × Passing w s p k i x
+
+abbrev μ-loop : tie.MeasureT-loop
+μ-loop w s p k i used x₀ x = k - x
+
+front-used-at-requires : tie.Need-front-used-at-requires Inv-loop μ-loop
+front-used-at-requires c κs = search needs
+
+loop-holds : tie.Need-loop-holds Inv-loop μ-loop
+loop-holds c =
+    let t = c .before .before in
+    let a = t .args in
+    (c .front-used-at .ensures, passing-start (a .w .now) (a .s) (a .p) (a .k) (a .i) (t .pre .within))
+
+add-if1 : tie.Need-add-if1 Inv-loop μ-loop
+add-if1 c = search needs
+
+mul-if1 : tie.Need-mul-if1 Inv-loop μ-loop
+mul-if1 c = search needs
+
+shared-slice-read-if1 : tie.Need-shared-slice-read-if1 Inv-loop μ-loop
+shared-slice-read-if1 c = search needs
+
+returns : tie.Need-returns Inv-loop μ-loop
+returns c =
+    let l = c .before .before .before in
+    let x = l .loop in
+    let a = l .before .before .before .args in
+    passing-found (a .w .now) (a .s) (a .p) (a .k) (a .i) (x .x) (x .inv .1)
+    (ap (λ (y : ℕ). eqb (getD (a .w .now) (y + x .x) 0) 0) (sym (x .inv .0)) ∙ eq-eqb _ 0 (c .if1 .taken))
+
+add-x : tie.Need-add-x Inv-loop μ-loop
+add-x c = search needs
+
+loop-less : tie.Need-loop-less Inv-loop μ-loop
+loop-less c = search needs
+
+loop-again : tie.Need-loop-again Inv-loop μ-loop
+loop-again c =
+    let t = c .before .before in
+    let l = t .before in
+    let x = l .loop in
+    let a = l .before .before .before .args in (
+      x .inv .0,
+      passing-on (a .w .now) (a .s) (a .p) (a .k) (a .i) (x .x) (x .inv .1) (t .loop-test .taken)
+          (ap (λ (y : ℕ). eqb (getD (a .w .now) (y + x .x) 0) 0) (sym (x .inv .0)) ∙ ne-eqb _ 0 (c .if1 .left)),
+    )
+
+returns-2 : tie.Need-returns-2 Inv-loop μ-loop
+returns-2 c =
+    let l = c .before in
+    let x = l .loop in
+    let a = l .before .before .before .args in
+    passing-end (a .w .now) (a .s) (a .p) (a .k) (a .i) (x .x) (x .inv .1) (c .loop-test .left)
+
+pub next-fresh-spec : {M : Type 1} → statement M
+next-fresh-spec =
+    tie.close
+    (tie.spec
+    Inv-loop
+    μ-loop
+    front-used-at-requires
+    loop-holds
+    add-if1
+    mul-if1
+    shared-slice-read-if1
+    returns
+    add-x
+    loop-less
+    loop-again
+    returns-2)

@@ -1,0 +1,146 @@
+-- The loop's invariant: the first edge in no loop at the node is the first such from c on. The measure is how many edges stand from c on.
+use mathlib.Core.Path.{_≡_, ap, sym, _∙_}
+use mathlib.Core.List.{List}
+use Prim.Native.Nat.{ℕ, _+_, _-_, _<_}
+use native.Mathlib.Omega.{arith}
+use lib.ListN.{getD}
+use lib.Dec.{eqb}
+use borrow.Author.Tests.{eq-eqb, ne-eqb}
+use Rattle.definition.specs.Plane.{Edge}
+use Rattle.cells.specs.Layout.{front-used-at, heads-at}
+use Rattle.loops.specs.Trace.{Ready}
+use Rattle.loops.proofs.Unused.{Seeking, seeking-start, seeking-end, seeking-found, seeking-past, seeking-on, behind}
+use borrow.Author.Needs.{needs}
+use Rattle.loops.proofs.walks.first_left.Statement.{statement}
+use Rattle.loops.proofs.walks.first_left.Tie as tie
+
+abbrev Inv-loop : tie.InvT-loop
+Inv-loop w s p k v used c₀ c = (used ≡ front-used-at s p) × ((n : ℕ) (es : List Edge) → Ready w s p n k es → v < n → Seeking w s p k v c es)
+
+abbrev μ-loop : tie.MeasureT-loop
+μ-loop w s p k v used c₀ c = k - c
+
+front-used-at-requires : tie.Need-front-used-at-requires Inv-loop μ-loop
+front-used-at-requires c κs = search needs
+
+heads-at-requires : tie.Need-heads-at-requires Inv-loop μ-loop
+heads-at-requires c κs = search needs
+
+add-wide : tie.Need-add-wide Inv-loop μ-loop
+add-wide c = search needs
+
+mul-wide : tie.Need-mul-wide Inv-loop μ-loop
+mul-wide c = search needs
+
+shared-slice-read-wide : tie.Need-shared-slice-read-wide Inv-loop μ-loop
+shared-slice-read-wide c = search needs
+
+wide-requires : tie.Need-wide-requires Inv-loop μ-loop
+wide-requires c κs = search needs
+
+loop-holds : tie.Need-loop-holds Inv-loop μ-loop
+loop-holds c =
+    let h = c .before .before in
+    let u = h .before in
+    let a = u .before .before .args in (
+      u .front-used-at .ensures,
+      λ n es r k.
+          seeking-start (a .w .now) (a .s) (a .p) (a .k) (a .v) (c .wide .result) es
+          (c .wide .ensures ∙ ap (λ (x : ℕ). getD (a .w .now) (x + a .v) 0) (h .heads-at .ensures) ∙ r .lists .heads (a .v) k),
+    )
+
+add-if1 : tie.Need-add-if1 Inv-loop μ-loop
+add-if1 c = search needs
+
+mul-if1 : tie.Need-mul-if1 Inv-loop μ-loop
+mul-if1 c = search needs
+
+shared-slice-read-if1 : tie.Need-shared-slice-read-if1 Inv-loop μ-loop
+shared-slice-read-if1 c = search needs
+
+returns : tie.Need-returns Inv-loop μ-loop
+returns c =
+    let t = c .before .before in
+    let l = t .before in
+    let x = l .loop in
+    let a = l .before .before .before .before .before .before .args in
+    λ n es r k.
+    seeking-found (a .w .now) (a .s) (a .p) (a .k) (a .v) (x .c) es (x .inv .1 n es r k) (t .loop-test .taken)
+    (ap (λ (y : ℕ). eqb (getD (a .w .now) (y + x .c) 0) 0) (sym (x .inv .0)) ∙ eq-eqb _ 0 (c .if1 .taken))
+
+next-at-requires : tie.Need-next-at-requires Inv-loop μ-loop
+next-at-requires c κs =
+    let t = c .before .before in
+    let l = t .before in
+    let x = l .loop in
+    let s0 = l .before .before .before .before .before .before in
+    let a = s0 .args in
+    let n = s0 .pre .0 in
+    let es = s0 .pre .1 in
+    let r = s0 .pre .2 in
+    let g = x .inv .1 n es r (s0 .pre .3) in
+    let b = behind (a .k) (x .c) (t .loop-test .taken) in
+    (n, a .k, b .l, es, record { ready = r; sum = b .sum; end = g .end (t .loop-test .taken) })
+
+loop-less : tie.Need-loop-less Inv-loop μ-loop
+loop-less c =
+    let i = c .before in
+    let t = i .before .before in
+    let l = t .before in
+    let x = l .loop in
+    let s0 = l .before .before .before .before .before .before in
+    let a = s0 .args in
+    let n = s0 .pre .0 in
+    let es = s0 .pre .1 in
+    let r = s0 .pre .2 in
+    let h = t .loop-test .taken in
+    let g = x .inv .1 n es r (s0 .pre .3) in
+    let b = behind (a .k) (x .c) h in
+    let q = c .next-at .ensures n (a .k) (b .l) es (record { ready = r; sum = b .sum; end = g .end h }) in
+    omega (arith, h, seeking-past (a .w .now) (a .s) (a .p) (a .k) (a .v) (x .c) es g h (c .next-at .result) q)
+
+loop-again : tie.Need-loop-again Inv-loop μ-loop
+loop-again c =
+    let i = c .before in
+    let t = i .before .before in
+    let l = t .before in
+    let x = l .loop in
+    let a = l .before .before .before .before .before .before .args in
+    let h = t .loop-test .taken in (
+      x .inv .0,
+      λ n es r k.
+          let g = x .inv .1 n es r k in
+          let b = behind (a .k) (x .c) h in
+          let q = c .next-at .ensures n (a .k) (b .l) es (record { ready = r; sum = b .sum; end = g .end h }) in
+          seeking-on (a .w .now) (a .s) (a .p) (a .k) (a .v) (x .c) es g h (c .next-at .result) q
+          (ap (λ (y : ℕ). eqb (getD (a .w .now) (y + x .c) 0) 0) (sym (x .inv .0)) ∙ ne-eqb _ 0 (i .if1 .left)),
+    )
+
+returns-2 : tie.Need-returns-2 Inv-loop μ-loop
+returns-2 c =
+    let l = c .before in
+    let x = l .loop in
+    let a = l .before .before .before .before .before .before .args in
+    λ n es r k. seeking-end (a .w .now) (a .s) (a .p) (a .k) (a .v) (x .c) es (x .inv .1 n es r k) (c .loop-test .left)
+
+pub first-left-spec : {M : Type 1} → statement M
+first-left-spec =
+    tie.close
+    (tie.spec
+    Inv-loop
+    μ-loop
+    front-used-at-requires
+    heads-at-requires
+    add-wide
+    mul-wide
+    shared-slice-read-wide
+    wide-requires
+    loop-holds
+    add-if1
+    mul-if1
+    shared-slice-read-if1
+    returns
+    next-at-requires
+    loop-less
+    loop-again
+    returns-2)

@@ -1,0 +1,4 @@
+pub mod Loop
+pub mod Trace
+pub mod Link
+pub mod Span

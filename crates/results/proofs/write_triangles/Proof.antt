@@ -1,0 +1,88 @@
+use mathlib.Core.Path.{_≡_, refl, ap, sym, _∙_, subst}
+use mathlib.Core.List.{List, [], _∷_, _++_}
+use Prim.Native.Nat.{ℕ, suc, _+_, _-_, _*_, _^_, _<_, _≤_}
+use native.Mathlib.Omega.{arith}
+use lib.ListN.{length, getD, set, length-set}
+use Rattle.results.proofs.Orders.{tris-all, tris-below}
+use Rattle.results.proofs.Texts.{Writing, writing-none, writing-more}
+use Rattle.definition.specs.Lists.{flat-map}
+use Rattle.definition.specs.Cells.{Tri, tri-nodes}
+use Rattle.definition.specs.Call.{onto}
+use borrow.Author.Needs.{needs}
+use Rattle.results.proofs.write_triangles.Statement.{statement}
+use Rattle.results.proofs.write_triangles.Tie as tie
+use Rattle.results.proofs.write_triangles.Reads as reads
+use Rattle.results.proofs.write_triangles.Lts as lts
+use Rattle.results.proofs.write_slot.Reads as write-slot-reads
+
+abbrev Inv-loop : tie.InvT-loop
+Inv-loop w out₀ s p used n₀ i₀ out n i = Writing w out₀ out s p used n i
+
+abbrev μ-loop : tie.MeasureT-loop
+μ-loop w out₀ s p used n₀ i₀ out n i = used - i
+
+-- src/lib.rt:50:5
+loop-holds : tie.Need-loop-holds Inv-loop μ-loop
+loop-holds c = let a = c .before .before .args in writing-none (a .w .now) (a .out .now) (a .s) (a .p) (a .used)
+
+-- src/lib.rt:51:9
+write-slot-requires : tie.Need-write-slot-requires Inv-loop μ-loop
+write-slot-requires c κs =
+    let l = c .before .before in
+    let t = l .before .before .before in
+    let r = t .pre .0 .1 in (
+      (t .pre .0 .0, r),
+      record {
+        inside = omega (arith, c .before .loop-test .taken, r .used, t .pre .0 .2);
+        few = omega (arith, c .before .loop-test .taken, l .loop .inv .few, r .used, t .pre .0 .2);
+        room = omega (arith, l .loop .inv .len, t .pre .1);
+      },
+    )
+
+-- src/lib.rt:52:9
+add-i : tie.Need-add-i Inv-loop μ-loop
+add-i c = search needs
+
+-- src/lib.rt:50:5
+loop-less : tie.Need-loop-less Inv-loop μ-loop
+loop-less c = search needs
+
+-- src/lib.rt:50:5
+loop-again : tie.Need-loop-again Inv-loop μ-loop
+loop-again c =
+    let x = c .before .before in
+    let i = x .before .before in
+    let l = i .before in
+    let t = l .before .before .before in
+    let a = t .args in
+    writing-more (a .w .now) (a .out .now) (l .loop .out) _ (a .s) (a .p) (a .used) (l .loop .n) (x .write-slot .result) (l .loop .i)
+    (t .pre .0 .0) (t .pre .0 .1) (l .loop .inv) (i .loop-test .taken) (search needs) (x .write-slot .ensures)
+
+-- src/lib.rt:43:1
+same-length : tie.Need-same-length Inv-loop μ-loop
+same-length c = c .before .loop .inv .len
+
+-- src/lib.rt:43:1
+returns : tie.Need-returns Inv-loop μ-loop
+returns c =
+    let l = c .before in
+    let t = l .before .before .before in
+    let a = t .args in
+    λ m r u.
+    let e : l .loop .i ≡ m .used = omega (arith, c .loop-test .left, l .loop .inv .inside) in
+    let all = ap (tris-below m) e ∙ sym (tris-all (a .w .now) (a .s) (a .p) m r) in
+    (l .loop .inv .count m r ∙ ap length all, l .loop .inv .is m r ∙ ap (λ (z : List Tri). onto (flat-map tri-nodes z) (a .out .now)) all)
+
+pub write-triangles-spec : {M : Type 1} → statement M
+write-triangles-spec =
+    tie.close
+    (tie.spec
+    Inv-loop
+    μ-loop
+    loop-holds
+    write-slot-requires
+    add-i
+    loop-less
+    loop-again
+    same-length
+    returns)
