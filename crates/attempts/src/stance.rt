@@ -1,0 +1,31 @@
+// How an attempt stands: the target and the normal into the triangle.
+use plane::vectors::Vec;
+ghost use mathlib.Core.Path.{_≡_};
+ghost use mathlib.Core.Bool.{Bool};
+ghost use Prim.Native.Nat.{ℕ};
+ghost use Rattle.definition.specs.Attempt.{target-of, inward-normal};
+ghost use Rattle.plane.specs.Vectors.{vec};
+ghost use Rattle.lending.specs.Ready.{lent};
+
+// A length counts as zero up to this.
+pub const TINY_LENGTH: f64 = 1e-12;
+
+// The size, or the edge's own length where there is no size.
+pub fn target_of(size: f64, span: f64) -> f64
+    ensures { λ r. ⌜ ((s p : ℕ) (even : Bool) → r ≡ target-of (lent s p size even) span) ⌝ }
+{
+    if size > TINY_LENGTH {
+        return size;
+    }
+    span
+}
+
+// The direction of a vector of this length, turned a quarter left.
+pub fn inward_normal(tangent: Vec, long: f64) -> Vec
+    ensures { λ r. ⌜ vec r ≡ inward-normal (vec tangent) long ⌝ }
+{
+    Vec {
+        dx: -tangent.dy / long,
+        dy: tangent.dx / long,
+    }
+}
