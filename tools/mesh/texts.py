@@ -1,0 +1,181 @@
+"""The program's text: an input, a call of the library (an input after its capacities), an answer or a refusal."""
+import re, struct
+from mesh.lines import Fault
+from mesh.meshes import Mesh
+
+INPUT = 'triangles points size stop'
+CALL = 'capacity slots'
+COUNTS = 'front_empty attempts placement invalid_quad recovery region odd_region mismatch_insertions limit'
+LENGTHS = 'quads triangles points components'
+TRIANGLE = 'n0 n1 n2'
+QUAD = 'n0 n1 n2 n3'
+POINT = 'x y z'
+SIZES = 'size'
+REFUSED = 'refused'
+
+NUMBER = re.compile(rb'0|[1-9][0-9]{0,17}')
+BITS = re.compile(rb'[0-9a-f]{16}')
+
+# what the program and the library take
+TEXT_TRIANGLES = TEXT_POINTS = 64
+CALL_TRIANGLES = CALL_POINTS = 4096
+CAPACITY = 8192
+SLOTS = 16384
+FAR = 8.0
+LEAST_SIZE = 1 / 64
+LARGEST_SIZE = 8.0
+
+REFUSALS = {
+    1: 'over 4,096 triangles or given points, or over a capacity limit',
+    2: 'the size is neither zero nor from 1/64 to 8',
+    3: 'the stop rule is neither 0 nor 1',
+    4: 'a lent slice is too short, or a capacity below what is given',
+    5: 'a triangle names a node that is not there',
+    6: 'a triangle has a node twice',
+    7: 'x or y is not finite or is beyond 8 in magnitude',
+    8: 'the run inserts a point, and the point capacity is used up',
+    9: 'the run needs a slot, and none is free',
+    10: 'the text is not in its form',
+}
+
+
+class Refused(Fault):
+    """The text is a refusal."""
+
+    def __init__(self, source, number):
+        self.number = number
+        super().__init__(source.name, 0, 'refused with %d: %s' % (number, REFUSALS.get(number, 'a number that is not known')))
+
+
+def bits(value):
+    """The 16 hexadecimal digits of a double."""
+    return struct.pack('>d', value).hex()
+
+
+def double(word):
+    return struct.unpack('>d', bytes.fromhex(word.decode()))[0]
+
+
+class Form:
+    """Goes through a text line by line: a newline after each, one space between values."""
+
+    def __init__(self, source):
+        self.source = source
+        self.number = 0
+        self.lines = source.data.split(b'\n')
+        if self.lines.pop():
+            source.fail(len(self.lines) + 1, 'the last line has no newline')
+
+    def fail(self, message):
+        self.source.fail(self.number, message)
+
+    def line(self, what):
+        self.number += 1
+        if self.number > len(self.lines):
+            self.fail('the text ends where %s should follow' % what)
+        return self.lines[self.number - 1]
+
+    def names(self, names):
+        if self.line("'%s'" % names) != names.encode():
+            self.fail("should be '%s'" % names)
+
+    def numbers(self, names):
+        """A line with a decimal number for each name."""
+        words = self.line(names).split(b' ')
+        if len(words) != len(names.split()) or not all(NUMBER.fullmatch(word) for word in words):
+            self.fail("should be a decimal number for each of '%s', parted by one space" % names)
+        return tuple(int(word) for word in words)
+
+    def cell(self, names, points):
+        nodes = self.numbers(names)
+        if max(nodes) >= points:
+            self.fail('node %d is not there: the text has %d points' % (max(nodes), points))
+        return nodes
+
+    def point(self):
+        words = self.line(POINT).split(b' ')
+        if len(words) != 3 or not all(BITS.fullmatch(word) for word in words):
+            self.fail('should be three floats of 16 lowercase hexadecimal digits, parted by one space')
+        return tuple(double(word) for word in words)
+
+    def end(self):
+        if self.number < len(self.lines):
+            self.number += 1
+            self.fail('should be the end of the text')
+
+
+def is_text(source):
+    first = source.data.split(b'\n', 1)[0].rstrip(b'\r').decode('latin-1')
+    return first in (INPUT, CALL, COUNTS, REFUSED)
+
+
+def read(source):
+    """The mesh of an input, a call or an answer; raises Refused for a refusal."""
+    form = Form(source)
+    first = form.lines[0].decode('latin-1') if form.lines else ''
+    if first == REFUSED:
+        form.names(REFUSED)
+        raise Refused(source, form.numbers('number')[0])
+    if first == COUNTS:
+        return answer(form)
+    if first == CALL:
+        form.names(CALL)
+        form.numbers(CALL)
+        return given(form)
+    if first == INPUT:
+        return given(form)
+    source.fail(1, "should be '%s' (an input), '%s' (a call), '%s' (an answer) or '%s'" % (INPUT, CALL, COUNTS, REFUSED))
+
+
+def given(form):
+    form.names(INPUT)
+    words = form.line(INPUT).split(b' ')
+    if len(words) != 4 or not all(p.fullmatch(w) for p, w in zip((NUMBER, NUMBER, BITS, re.compile(b'[0-9]')), words)):
+        form.fail('should be two counts, the size in 16 hexadecimal digits and the stop rule, parted by one space')
+    mesh = Mesh(form.source, size=double(words[2]), stop=int(words[3]))
+    triangles, points = int(words[0]), int(words[1])
+    read_triangles(form, mesh, triangles, points)
+    read_points(form, mesh, points)
+    form.end()
+    return mesh
+
+
+def answer(form):
+    form.names(COUNTS)
+    counts = dict(zip(COUNTS.split(), form.numbers(COUNTS)))
+    form.names(LENGTHS)
+    quads, triangles, points, components = form.numbers(LENGTHS)
+    mesh = Mesh(form.source, counts=counts)
+    form.names(QUAD)
+    mesh.quads = [form.cell(QUAD, points) for _ in range(quads)]
+    read_triangles(form, mesh, triangles, points)
+    read_points(form, mesh, points)
+    form.names(SIZES)
+    for _ in range(components):
+        form.numbers(SIZES)
+    form.end()
+    return mesh
+
+
+def read_triangles(form, mesh, count, points):
+    form.names(TRIANGLE)
+    for _ in range(count):
+        mesh.add_triangle(form.cell(TRIANGLE, points), form.number)
+
+
+def read_points(form, mesh, count):
+    form.names(POINT)
+    for i in range(count):
+        mesh.add_point(form.point(), i, form.number)
+
+
+def text(mesh):
+    """The input text of a mesh with its size and stop rule."""
+    lines = [INPUT, '%d %d %s %d' % (len(mesh.triangles), len(mesh.points), bits(mesh.size), mesh.stop), TRIANGLE]
+    lines += ['%d %d %d' % cell for cell in mesh.triangles]
+    lines += [POINT] + [' '.join(map(bits, point)) for point in mesh.points]
+    return '\n'.join(lines) + '\n'
+
+
+def call(mesh, capacity, slots):
+    return '%s\n%d %d\n' % (CALL, capacity, slots) + text(mesh)
