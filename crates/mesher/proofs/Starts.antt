@@ -1,0 +1,170 @@
+-- A call that none of 1 to 7 refuses has all that its run asks.
+use mathlib.Core.Path.{_≡_, refl, ap, sym, _∙_, subst}
+use mathlib.Core.List.{List, [], _∷_}
+use mathlib.Core.Option.{none}
+use Prim.Native.Nat.{ℕ, suc, _+_, _*_, _<_}
+use native.Mathlib.Omega.{arith}
+use lib.Dec.{eqb}
+use lib.ListN.{length, getD}
+use lib.Ieee.{Float}
+use Rattle.definition.specs.Lists.{filter}
+use Rattle.definition.specs.Numbers.{base, max-attempts}
+use Rattle.definition.specs.Cells.{Tri, tri, Mesh, new-live, nodes, tri-nodes, new-tri, live-tri, is-tri, live-tris}
+use Rattle.definition.specs.Front.{State, Progress, stuck, progressed, limited, stopped, in-slots, new-mesh, start, front-loop}
+use Rattle.definition.specs.Call.{Asked, Lent, tri-at, first-points, given-points, given-tris, bad-size, settings}
+use Rattle.account.specs.Lists.{all-from}
+use Rattle.account.specs.Finished.{sized, given-proper, given-within, points-number, tris-number}
+use Rattle.cells.specs.Rep.{Shape, Rep, Pts}
+use Rattle.cells.specs.declared.counters.Counters.{Counters}
+use Rattle.meshes.specs.Build.{Given, IsNew, Builds, CanBuild}
+use Rattle.checks.specs.Passed.{Apart}
+use Rattle.checks.specs.Refusals.{first-refusal, passed, none-holds}
+use Rattle.lending.specs.Ready.{lent, Small}
+use Rattle.rounds.specs.declared.standing.Run.{Run}
+use Rattle.rounds.specs.Loop.{CanRun, LeftRun, RunTo}
+use Rattle.mesher.specs.Parts.{bucket-of, progress-of, CanMesh}
+
+-- ---- the mesh of the given triangles
+
+-- a triangle with three nodes among the given points
+shape-at : (ts : List ℕ) (g i : ℕ) → Apart ts i → getD ts (3 * i) 0 < g → getD ts (3 * i + 1) 0 < g → getD ts (3 * i + 2) 0 < g → Shape g (tri (tri-at ts i))
+unfolding nodes tri-nodes tri-at new-tri
+shape-at ts g i h a b c =
+    record {
+      distinct = ((λ e. h .d01 (sym e), (λ e. h .d02 (sym e), tt)), ((λ e. h .d12 (sym e), tt), (tt, tt)));
+      known = (a, (b, (c, tt)));
+    }
+
+live-new : (n : ℕ) (ts : List Tri) → length (filter live-tri (in-slots n ts)) ≡ length ts
+unfolding filter in-slots live-tri is-tri new-live
+live-new n [] = refl
+live-new n (t ∷ ts) = ap suc (live-new (suc n) ts)
+
+module _ (a : Asked) (l : Lent) (h : first-refusal a l ≡ 0) where
+  pub given-shapes : Given (l .triangles) (a .count) (a .given)
+  given-shapes i k =
+      let p = passed a l h in
+      shape-at (l .triangles) (a .given) i (p .apart i k) (p .known (3 * i) (omega arith)) (p .known (3 * i + 1) (omega arith)) (p .known (3 * i + 2) (omega arith))
+
+  pub small : Small (a .slots) (a .capacity)
+  small = let p = passed a l h in record { slots = p .limited .slots; points = p .limited .capacity }
+
+  -- what building it asks
+  pub can-build : CanBuild (l .work) (a .slots) (a .capacity) (l .triangles) (a .count) (a .given)
+  can-build =
+      let p = passed a l h in
+      record {
+        room = record { fits = p .roomy .work; small = omega (arith, p .limited .slots, p .limited .capacity) };
+        slots = p .roomy .count;
+        points = p .roomy .given;
+        long = p .roomy .triangles;
+        given = given-shapes;
+      }
+
+  -- the mesh that the run starts from
+  abbrev pub first-mesh : Mesh
+  first-mesh = start (lent (a .slots) (a .capacity) (a .size) (eqb (a .stop) 1)) (given-tris a l) (given-points a l) .mesh
+
+  pub is-new : IsNew first-mesh (l .triangles) (a .count) (a .given)
+  unfolding start new-mesh given-tris
+  is-new = record { points = points-number a l (none-holds a l h); used = tris-number a l (none-holds a l h); live = refl }
+
+  -- the points slice stands for its points
+  pub first-points-are : Pts (l .points) (a .capacity) first-mesh
+  unfolding start new-mesh given-points
+  first-points-are =
+      let p = passed a l h in
+      let n = points-number a l (none-holds a l h) in
+      record {
+        fits = p .roomy .points;
+        few = omega (arith, n, p .roomy .given);
+        are = ap (λ (k : ℕ). first-points k (l .points)) (sym n);
+      }
+
+  live-count : live-tris first-mesh ≡ a .count
+  unfolding live-tris start new-mesh
+  live-count = live-new 0 (given-tris a l) ∙ tris-number a l (none-holds a l h)
+
+  side-is : first-mesh .bucket ≡ bucket-of (a .size)
+  unfolding start new-mesh
+  side-is = refl
+
+  -- what `front_loop` asks
+  pub can-run : (w' : List ℕ) (c : Counters) → Rep w' (a .slots) (a .capacity) first-mesh
+      → (c .live ≡ a .count) × (c .used ≡ a .count) × (c .points ≡ a .given) × (c .attempts ≡ 0)
+      → CanRun w' (l .points) (l .float-work) (l .quads) (a .slots) (a .capacity) (a .count) (bucket-of (a .size)) (a .size) (eqb (a .stop) 1) c (given-tris a l) (given-points a l)
+  unfolding bad-size
+  can-run w' c r n =
+      let p = passed a l h in
+      let o = none-holds a l h in
+      let live = n .0 in
+      let used = n .1 in
+      let attempts = n .3 in
+      record {
+        ready = record {
+          rep = r;
+          pts = first-points-are;
+          side = side-is;
+          counted = record { live = live ∙ sym live-count; used = used ∙ sym (is-new .used); points = n .2 ∙ sym (is-new .points) };
+          live = omega (arith, live, used);
+          attempts = omega (arith, attempts);
+          small = small;
+        };
+        proper = given-proper a l o;
+        is-given = sym (tris-number a l o);
+        few = p .limited .count;
+        points = omega (arith, points-number a l o, p .roomy .given);
+        slots = omega (arith, tris-number a l o, p .roomy .count);
+        fresh = attempts;
+        within = all-from (given-points a l) (given-within a l o);
+        sized = p .sized;
+        floats = omega (arith, p .roomy .float-work);
+        room = p .roomy .quads;
+      }
+
+-- ---- by the slices of the call
+
+left-from : (w₁ w w' : List ℕ) (q q' f f' : List Float) (quads quads' : List ℕ) (s p : ℕ) (b : Float) (st : State) (r : Run) → length w₁ ≡ length w
+    → LeftRun w₁ w' q q' f f' quads quads' s p b st r → LeftRun w w' q q' f f' quads quads' s p b st r
+left-from w₁ w w' q q' f f' quads quads' s p b st r e h =
+    record { ready = h .ready; counts = h .counts; number = h .number; text = h .text; behind = h .behind; words = h .words ∙ e; reals = h .reals }
+
+-- only the length of the memory at the start counts
+run-from : (w₁ w w' : List ℕ) (q q' f f' : List Float) (quads quads' : List ℕ) (s p : ℕ) (b : Float) (pr : Progress) (r : Run) → length w₁ ≡ length w
+    → RunTo w₁ w' q q' f f' quads quads' s p b pr r → RunTo w w' q q' f f' quads quads' s p b pr r
+run-from w₁ w w' q q' f f' quads quads' s p b (stuck st) r e h = (h .0, left-from w₁ w w' q q' f f' quads quads' s p b st r e (h .1))
+run-from w₁ w w' q q' f f' quads quads' s p b (progressed st) r e h = (h .0, left-from w₁ w w' q q' f f' quads quads' s p b st r e (h .1))
+run-from w₁ w w' q q' f f' quads quads' s p b (limited st) r e h = (h .0, left-from w₁ w w' q q' f f' quads quads' s p b st r e (h .1))
+run-from w₁ w w' q q' f f' quads quads' s p b (stopped wt st) r e h = (h .0, left-from w₁ w w' q q' f f' quads quads' s p b st r e (h .1))
+
+module _ (q : List Float) (ts qs w : List ℕ) (f : List Float) (a : Asked) (l : Lent) (h : CanMesh q ts qs w f a l) where
+  pub mesh-build : CanBuild w (a .slots) (a .capacity) ts (a .count) (a .given)
+  mesh-build =
+      subst (λ (z : List ℕ). CanBuild z (a .slots) (a .capacity) ts (a .count) (a .given)) (h .work)
+      (subst (λ (z : List ℕ). CanBuild (l .work) (a .slots) (a .capacity) z (a .count) (a .given)) (h .triangles) (can-build a l (h .passed)))
+
+  module _ (b : Float) (e : b ≡ bucket-of (a .size)) where
+    pub mesh-run : (w' : List ℕ) (c : Counters) → Builds w w' (a .slots) (a .capacity) ts (a .count) (a .given)
+        → (c .live ≡ a .count) × (c .used ≡ a .count) × (c .points ≡ a .given) × (c .attempts ≡ 0)
+        → CanRun w' q f qs (a .slots) (a .capacity) (a .count) b (a .size) (eqb (a .stop) 1) c (given-tris a l) (given-points a l)
+    mesh-run w' c k n =
+        let can : (q f : List Float) (qs : List ℕ) (b : Float) → Type 0 =
+        λ q f qs b. CanRun w' q f qs (a .slots) (a .capacity) (a .count) b (a .size) (eqb (a .stop) 1) c (given-tris a l) (given-points a l) in
+        let new : IsNew (first-mesh a l (h .passed)) ts (a .count) (a .given) =
+        subst (λ (z : List ℕ). IsNew (first-mesh a l (h .passed)) z (a .count) (a .given)) (h .triangles) (is-new a l (h .passed)) in
+        subst (λ (z : Float). can q f qs z) (sym e)
+        (subst (λ (z : List ℕ). can q f z (bucket-of (a .size))) (h .quads)
+        (subst (λ (z : List Float). can q z (l .quads) (bucket-of (a .size))) (h .floats)
+        (subst (λ (z : List Float). can z (l .float-work) (l .quads) (bucket-of (a .size))) (h .points)
+        (can-run a l (h .passed) w' c (k .rep (first-mesh a l (h .passed)) new) n))))
+
+    -- the memory in which the mesh was built is as long as that lent
+    pub mesh-ran : (w₁ w' : List ℕ) (q' f' : List Float) (quads' : List ℕ) (r : Run) → length w₁ ≡ length w
+        → RunTo w₁ w' q q' f f' qs quads' (a .slots) (a .capacity) b
+        (front-loop (max-attempts base (length (given-tris a l)) + 2) (lent (a .slots) (a .capacity) (a .size) (eqb (a .stop) 1)) (length (given-tris a l))
+        (start (lent (a .slots) (a .capacity) (a .size) (eqb (a .stop) 1)) (given-tris a l) (given-points a l))) r
+        → RunTo w w' q q' f f' qs quads' (a .slots) (a .capacity) (bucket-of (a .size)) (progress-of a l) r
+    unfolding settings
+    mesh-ran w₁ w' q' f' quads' r d k =
+        subst (λ (z : Float). RunTo w w' q q' f f' qs quads' (a .slots) (a .capacity) z (progress-of a l) r) e
+        (run-from w₁ w w' q q' f f' qs quads' (a .slots) (a .capacity) b (progress-of a l) r d k)

@@ -1,0 +1,86 @@
+-- The mesh is built from slices of any content; the counters and the bucket are those of the definition's start.
+use lib.Dec.{eqb}
+use borrow.Author.Needs.{needs}
+use Rattle.definition.specs.Call.{Asked, Lent, given-tris, given-points}
+use Rattle.rounds.specs.Loop.{CanRun}
+use Rattle.mesher.specs.Promise.{asked-of}
+use Rattle.mesher.specs.Parts.{CanMesh}
+use Rattle.mesher.proofs.Starts.{mesh-build, mesh-run, mesh-ran}
+use Rattle.mesher.proofs.run.mesh.Statement.{statement}
+use Rattle.mesher.proofs.run.mesh.Tie as tie
+
+-- what the call states
+abbrev stated : tie.Start → Asked
+stated t = asked-of (t .args .given) (t .args .capacity) (t .args .count) (t .args .slots) (t .args .size) (t .args .stop)
+
+abbrev built : tie.After-bucket-of → tie.After-build
+built b = b .before .before .before .before
+
+abbrev start : tie.After-bucket-of → tie.Start
+start b = built b .before .before .before .before .before .before .before
+
+-- the rounds can start, for whatever else the slices of the call hold
+can-run : (b : tie.After-bucket-of) (l : Lent)
+    → CanMesh (start b .args .points .now) (start b .args .triangles .now) (start b .args .quads .now) (start b .args .work .now) (start b .args .float-work .now) (stated (start b)) l
+    → CanRun (built b .build .last .0) (start b .args .points .now) (start b .args .float-work .now) (start b .args .quads .now) (start b .args .slots) (start b .args .capacity)
+    (start b .args .count) (b .bucket-of .result) (start b .args .size) (eqb (start b .args .stop) 1) (b .before .new .result) (given-tris (stated (start b)) l) (given-points (stated (start b)) l)
+can-run b l m =
+    let a = start b .args in
+    mesh-run (a .points .now) (a .triangles .now) (a .quads .now) (a .work .now) (a .float-work .now) (stated (start b)) l m (b .bucket-of .result) (b .bucket-of .ensures)
+    (built b .build .last .0) (b .before .new .result) (built b .build .ensures) (b .before .new .ensures)
+
+build-requires : tie.Need-build-requires
+build-requires c κs =
+    let t = c .before .before .before .before .before .before in
+    let a = t .args in
+    mesh-build (a .points .now) (a .triangles .now) (a .quads .now) (a .work .now) (a .float-work .now) (stated t) (t .pre .0) (t .pre .1)
+
+new-requires : tie.Need-new-requires
+new-requires c κs = search needs
+
+bucket-of-requires : tie.Need-bucket-of-requires
+bucket-of-requires c κs = search needs
+
+front-loop-requires : tie.Need-front-loop-requires
+front-loop-requires c κs =
+    let b = c .before .before .before .before in
+    let t = start b in
+    let l = t .pre .0 in
+    (given-tris (stated t) l, given-points (stated t) l, can-run b l (t .pre .1))
+
+same-length : tie.Need-same-length
+same-length c = search needs
+
+same-length-2 : tie.Need-same-length-2
+same-length-2 c = search needs
+
+same-length-3 : tie.Need-same-length-3
+same-length-3 c = search needs
+
+same-length-4 : tie.Need-same-length-4
+same-length-4 c = search needs
+
+returns : tie.Need-returns
+returns c =
+    let f = c .before .before .before .before .before .before .before .before in
+    let b = f .before .before .before .before .before in
+    let t = start b in
+    let a = t .args in
+    λ l m.
+    mesh-ran (a .points .now) (a .triangles .now) (a .quads .now) (a .work .now) (a .float-work .now) (stated t) l m (b .bucket-of .result) (b .bucket-of .ensures)
+    (built b .build .last .0) (f .front-loop .last .0) (f .front-loop .last .1 .0) (f .front-loop .last .1 .1 .0) (f .front-loop .last .1 .1 .1 .0) (f .front-loop .result)
+    (built b .build .ensures .keeps .len) (f .front-loop .ensures (given-tris (stated t) l) (given-points (stated t) l) (can-run b l m))
+
+pub mesh-spec : {M : Type 1} → statement M
+mesh-spec =
+    tie.close
+    (tie.spec
+    build-requires
+    new-requires
+    bucket-of-requires
+    front-loop-requires
+    same-length
+    same-length-2
+    same-length-3
+    same-length-4
+    returns)

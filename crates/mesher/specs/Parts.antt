@@ -1,0 +1,75 @@
+-- The parts of a call: the refusals, the run over its mesh, and the lists of a finished run.
+use mathlib.Core.Path.{_≡_}
+use mathlib.Core.Bool.{cond}
+use mathlib.Core.List.{List}
+use Prim.Native.Nat.{ℕ, _+_, _*_, _≤_}
+use lib.ListN.{length}
+use lib.Ieee.{Float}
+use Rattle.definition.specs.Lists.{flat-map}
+use Rattle.definition.specs.Floats.{_≺_, 1·0}
+use Rattle.definition.specs.Numbers.{base, max-attempts}
+use Rattle.definition.specs.Counts.{no-counts}
+use Rattle.definition.specs.Cells.{Mesh, tri-nodes, triangles}
+use Rattle.definition.specs.Components.{component-sizes}
+use Rattle.definition.specs.Front.{Progress, front-loop, start}
+use Rattle.definition.specs.Call.{Asked, Lent, given-points, given-tris, onto, settings}
+use Rattle.cells.specs.Rep.{Rep}
+use Rattle.checks.specs.Refusals.{first-refusal}
+use Rattle.mesher.specs.declared.Answer.{Answer}
+use Rattle.rounds.specs.declared.standing.Standing.{Standing}
+use Rattle.rounds.specs.declared.standing.Finish.{Finish}
+use Rattle.rounds.specs.declared.standing.Finish.the-variants as finishes
+use Rattle.rounds.specs.Standings.{counts-of}
+use Rattle.mesher.specs.Promise.{counts-in, lengths-in}
+
+-- a refusal's answer: its number, and nothing counted or listed
+pub record Refused (k : ℕ) (r : Answer) : Type 0 where
+  pub number : r .refusal ≡ k
+  pub counts : counts-in r ≡ no-counts
+  pub lengths : lengths-in r ≡ record { quads = 0; triangles = 0; points = 0; components = 0 }
+
+-- the number of a run's end: 0 where it finished
+abbrev pub finish-number : Finish → ℕ
+finish-number finishes.Done = 0
+finish-number finishes.NoPoint = 8
+finish-number finishes.NoSlots = 9
+
+-- the bucket's side: the size, or 1.0 without one
+abbrev pub bucket-of : Float → Float
+bucket-of size = cond (base .tiny-size ≺ size) size 1·0
+
+-- ---- the run
+
+-- how the run of a call ends
+abbrev pub progress-of : Asked → Lent → Progress
+progress-of a l =
+    front-loop (max-attempts base (length (given-tris a l)) + 2) (settings base a) (length (given-tris a l)) (start (settings base a) (given-tris a l) (given-points a l))
+
+-- a call that none of 1 to 7 refuses, and the slices that its run reads and writes
+pub record CanMesh (q : List Float) (ts qs w : List ℕ) (f : List Float) (a : Asked) (l : Lent) : Type 0 where
+  pub passed : first-refusal a l ≡ 0
+  pub points : l .points ≡ q
+  pub triangles : l .triangles ≡ ts
+  pub quads : l .quads ≡ qs
+  pub work : l .work ≡ w
+  pub floats : l .float-work ≡ f
+
+-- ---- the lists of a finished run
+
+-- what writing them asks
+pub record CanFinish (w o k : List ℕ) (s p : ℕ) (g : Standing) (m : Mesh) : Type 0 where
+  pub rep : Rep w s p m
+  pub used : m .used ≡ g .counters .used
+  pub out : 3 * s ≤ length o
+  pub components : s ≤ length k
+
+-- and gives
+pub record FinishTo (o o' k k' : List ℕ) (g : Standing) (m : Mesh) (r : Answer) : Type 0 where
+  pub out : o' ≡ onto (flat-map tri-nodes (triangles m)) o
+  pub components : k' ≡ onto (component-sizes (triangles m)) k
+  pub number : r .refusal ≡ 0
+  pub counts : counts-in r ≡ counts-of g
+  pub quads : r .quads ≡ g .quads
+  pub left : r .triangles ≡ length (triangles m)
+  pub points : r .points ≡ g .counters .points
+  pub sizes : r .components ≡ length (component-sizes (triangles m))

@@ -1,0 +1,193 @@
+// The run of a call that none of 1 to 7 refuses.
+use crate::Answer;
+use cells::clear::clear_floats;
+use cells::clear::clear_words;
+use cells::counters::Counters;
+use components::sizes::component_sizes;
+use meshes::build::build;
+use results::write_triangles;
+use rounds::front::front_loop;
+use rounds::standing::Finish;
+use rounds::standing::Run;
+use rounds::standing::Standing;
+ghost use mathlib.Core.Path.{_≡_};
+ghost use Rattle.definition.specs.Numbers.{base};
+ghost use Rattle.definition.specs.Cells.{Mesh};
+ghost use Rattle.definition.specs.Call.{Lent, call};
+ghost use Rattle.checks.specs.Refusals.{first-refusal};
+ghost use Rattle.rounds.specs.Loop.{RunTo};
+ghost use Rattle.mesher.specs.Promise.{asked-of, lent-of, Returns};
+ghost use Rattle.mesher.specs.Parts.{Refused, finish-number, bucket-of, progress-of, CanMesh, CanFinish, FinishTo};
+
+// A size up to this is none.
+const TINY_SIZE: f64 = 1e-9;
+
+// The bucket's side without a size.
+const NO_SIZE: f64 = 1.0;
+
+// The stop rule that keeps components even.
+const EVEN: u32 = 1;
+
+// A refusal: its number, nothing counted, no lists.
+pub fn refused(number: usize) -> Answer
+    ensures { λ r. ⌜ Refused number r ⌝ }
+{
+    Answer {
+        refusal: number,
+        front_empty: 0,
+        attempts: 0,
+        placement: 0,
+        invalid_quad: 0,
+        recovery: 0,
+        region: 0,
+        odd_region: 0,
+        mismatch_insertions: 0,
+        limit: 0,
+        quads: 0,
+        triangles: 0,
+        points: 0,
+        components: 0,
+    }
+}
+
+// The number of a run's end: 0 where it finished.
+fn number_of(finish: Finish) -> usize
+    ensures { λ r. ⌜ r ≡ finish-number finish ⌝ }
+{
+    match finish {
+        Finish::Done => 0,
+        Finish::NoPoint => 8,
+        Finish::NoSlots => 9,
+    }
+}
+
+// The bucket's side: the size, or 1.0 without one.
+fn bucket_of(size: f64) -> f64
+    ensures { λ r. ⌜ r ≡ bucket-of size ⌝ }
+{
+    if size > TINY_SIZE {
+        return size;
+    }
+    NO_SIZE
+}
+
+// The mesh of the given triangles, and the rounds over its front.
+fn mesh(
+    points: &mut [f64],
+    triangles: &[u32],
+    quads: &mut [u32],
+    work: &mut [u32],
+    float_work: &mut [f64],
+    given: usize,
+    capacity: usize,
+    count: usize,
+    slots: usize,
+    size: f64,
+    stop: u32,
+) -> Run
+    requires { ⌜ ((l : Lent) × CanMesh (now points) (now triangles) (now quads) (now work) (now «float_work») (asked-of given capacity count slots size stop) l) ⌝ }
+    ensures { λ r. ⌜ ((l : Lent) → CanMesh (now (points .entry)) (now (triangles .entry)) (now (quads .entry)) (now (work .entry)) (now («float_work» .entry)) (asked-of given capacity count slots size stop) l → RunTo (now (work .entry)) (now (work .exit)) (now (points .entry)) (now (points .exit)) (now («float_work» .entry)) (now («float_work» .exit)) (now (quads .entry)) (now (quads .exit)) slots capacity (bucket-of size) (progress-of (asked-of given capacity count slots size stop) l) r) ⌝ }
+{
+    build(work, triangles, slots, capacity, count, given);
+    let counters = Counters::new(count, given);
+    let bucket = bucket_of(size);
+    let even = stop == EVEN;
+    front_loop(
+        work,
+        points,
+        float_work,
+        quads,
+        slots,
+        capacity,
+        count,
+        bucket,
+        size,
+        even,
+        counters,
+    )
+}
+
+// The triangles that are left and the sizes of their components come to the front of their slices; the answer of the finished run.
+fn finish(
+    triangles_out: &mut [u32],
+    components: &mut [u32],
+    work: &mut [u32],
+    slots: usize,
+    capacity: usize,
+    g: Standing,
+) -> Answer
+    requires { ⌜ ((m : Mesh) × CanFinish (now work) (now «triangles_out») (now components) slots capacity g m) ⌝ }
+    ensures { λ r. ⌜ ((m : Mesh) → CanFinish (now (work .entry)) (now («triangles_out» .entry)) (now (components .entry)) slots capacity g m → FinishTo (now («triangles_out» .entry)) (now («triangles_out» .exit)) (now (components .entry)) (now (components .exit)) g m r) ⌝ }
+{
+    let c = g.counters;
+    let t = g.tally;
+    let left = write_triangles(work, triangles_out, slots, capacity, c.used);
+    let sizes = component_sizes(work, components, slots, capacity, c.used);
+    Answer {
+        refusal: 0,
+        front_empty: t.front_empty,
+        attempts: c.attempts,
+        placement: t.placement,
+        invalid_quad: t.invalid_quad,
+        recovery: t.recovery,
+        region: t.region,
+        odd_region: t.odd_region,
+        mismatch_insertions: t.mismatch_insertions,
+        limit: t.limit,
+        quads: g.quads,
+        triangles: left,
+        points: c.points,
+        components: sizes,
+    }
+}
+
+// The run; at its end both work slices are cleared whole.
+pub fn run(
+    points: &mut [f64],
+    triangles: &[u32],
+    quads: &mut [u32],
+    triangles_out: &mut [u32],
+    components: &mut [u32],
+    work: &mut [u32],
+    float_work: &mut [f64],
+    given: usize,
+    capacity: usize,
+    count: usize,
+    slots: usize,
+    size: f64,
+    stop: u32,
+) -> Answer
+    requires { ⌜ first-refusal (asked-of given capacity count slots size stop) (lent-of (now points) (now triangles) (now quads) (now «triangles_out») (now components) (now work) (now «float_work»)) ≡ 0 ⌝ }
+    ensures { λ r. ⌜ Returns
+        (call base
+        (asked-of given capacity count slots size stop)
+        (lent-of (now (points .entry)) (now (triangles .entry)) (now (quads .entry)) (now («triangles_out» .entry)) (now (components .entry)) (now (work .entry)) (now («float_work» .entry))))
+        r
+        (lent-of (now (points .exit)) (now (triangles .entry)) (now (quads .exit)) (now («triangles_out» .exit)) (now (components .exit)) (now (work .exit)) (now («float_work» .exit))) ⌝ }
+{
+    let end = mesh(
+        points,
+        triangles,
+        quads,
+        work,
+        float_work,
+        given,
+        capacity,
+        count,
+        slots,
+        size,
+        stop,
+    );
+    let how = end.finish;
+    let number = number_of(how);
+    if number != 0 {
+        clear_words(work);
+        clear_floats(float_work);
+        return refused(number);
+    }
+    let g = end.standing;
+    let answer = finish(triangles_out, components, work, slots, capacity, g);
+    clear_words(work);
+    clear_floats(float_work);
+    answer
+}

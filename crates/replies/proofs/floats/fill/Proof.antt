@@ -1,0 +1,82 @@
+-- `floats::fill`. Invariant: the first i floats are there.
+use borrow.Author.Needs.{needs}
+use mathlib.Core.Path.{_≡_, refl, ap, _∙_}
+use Prim.Native.Nat.{ℕ, _+_, _-_, _≤_}
+use lib.ListN.{length, set, length-set}
+use denote.Ref.{now}
+use native.Mathlib.Omega.{arith}
+use Rattle.replies.specs.Tells.{filled}
+use Rattle.replies.proofs.Fills.{filled-none, filled-more}
+use Rattle.replies.proofs.floats.fill.Statement.{statement}
+use Rattle.replies.proofs.floats.fill.Tie as tie
+
+abbrev Inv-loop : tie.InvT-loop
+Inv-loop bits n points₀ i₀ points i = (i ≤ n) × (length points ≡ length points₀) × (points ≡ filled i bits points₀)
+
+abbrev μ-loop : tie.MeasureT-loop
+μ-loop bits n points₀ i₀ points i = n - i
+
+loop-holds : tie.Need-loop-holds Inv-loop μ-loop
+loop-holds c = (omega arith, refl, filled-none _ _)
+
+mul-float-of : tie.Need-mul-float-of Inv-loop μ-loop
+mul-float-of c = search needs
+
+shared-slice-read-float-of : tie.Need-shared-slice-read-float-of Inv-loop μ-loop
+shared-slice-read-float-of c = search needs
+
+float-of-requires : tie.Need-float-of-requires Inv-loop μ-loop
+float-of-requires c κs = search needs
+
+mul-points : tie.Need-mul-points Inv-loop μ-loop
+mul-points c = search needs
+
+slice-write-points : tie.Need-slice-write-points Inv-loop μ-loop
+slice-write-points c = search needs
+
+add-i : tie.Need-add-i Inv-loop μ-loop
+add-i c = search needs
+
+loop-less : tie.Need-loop-less Inv-loop μ-loop
+loop-less c = search needs
+
+loop-again : tie.Need-loop-again Inv-loop μ-loop
+loop-again c =
+    let start = c .before .before .before .before .before .before in
+    let a = start .args in
+    let l = c .before .before .before .loop in
+    let v = c .float-of .result in (
+      omega arith,
+      length-set (l .points) (l .i) v ∙ l .inv .1,
+      ap (λ ys. set ys (l .i) v) (l .inv .2)
+          ∙ ap (λ y. set (filled (l .i) (now (a .bits)) (now (a .points))) (l .i) y) (c .float-of .ensures)
+          ∙ filled-more (l .i) (now (a .bits)) (now (a .points)) (omega (arith, start .pre)) (omega (arith, start .pre)),
+    )
+
+same-length : tie.Need-same-length Inv-loop μ-loop
+same-length c = c .before .loop .inv .1
+
+returns : tie.Need-returns Inv-loop μ-loop
+returns c =
+    let a = c .before .before .before .before .args in
+    let l = c .before .loop in
+    let e : l .i ≡ a .n = omega arith in
+    l .inv .2 ∙ ap (λ k. filled k (now (a .bits)) (now (a .points))) e
+
+pub fill-spec : {M : Type 1} → statement M
+fill-spec =
+    tie.close
+    (tie.spec
+    Inv-loop
+    μ-loop
+    loop-holds
+    mul-float-of
+    shared-slice-read-float-of
+    float-of-requires
+    mul-points
+    slice-write-points
+    add-i
+    loop-less
+    loop-again
+    same-length
+    returns)

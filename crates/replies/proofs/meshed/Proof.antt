@@ -1,0 +1,151 @@
+-- `meshed`: what is lent is what the definition lends, and what the call returns is written.
+use borrow.Author.Needs.{needs}
+use mathlib.Core.Path.{_≡_, refl, ap, subst}
+use Prim.Native.Nat.{ℕ, _*_, _≤_}
+use lib.ListN.{length, take, length-take, length-replicate}
+use lib.Ieee.{binary64, ofBits}
+use denote.Ref.{now}
+use Rattle.definition.specs.Lists.{rows}
+use Rattle.definition.specs.Floats.{f64, 0·0}
+use Rattle.definition.specs.Numbers.{base}
+use Rattle.definition.specs.Call.{call}
+use Rattle.writing.specs.Answer.{Answered}
+use Rattle.mesher.specs.Promise.{Returns, asked-of, lent-of}
+use Rattle.replies.proofs.Bounds.{refused-number, call-writable}
+use Rattle.replies.proofs.Lends.{asks, lending, lends, answer-is}
+use native.Mathlib.Omega.{arith}
+use Rattle.replies.proofs.meshed.Statement.{statement}
+use Rattle.replies.proofs.meshed.Tie as tie
+
+-- the call that was made is the definition's
+ran : (c : tie.After-run-front) → let a = c .before .before .before .before .before .before .before .before .before .before .before .before .before .before .before .args in let l = c .run-front .last in
+    Returns (call base (asks (a .h)) (lends (a .h) (now (a .tris)) (now (a .bits)))) (c .run-front .result)
+    (lent-of (l .0) (take (3 * a .h .triangles) (now (a .tris))) (l .1 .1 .0) (l .1 .1 .1 .0) (l .1 .1 .1 .1 .0) (l .1 .1 .1 .1 .1 .0) (l .1 .1 .1 .1 .1 .1 .0))
+unfolding 0·0 f64
+ran c =
+    let start = c .before .before .before .before .before .before .before .before .before .before .before .before .before .before .before in
+    let a = start .args in
+    let l = c .run-front .last in
+    let after = lent-of (l .0) (take (3 * a .h .triangles) (now (a .tris))) (l .1 .1 .0) (l .1 .1 .1 .0) (l .1 .1 .1 .1 .0) (l .1 .1 .1 .1 .1 .0) (l .1 .1 .1 .1 .1 .1 .0) in
+    let f = c .before .before .before .before .before .before .before .before .before .before .fill in
+    let g = c .before .before .before .before .before .before .before .before .float-of in
+    let made : Returns (call base (asked-of (a .h .points) 96 (a .h .triangles) 160 (g .result) (a .h .stop)) (lending (f .last .1 .1 .0) (take (3 * a .h .triangles) (now (a .tris))))) (c .run-front .result) after =
+    c .run-front .ensures .0 in
+    subst (λ ps. Returns (call base (asks (a .h)) (lending ps (take (3 * a .h .triangles) (now (a .tris))))) (c .run-front .result) after) (f .ensures)
+    (subst (λ x. Returns (call base (asked-of (a .h .points) 96 (a .h .triangles) 160 x (a .h .stop)) (lending (f .last .1 .1 .0) (take (3 * a .h .triangles) (now (a .tris))))) (c .run-front .result) after) (g .ensures) made)
+
+mul-fill : tie.Need-mul-fill
+mul-fill c = search needs
+
+slice-aggregate-fill : tie.Need-slice-aggregate-fill
+slice-aggregate-fill c = search needs
+
+fill-requires : tie.Need-fill-requires
+fill-requires c κs = search needs
+
+float-of-requires : tie.Need-float-of-requires
+float-of-requires c κs = search needs
+
+mul-end : tie.Need-mul-end
+mul-end c = search needs
+
+slice-aggregate-run-front : tie.Need-slice-aggregate-run-front
+slice-aggregate-run-front c = search needs
+
+slice-aggregate-run-front-2 : tie.Need-slice-aggregate-run-front-2
+slice-aggregate-run-front-2 c = let w = c .before .before .before .before .before .before .before .before .before .pre .0 in simp length-take (omega arith)
+
+slice-aggregate-run-front-3 : tie.Need-slice-aggregate-run-front-3
+slice-aggregate-run-front-3 c = search needs
+
+slice-aggregate-run-front-4 : tie.Need-slice-aggregate-run-front-4
+slice-aggregate-run-front-4 c = search needs
+
+slice-aggregate-run-front-5 : tie.Need-slice-aggregate-run-front-5
+slice-aggregate-run-front-5 c = search needs
+
+slice-aggregate-run-front-6 : tie.Need-slice-aggregate-run-front-6
+slice-aggregate-run-front-6 c = search needs
+
+slice-aggregate-run-front-7 : tie.Need-slice-aggregate-run-front-7
+slice-aggregate-run-front-7 c = search needs
+
+run-front-requires : tie.Need-run-front-requires
+run-front-requires c κs = search needs
+
+slice-aggregate-told : tie.Need-slice-aggregate-told
+slice-aggregate-told c = search needs
+
+slice-aggregate-told-2 : tie.Need-slice-aggregate-told-2
+slice-aggregate-told-2 c = search needs
+
+slice-aggregate-told-3 : tie.Need-slice-aggregate-told-3
+slice-aggregate-told-3 c = search needs
+
+slice-aggregate-told-4 : tie.Need-slice-aggregate-told-4
+slice-aggregate-told-4 c = search needs
+
+told-requires : tie.Need-told-requires
+told-requires c κs =
+    let at = c .before .before .before .before .before .before .before .before .before .before .before in
+    let start = at .before .before .before .before .before .before .before .before .before .before .before .before .before .before .before in
+    let a = start .args in
+    let w = start .pre .0 in
+    let k = at .run-front .kept in
+    let f = at .before .before .before .before .before .before .before .before .before .before .fill in (
+      call-writable (asks (a .h)) (lends (a .h) (now (a .tris)) (now (a .bits))) (w .few-triangles) refl refl (ran at),
+      record {
+        bits-long = omega (arith, w);
+        points-long = omega (arith, k .0, f .kept .1 .1 .0, length-replicate 288 (ofBits binary64 0));
+        quads-long = omega (arith, k .1 .1 .0, length-replicate {A = ℕ} 640 0);
+        triangles-long = omega (arith, k .1 .1 .1 .0, length-replicate {A = ℕ} 480 0);
+        components-long = omega (arith, k .1 .1 .1 .1 .0, length-replicate {A = ℕ} 160 0);
+        out-long = start .pre .1;
+      },
+    )
+
+same-length : tie.Need-same-length
+same-length c = search needs
+
+returns : tie.Need-returns
+returns c =
+    let at = c .before .before .before .before .before .before .before .before .before .before .before .before .before .before in
+    let a = at .before .before .before .before .before .before .before .before .before .before .before .before .before .before .before .args in
+    let t = c .before .before .told in
+    let l = at .run-front .last in
+    let m = lends (a .h) (now (a .tris)) (now (a .bits)) in
+    let r = ran at in
+    subst (λ y. Answered (now (a .out)) (t .last .0) y (t .result)) (answer-is (a .h) (now (a .tris)) (now (a .bits)))
+    (t .ensures (call base (asks (a .h)) m) (record {
+      answer = record { lent = refl; number = r .number; counts = r .counts; lengths = r .lengths };
+      named = λ k e. refused-number (asks (a .h)) m k e .0;
+      points-left = ap (λ z. z .points) (r .lent);
+      quads-left = ap (λ z. z .quads) (r .lent);
+      triangles-left = ap (λ z. z .triangles-out) (r .lent);
+      components-left = ap (λ z. z .components) (r .lent);
+    }))
+
+pub meshed-spec : {M : Type 1} → statement M
+meshed-spec =
+    tie.close
+    (tie.spec
+    mul-fill
+    slice-aggregate-fill
+    fill-requires
+    float-of-requires
+    mul-end
+    slice-aggregate-run-front
+    slice-aggregate-run-front-2
+    slice-aggregate-run-front-3
+    slice-aggregate-run-front-4
+    slice-aggregate-run-front-5
+    slice-aggregate-run-front-6
+    slice-aggregate-run-front-7
+    run-front-requires
+    slice-aggregate-told
+    slice-aggregate-told-2
+    slice-aggregate-told-3
+    slice-aggregate-told-4
+    told-requires
+    same-length
+    returns)

@@ -1,0 +1,10 @@
+pub mod Tallies
+pub mod Texts
+pub mod Settling
+pub mod Reaching
+pub mod Attempting
+pub mod Places
+pub mod Trying
+pub mod Looping
+pub mod Rounding
+pub mod Running

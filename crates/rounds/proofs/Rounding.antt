@@ -1,0 +1,136 @@
+-- A round: the front's edges, its loops and their perimeters come to memory, and the loops have their turns.
+use mathlib.Core.Path.{_≡_, refl, ap, sym, _∙_, subst}
+use mathlib.Core.List.{List, [], _∷_, _++_}
+use Prim.{⊥, absurd, tt}
+use Prim.Native.Nat.{ℕ, zero, suc, _+_, _-_, _*_, _^_, _<_, _≤_}
+use native.Mathlib.Omega.{arith}
+use lib.Ieee.{Float}
+use lib.ListN.{length, getD}
+use Rattle.definition.specs.Lists.{flat-map, concat}
+use Rattle.definition.specs.Counts.{_⊞_, emptied}
+use Rattle.definition.specs.Plane.{Node, Edge}
+use Rattle.definition.specs.Cells.{Mesh, front}
+use Rattle.definition.specs.Loops.{in-order, ranked-loop, loops-of, front-loops}
+use Rattle.definition.specs.Front.{State, Progress, stuck, progressed, limited, stopped, counting, try-loops, round}
+use Rattle.cells.specs.Layout.{mesh-end, front-u-at, front-links-at, done-at}
+use Rattle.cells.specs.Rep.{Room, Rep}
+use Rattle.cells.specs.declared.counters.Counters.{Counters}
+use Rattle.edges.specs.Stored.{Edges, EdgesAt, LoopList, Perimeters, pending}
+use Rattle.fronts.specs.Front.{FrontTo}
+use Rattle.loops.specs.Loop.{CanLoop, LoopsTo, CanMeasure}
+use Rattle.picks.specs.Pick.{CanTurn}
+use Rattle.picks.proofs.Turns.{loops-few}
+use Rattle.lending.specs.Ready.{Ready}
+use Rattle.rounds.specs.declared.standing.Standing.{Standing}
+use Rattle.rounds.specs.declared.standing.Step.{Step}
+use Rattle.rounds.specs.declared.standing.Going.the-variants as goings
+use Rattle.rounds.specs.Standings.{counts-of, FewTally, CountsMore}
+use Rattle.rounds.specs.Runs.{Setup, settings-of, Leaves, Goes, Stepped}
+use Rattle.rounds.specs.Rounds.{CanLoops, ClearTo, Rounded}
+use Rattle.rounds.proofs.Attempting.{few-tally}
+use Rattle.rounds.proofs.Places.{SameEdges}
+use Rattle.rounds.proofs.Trying.{goes-kept, points-within}
+use Rattle.rounds.proofs.Looping.{can-turn-kept, pending-all, loops-left}
+
+-- the memory stands for the state
+pub leaves-of : (w : List ℕ) (q : List Float) (quads : List ℕ) (x : Setup) (g : Standing) (st : State) (es : List Edge) → Goes w q quads x g st es → Leaves w q quads x g st
+leaves-of w q quads x g st es k = let h = k .holds in record { ready = h .ready; counts = h .counts; number = h .so-far .number; text = h .so-far .text; behind = h .behind }
+
+pub rounded : (w : List ℕ) (q : List Float) (quads : List ℕ) (x : Setup) (p : Progress) (r : Step) → Stepped w q quads x [] p r → Rounded w q quads x p r
+rounded w q quads x (stuck st) r h = (h .0, leaves-of w q quads x (r .standing) st [] (h .1))
+rounded w q quads x (progressed st) r h = h
+rounded w q quads x (limited st) r h = h
+rounded w q quads x (stopped wt st) r h = h
+
+no-edges : (es : List Edge) → length es ≡ 0 → es ≡ []
+no-edges [] h = refl
+no-edges (e ∷ es) h = absurd (omega arith)
+
+empty-round : (x : Setup) (given : ℕ) (st : State) (es : List Edge) → es ≡ [] → round (settings-of x) given st es ≡ stuck (counting st emptied)
+unfolding round
+empty-round x given st es h = ap (round (settings-of x) given st) h
+
+full-round : (x : Setup) (given : ℕ) (st : State) (es : List Edge) → (length es ≡ 0 → ⊥) → round (settings-of x) given st es ≡ try-loops (settings-of x) given st (in-order (flat-map (ranked-loop (st .mesh .points)) (loops-of (length es) es)))
+unfolding round front-loops
+full-round x given st [] h = absurd (h refl)
+full-round x given st (e ∷ es) h = refl
+
+module _ (w : List ℕ) (q : List Float) (quads : List ℕ) (x : Setup) (g : Standing) (st : State) (z : Goes w q quads x g st []) where
+  abbrev es : List Edge
+  es = front (st .mesh)
+
+  room : Room w (x .s) (x .p)
+  room = z .holds .ready .rep .room
+
+  pub points-number : g .counters .points ≡ length (st .mesh .points)
+  points-number = z .holds .ready .counted .points
+
+  pub rep-now : Rep w (x .s) (x .p) (st .mesh)
+  rep-now = z .holds .ready .rep
+
+  pub few-now : FewTally (g .tally)
+  few-now = few-tally x st (z .reaches .old) [] (z .reaches .fixed) (z .holds .ready .small .points) (z .reaches .reach) g (z .holds .counts)
+
+  module _ (w₁ : List ℕ) (k : ℕ) (to : FrontTo w w₁ (x .s) (x .p) (g .counters .points) k (front (st .mesh))) where
+    goes₁ : Goes w₁ q quads x g st []
+    goes₁ = goes-kept w w₁ q quads x g st [] (to .len) (to .below) z
+
+    -- the front is empty
+    pub empty-rounded : k ≡ 0 → (h : Standing) → CountsMore g emptied h → Rounded w₁ q quads x (round (settings-of x) (x .given) st (front (st .mesh))) (record { kind = goings.Stuck; standing = h })
+    unfolding counting
+    empty-rounded e h more =
+        let l = leaves-of w₁ q quads x g st [] goes₁ in
+        subst (λ p. Rounded w₁ q quads x p (record { kind = goings.Stuck; standing = h })) (sym (empty-round x (x .given) st es (no-edges es (to .at .len ∙ e))))
+        (refl, record {
+          ready = subst (λ (c : Counters). Ready w₁ q (x .s) (x .p) (x .bucket) c (st .mesh)) (sym (more .counters)) (l .ready);
+          counts = more .counts ∙ ap (λ c. c ⊞ emptied) (l .counts);
+          number = more .quads ∙ l .number;
+          text = l .text;
+          behind = l .behind;
+        })
+
+    pub can-loop : CanLoop w₁ (x .s) (x .p) (g .counters .points) k es
+    can-loop = record { room = goes₁ .holds .ready .rep .room; at = to .at; edges = to .edges; nodes = omega (arith, points-number, rep-now .points) }
+
+    module _ (w₂ : List ℕ) (r : ℕ) (lo : LoopsTo w₁ w₂ (x .s) (x .p) (g .counters .points) k r (front (st .mesh))) where
+      abbrev ls : List (List Edge)
+      ls = loops-of (length (front (st .mesh))) (front (st .mesh))
+
+      goes₂ : Goes w₂ q quads x g st []
+      goes₂ = goes-kept w₁ w₂ q quads x g st [] (lo .len) (λ i l. lo .below i (omega arith)) goes₁
+
+      loops₂ : LoopList w₂ (x .s) (x .p) (length (st .mesh .points)) k r ls
+      loops₂ = subst (λ (n : ℕ). LoopList w₂ (x .s) (x .p) n k r ls) points-number (lo .loops)
+
+      pub room₂ : Room w₂ (x .s) (x .p)
+      room₂ = goes₂ .holds .ready .rep .room
+
+      pub loops-few₂ : r ≤ 3 * x .s
+      loops-few₂ = omega (arith, loops-few w₂ (x .s) (x .p) 0 0 ls (loops₂ .at), loops₂ .len, loops₂ .total, loops₂ .few)
+
+      pub can-measure : (f : List Float) → 3 * x .s ≤ length f → CanMeasure w₂ q f (x .s) (x .p) k r (st .mesh) ls
+      can-measure f l = record { room = room₂; pts = z .holds .ready .pts; loops = loops₂; floats = l }
+
+      module _ (f : List Float) (long : 3 * x .s ≤ length f) (sums : Perimeters f (x .s) (x .p) (st .mesh .points) 0 ls) (w₃ : List ℕ) (cl : ClearTo w₂ w₃ (x .s) (x .p) r) where
+        goes₃ : Goes w₃ q quads x g st []
+        goes₃ = goes-kept w₂ w₃ q quads x g st [] (cl .len) (λ i l. cl .below i (omega arith)) goes₂
+
+        pub can-loops : CanLoops w₃ q f quads x k r g st (st .mesh .points) ls
+        can-loops =
+            let small = z .holds .ready .small .slots in
+            record {
+              goes = goes₃;
+              turn = can-turn-kept w₂ w₃ (x .s) (x .p) (λ i a b. cl .below i b) f k r (st .mesh .points) ls (cl .len)
+                  (record { room = room₂; within = points-within w₂ q quads x g st [] goes₂; loops = loops₂; floats = long; sums = sums; many = omega (arith, loops₂ .total, loops₂ .few) });
+              grown = omega arith;
+            }
+
+        all-pending : pending w₃ (x .s) (x .p) 0 ls ≡ ls
+        all-pending = pending-all w₃ (x .s) (x .p) 0 ls (λ i a b. cl .zero i (omega (arith, loops₂ .len)))
+
+        pub full-rounded : (k ≡ 0 → ⊥) → (w₄ : List ℕ) (q₄ : List Float) (quads₄ : List ℕ) (s₄ : Step) → Stepped w₄ q₄ quads₄ x [] (try-loops (settings-of x) (x .given) st (loops-left w₃ x (st .mesh .points) ls)) s₄
+            → Rounded w₄ q₄ quads₄ x (round (settings-of x) (x .given) st (front (st .mesh))) s₄
+        full-rounded e w₄ q₄ quads₄ s₄ h =
+            let same : round (settings-of x) (x .given) st es ≡ try-loops (settings-of x) (x .given) st (loops-left w₃ x (st .mesh .points) ls) =
+            full-round x (x .given) st es (λ n. e (sym (to .at .len) ∙ n)) ∙ ap (λ (l : List (List Edge)). try-loops (settings-of x) (x .given) st (in-order (flat-map (ranked-loop (st .mesh .points)) l))) (sym all-pending) in
+            subst (λ p. Rounded w₄ q₄ quads₄ x p s₄) (sym same) (rounded w₄ q₄ quads₄ x (try-loops (settings-of x) (x .given) st (loops-left w₃ x (st .mesh .points) ls)) s₄ h)

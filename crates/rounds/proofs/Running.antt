@@ -1,0 +1,187 @@
+-- Rounds, until one places no quad: fuel enough is left, since each that does makes an attempt.
+use mathlib.Core.Path.{_≡_, refl, ap, sym, _∙_, subst}
+use mathlib.Core.Bool.{Bool, true, false, not}
+use mathlib.Core.List.{List, [], _∷_, _++_}
+use Prim.{⊥, absurd, tt}
+use Prim.Native.Nat.{ℕ, zero, suc, _+_, _-_, _*_, _^_, _<_, _≤_}
+use native.Mathlib.Omega.{arith}
+use lib.Ieee.{Float}
+use lib.ListN.{length, getD, drop}
+use Rattle.definition.specs.Lists.{flat-map}
+use Rattle.definition.specs.Numbers.{base, max-attempts}
+use Rattle.definition.specs.Counts.{Counts, tally, no-counts, Want, of-points, of-slots}
+use Rattle.definition.specs.Plane.{Node, Edge}
+use Rattle.definition.specs.Cells.{Tri, Mesh, front, quad-nodes}
+use Rattle.definition.specs.Front.{State, Progress, stuck, progressed, limited, stopped, round, front-loop, start, new-mesh}
+use Rattle.definition.specs.Call.{onto}
+use Rattle.account.specs.Lists.{never}
+use Rattle.account.specs.Reach.{begun}
+use Rattle.account.specs.Rounds.{tries, Gains, round-gains}
+use Rattle.cells.specs.Layout.{mesh-end, refused-at}
+use Rattle.cells.specs.declared.counters.Counters.{Counters}
+use Rattle.blocks.specs.Records as Records
+use Rattle.blocks.specs.Blocks.{Blocks, OpenTo}
+use Rattle.lending.specs.Ready.{lent, Ready, Behind}
+use Rattle.rounds.specs.declared.standing.Standing.{Standing}
+use Rattle.rounds.specs.declared.standing.Step.{Step}
+use Rattle.rounds.specs.declared.standing.Going.{Going}
+use Rattle.rounds.specs.declared.standing.Going.the-variants as goings
+use Rattle.rounds.specs.declared.standing.Run.{Run}
+use Rattle.rounds.specs.Standings.{counts-of}
+use Rattle.rounds.specs.Settles.{want-kind}
+use Rattle.rounds.specs.Runs.{Begun, Setup, setup, settings-of, Fixed, Leaves, Goes}
+use Rattle.rounds.specs.Rounds.{Rounded}
+use Rattle.rounds.specs.Loop.{is-progressed, finish-of, want-finish, Finished, Begins, CanRun, LeftRun, RunTo}
+use Rattle.rounds.proofs.Tallies.{same-counts}
+use Rattle.rounds.proofs.Reaching.{sound}
+use Rattle.rounds.proofs.Attempting.{ready-under}
+use Rattle.rounds.proofs.Rounding.{leaves-of}
+
+-- ---- one round more
+
+-- it placed a quad
+progress-case : (w : List ℕ) (q : List Float) (quads : List ℕ) (x : Setup) (p : Progress) (r : Step) → Rounded w q quads x p r → is-progressed (r .kind) ≡ true
+    → (st : State) × (p ≡ progressed st) × Goes w q quads x (r .standing) st []
+progress-case w q quads x (stuck st) r h e = absurd (never (is-progressed (r .kind)) e (ap is-progressed (h .0)))
+progress-case w q quads x (progressed st) r h e = (st, refl, h .1)
+progress-case w q quads x (limited st) r h e = absurd (never (is-progressed (r .kind)) e (ap is-progressed (h .0)))
+progress-case w q quads x (stopped wt st) r h e = absurd (never (is-progressed (r .kind)) e (ap is-progressed (h .0) ∙ want wt))
+  where
+    want : (wt : Want) → is-progressed (want-kind wt) ≡ false
+    want of-points = refl
+    want of-slots = refl
+
+want-finishes : (wt : Want) → finish-of (want-kind wt) ≡ want-finish wt
+want-finishes of-points = refl
+want-finishes of-slots = refl
+
+-- it did not: the run ends
+end-case : (w : List ℕ) (q : List Float) (quads : List ℕ) (x : Setup) (given n : ℕ) (st : State) (p : Progress) (s' : Step) (r : Run) → Rounded w q quads x p s' → is-progressed (s' .kind) ≡ false
+    → round (settings-of x) given st (front (st .mesh)) ≡ p → r .finish ≡ finish-of (s' .kind) → r .standing ≡ s' .standing → Finished w q quads x (front-loop (suc n) (settings-of x) given st) r
+unfolding front-loop
+end-case w q quads x given n st (stuck st') s' r h e g f k = rw (g, front-loop) (f ∙ ap finish-of (h .0), subst (λ (z : Standing). Leaves w q quads x z st') (sym k) (h .1))
+end-case w q quads x given n st (progressed st') s' r h e g f k = absurd (never (is-progressed (s' .kind)) (ap is-progressed (h .0)) e)
+end-case w q quads x given n st (limited st') s' r h e g f k = rw (g, front-loop) (f ∙ ap finish-of (h .0), subst (λ (z : Standing). Leaves w q quads x z st') (sym k) (h .1))
+end-case w q quads x given n st (stopped wt st') s' r h e g f k = rw (g, front-loop) (f ∙ ap finish-of (h .0) ∙ want-finishes wt, subst (λ (z : Standing). Leaves w q quads x z st') (sym k) (h .1))
+
+next-round : (x : Setup) (given n : ℕ) (st st' : State) → round (settings-of x) given st (front (st .mesh)) ≡ progressed st' → front-loop (suc n) (settings-of x) given st ≡ front-loop n (settings-of x) given st'
+unfolding front-loop
+next-round x given n st st' h = rw (h, front-loop) refl
+
+-- the run has come to the state st, with the same to come and fuel enough
+pub record Running (w : List ℕ) (q : List Float) (quads : List ℕ) (x : Setup) (g : Standing) (p : Progress) : Type 0 where
+  pub st : State
+  pub fuel : ℕ
+  pub goes : Goes w q quads x g st []
+  pub enough : max-attempts base (x .given) < fuel + st .counts .attempts
+  pub same : p ≡ front-loop fuel (settings-of x) (x .given) st
+
+module _ (w : List ℕ) (q : List Float) (quads : List ℕ) (x : Setup) (g : Standing) (p : Progress) (t : Running w q quads x g p) where
+  tries-fit : t .st .counts .attempts ≤ max-attempts base (x .given)
+  tries-fit =
+      let f = t .goes .reaches .fixed in
+      subst (λ (n : ℕ). t .st .counts .attempts ≤ max-attempts base n) (sym (f .given)) (sound x f (t .st) (t .goes .reaches .old) [] (t .goes .reaches .reach) .tries-fit)
+
+  fuel-is : (n : ℕ) × (t .fuel ≡ suc n)
+  fuel-is = go (t .fuel) (t .enough)
+    where
+      go : (k : ℕ) → max-attempts base (x .given) < k + t .st .counts .attempts → (n : ℕ) × (k ≡ suc n)
+      go zero h = let l : t .st .counts .attempts ≤ max-attempts base (x .given) = tries-fit in absurd (omega arith)
+      go (suc n) h = (n, refl)
+
+  gains : Gains (max-attempts base (x .given)) (t .st .counts .attempts) (round (settings-of x) (x .given) (t .st) (front (t .st .mesh)))
+  gains = round-gains (settings-of x) (x .given) (t .st) (front (t .st .mesh)) tries-fit
+
+  module _ (w' : List ℕ) (q' : List Float) (quads' : List ℕ) (s' : Step) (to : Rounded w' q' quads' x (round (settings-of x) (x .given) (t .st) (front (t .st .mesh))) s') where
+    pub ends-there : is-progressed (s' .kind) ≡ false → (r : Run) → r .finish ≡ finish-of (s' .kind) → r .standing ≡ s' .standing → Finished w' q' quads' x p r
+    ends-there e r f k =
+        let end = end-case w' q' quads' x (x .given) (fuel-is .0) (t .st) (round (settings-of x) (x .given) (t .st) (front (t .st .mesh))) s' r to e refl f k in
+        subst (λ z. Finished w' q' quads' x z r) (sym (t .same ∙ ap (λ (n : ℕ). front-loop n (settings-of x) (x .given) (t .st)) (fuel-is .1))) end
+
+    module _ (e : is-progressed (s' .kind) ≡ true) where
+      one : (st : State) × (round (settings-of x) (x .given) (t .st) (front (t .st .mesh)) ≡ progressed st) × Goes w' q' quads' x (s' .standing) st []
+      one = progress-case w' q' quads' x (round (settings-of x) (x .given) (t .st) (front (t .st .mesh))) s' to e
+
+      more : (t .st .counts .attempts < one .0 .counts .attempts) × (one .0 .counts .attempts ≤ max-attempts base (x .given))
+      more = subst (λ z. Gains (max-attempts base (x .given)) (t .st .counts .attempts) z) (one .1) gains
+
+      pub goes-on : Running w' q' quads' x (s' .standing) p
+      goes-on =
+          let m : t .st .counts .attempts < one .0 .counts .attempts = more .0 in
+          let k = fuel-is .1 in
+          let en = t .enough in
+          record {
+            st = one .0;
+            fuel = fuel-is .0;
+            goes = one .2;
+            enough = omega (arith, m, k, en);
+            same = t .same ∙ ap (λ (n : ℕ). front-loop n (settings-of x) (x .given) (t .st)) k ∙ next-round x (x .given) (fuel-is .0) (t .st) (one .0) (one .1);
+          }
+
+      pub fewer : 200 * x .given + 10001 - s' .standing .counters .attempts < 200 * x .given + 10001 - g .counters .attempts
+      unfolding max-attempts base
+      fewer =
+          let m : t .st .counts .attempts < one .0 .counts .attempts = more .0 in
+          let l : one .0 .counts .attempts ≤ max-attempts base (x .given) = more .1 in
+          let a : g .counters .attempts ≡ t .st .counts .attempts = ap (λ c. c .attempts) (t .goes .holds .counts) in
+          let b : s' .standing .counters .attempts ≡ one .0 .counts .attempts = ap (λ c. c .attempts) (one .2 .holds .counts) in
+          omega (arith, m, l, a, b)
+
+-- ---- the start
+
+module _ (w : List ℕ) (q f : List Float) (quads : List ℕ) (s p given : ℕ) (bucket size : Float) (even : Bool) (c : Counters) (ts : List Tri) (ps : List Node) (k : CanRun w q f quads s p given bucket size even c ts ps) where
+  abbrev pub begun-with : Begun
+  begun-with = record { ts = ts; ps = ps; floats = q; old = quads }
+
+  abbrev x : Setup
+  x = setup s p given bucket size even (record { ts = ts; ps = ps; floats = q; old = quads })
+
+  fixed : Fixed x
+  fixed = record { proper = k .proper; given = k .is-given; few = k .few; points = k .points; slots = k .slots; within = k .within; sized = k .sized; room = k .room }
+
+  pub can-open : Records.Room w (refused-at s p) (3 * s) p
+  can-open =
+      let r = k .ready .rep .room .fits in
+      let a = k .ready .small .slots in
+      let b = k .ready .small .points in
+      record { fits = omega arith; few-records = omega arith; few-nodes = omega arith }
+
+  module _ (w₁ : List ℕ) (to : OpenTo w w₁ (refused-at s p) (3 * s) p) (g : Standing) (b : Begins c g) where
+    begin-counts : counts-of g ≡ start (lent s p size even) ts ps .counts
+    unfolding start no-counts tally
+    begin-counts = same-counts (counts-of g) no-counts (b .front) (ap (λ z. z .attempts) (b .counters) ∙ k .fresh) (b .placement) (b .invalid) (b .recovery) (b .region) (b .odd) (b .insertions) (b .limit)
+
+    pub starts : Goes w₁ q quads x g (start (lent s p size even) ts ps) []
+    unfolding start onto flat-map
+    starts =
+        let kept = to .kept in
+        record {
+          ever = [];
+          holds = record {
+            ready = subst (λ (z : Counters). Ready w₁ q s p bucket z (start (lent s p size even) ts ps .mesh)) (sym (b .counters))
+                (ready-under w w₁ q s p bucket c (start (lent s p size even) ts ps .mesh) (record { len = kept .len; low = λ i l. kept .before i (omega arith) }) (k .ready));
+            counts = begin-counts;
+            behind = record { len = refl; rest = refl };
+            so-far = record { blocks = to .blocks; records = b .records; number = b .quads; text = refl };
+          };
+          reaches = record { fixed = fixed; old = []; reach = begun; sub = λ e i. i };
+        }
+
+    pub fuel-enough : max-attempts base given < max-attempts base (length ts) + 2 + start (lent s p size even) ts ps .counts .attempts
+    fuel-enough = let e = ap (max-attempts base) (k .is-given) in omega (arith, e)
+
+    left : (w' : List ℕ) (q' f' : List Float) (quads' : List ℕ) (st : State) (r : Run) → length w' ≡ length w → length f' ≡ length f → Leaves w' q' quads' x (r .standing) st → LeftRun w w' q q' f f' quads quads' s p bucket st r
+    left w' q' f' quads' st r l m h = record { ready = h .ready; counts = h .counts; number = h .number; text = h .text; behind = h .behind; words = l; reals = m }
+
+    run-case : (w' : List ℕ) (q' f' : List Float) (quads' : List ℕ) (e : Progress) (r : Run) → length w' ≡ length w → length f' ≡ length f → Finished w' q' quads' x e r → RunTo w w' q q' f f' quads quads' s p bucket e r
+    run-case w' q' f' quads' (stuck st) r l m h = (h .0, left w' q' f' quads' st r l m (h .1))
+    run-case w' q' f' quads' (progressed st) r l m h = (h .0, left w' q' f' quads' st r l m (h .1))
+    run-case w' q' f' quads' (limited st) r l m h = (h .0, left w' q' f' quads' st r l m (h .1))
+    run-case w' q' f' quads' (stopped wt st) r l m h = (h .0, left w' q' f' quads' st r l m (h .1))
+
+    pub runs-to : (w' : List ℕ) (q' f' : List Float) (quads' : List ℕ) (r : Run) → length w' ≡ length w → length f' ≡ length f
+        → Finished w' q' quads' x (front-loop (max-attempts base (length ts) + 2) (lent s p size even) given (start (lent s p size even) ts ps)) r
+        → RunTo w w' q q' f f' quads quads' s p bucket (front-loop (max-attempts base (length ts) + 2) (lent s p size even) (length ts) (start (lent s p size even) ts ps)) r
+    runs-to w' q' f' quads' r l m h =
+        run-case w' q' f' quads' (front-loop (max-attempts base (length ts) + 2) (lent s p size even) (length ts) (start (lent s p size even) ts ps)) r l m
+        (subst (λ (n : ℕ). Finished w' q' quads' x (front-loop (max-attempts base (length ts) + 2) (lent s p size even) n (start (lent s p size even) ts ps)) r) (k .is-given) h)

@@ -1,0 +1,106 @@
+-- The whole run of the front: what it asks and what it leaves.
+use mathlib.Core.Path.{_≡_}
+use mathlib.Core.Bool.{Bool, true, false}
+use mathlib.Core.List.{List, []}
+use Prim.Native.Nat.{ℕ, _+_, _*_, _≤_}
+use lib.ListN.{length}
+use lib.Ieee.{Float}
+use Rattle.definition.specs.Lists.{flat-map}
+use Rattle.definition.specs.Counts.{Want, of-points, of-slots}
+use Rattle.definition.specs.Plane.{Node}
+use Rattle.definition.specs.Cells.{Tri, quad-nodes}
+use Rattle.definition.specs.Front.{State, Progress, stuck, progressed, limited, stopped, start}
+use Rattle.definition.specs.Call.{onto}
+use Rattle.definition.specs.Account.{All}
+use Rattle.account.specs.Start.{Proper}
+use Rattle.exact.specs.Theorems.{Within}
+use Rattle.cells.specs.declared.counters.Counters.{Counters}
+use Rattle.lending.specs.Ready.{lent, Ready, Behind}
+use Rattle.rounds.specs.declared.standing.Tally.{Tally}
+use Rattle.rounds.specs.declared.standing.Standing.{Standing}
+use Rattle.rounds.specs.declared.standing.Going.{Going}
+use Rattle.rounds.specs.declared.standing.Going.the-variants as goings
+use Rattle.rounds.specs.declared.standing.Finish.{Finish}
+use Rattle.rounds.specs.declared.standing.Finish.the-variants as finishes
+use Rattle.rounds.specs.declared.standing.Run.{Run}
+use Rattle.rounds.specs.Standings.{counts-of}
+use Rattle.rounds.specs.Runs.{Setup, Sized, Leaves}
+
+-- ---- how it ends
+
+-- a quad was placed
+abbrev pub is-progressed : Going → Bool
+is-progressed goings.Stuck = false
+is-progressed goings.Progressed = true
+is-progressed goings.Limited = false
+is-progressed goings.NoPoint = false
+is-progressed goings.NoSlots = false
+
+-- how a run ends whose last step ended so
+abbrev pub finish-of : Going → Finish
+finish-of goings.Stuck = finishes.Done
+finish-of goings.Progressed = finishes.Done
+finish-of goings.Limited = finishes.Done
+finish-of goings.NoPoint = finishes.NoPoint
+finish-of goings.NoSlots = finishes.NoSlots
+
+-- for want of lent memory
+abbrev pub want-finish : Want → Finish
+want-finish of-points = finishes.NoPoint
+want-finish of-slots = finishes.NoSlots
+
+-- the memory stands for the last state, by cases
+abbrev pub Finished : List ℕ → List Float → List ℕ → Setup → Progress → Run → Type 0
+Finished w q quads x (stuck st) r = (r .finish ≡ finishes.Done) × Leaves w q quads x (r .standing) st
+Finished w q quads x (progressed st) r = (r .finish ≡ finishes.Done) × Leaves w q quads x (r .standing) st
+Finished w q quads x (limited st) r = (r .finish ≡ finishes.Done) × Leaves w q quads x (r .standing) st
+Finished w q quads x (stopped wt st) r = (r .finish ≡ want-finish wt) × Leaves w q quads x (r .standing) st
+
+-- ---- the start
+
+-- nothing counted but what the counters c have
+pub record Begins (c : Counters) (g : Standing) : Type 0 where
+  pub counters : g .counters ≡ c
+  pub front : g .tally .«front_empty» ≡ 0
+  pub placement : g .tally .placement ≡ 0
+  pub invalid : g .tally .«invalid_quad» ≡ 0
+  pub recovery : g .tally .recovery ≡ 0
+  pub region : g .tally .region ≡ 0
+  pub odd : g .tally .«odd_region» ≡ 0
+  pub insertions : g .tally .«mismatch_insertions» ≡ 0
+  pub limit : g .tally .limit ≡ 0
+  pub quads : g .quads ≡ 0
+  pub records : g .records ≡ 0
+
+-- the slices stand for the given triangles ts and points ps, and have the room that document 01 says; refusals 1 to 7 were tested
+pub record CanRun (w : List ℕ) (q f : List Float) (quads : List ℕ) (s p given : ℕ) (bucket size : Float) (even : Bool) (c : Counters) (ts : List Tri) (ps : List Node) : Type 0 where
+  pub ready : Ready w q s p bucket c (start (lent s p size even) ts ps .mesh)
+  pub proper : Proper ps ts
+  pub is-given : given ≡ length ts
+  pub few : given ≤ 4096
+  pub points : length ps ≤ p
+  pub slots : length ts ≤ s
+  pub fresh : c .attempts ≡ 0
+  pub within : All Within ps
+  pub sized : Sized size
+  pub floats : 3 * s ≤ length f
+  pub room : 4 * s ≤ length quads
+
+-- ---- the end
+
+-- the slices, the counters and the tally stand for the last state
+pub record LeftRun (w w' : List ℕ) (q q' f f' : List Float) (quads quads' : List ℕ) (s p : ℕ) (bucket : Float) (st : State) (r : Run) : Type 0 where
+  pub ready : Ready w' q' s p bucket (r .standing .counters) (st .mesh)
+  pub counts : counts-of (r .standing) ≡ st .counts
+  pub number : r .standing .quads ≡ length (st .quads)
+  pub text : quads' ≡ onto (flat-map quad-nodes (st .quads)) quads
+  pub behind : Behind q q' (length (st .mesh .points))
+  pub words : length w' ≡ length w
+  pub reals : length f' ≡ length f
+
+-- by cases
+abbrev pub RunTo : List ℕ → List ℕ → List Float → List Float → List Float → List Float → List ℕ → List ℕ → ℕ → ℕ → Float → Progress → Run → Type 0
+RunTo w w' q q' f f' quads quads' s p bucket (stuck st) r = (r .finish ≡ finishes.Done) × LeftRun w w' q q' f f' quads quads' s p bucket st r
+RunTo w w' q q' f f' quads quads' s p bucket (progressed st) r = (r .finish ≡ finishes.Done) × LeftRun w w' q q' f f' quads quads' s p bucket st r
+RunTo w w' q q' f f' quads quads' s p bucket (limited st) r = (r .finish ≡ finishes.Done) × LeftRun w w' q q' f f' quads quads' s p bucket st r
+RunTo w w' q q' f f' quads quads' s p bucket (stopped wt st) r = (r .finish ≡ want-finish wt) × LeftRun w w' q q' f f' quads quads' s p bucket st r
