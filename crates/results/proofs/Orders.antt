@@ -6,14 +6,14 @@ use mathlib.Core.List.{List, [], _∷_, _++_, append-nil}
 use mathlib.Core.Option.{Option, none, some}
 use Prim.Native.Nat.{ℕ, zero, suc, _+_, _≤_, _<_}
 use native.Mathlib.Omega.{arith}
-use lib.Dec.{eqb, ltb}
-use borrow.Author.Tests.{eqb-true, eq-eqb, ne-eqb, lt-ltb, le-ltb}
+use lib.Dec.{ltb}
+use borrow.Author.Tests.{eq-eqb, ne-eqb, lt-ltb, le-ltb}
 use Rattle.rings.specs.Rings.{Out, Distinct, Below}
 use Rattle.rings.proofs.Lists.{Same, same, differ, decide}
 use Rattle.definition.specs.Lists.{find, insert, sort, flat-map, numbers, below}
 use Rattle.definition.specs.Cells.{Tri, Live, Mesh, tri-of, tris-of, in-slot, cell-of, in-slot-order, triangles}
 use Rattle.account.specs.Lists.{flat-map-append}
-use Rattle.cells.specs.Rep.{Held, Cells, slots, Rep}
+use Rattle.cells.specs.Rep.{Cells, slots, Rep}
 use Rattle.cells.proofs.Points.{numbers-snoc}
 use Rattle.results.specs.Wrote.{tris-in, slot-tris}
 

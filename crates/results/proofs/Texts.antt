@@ -1,21 +1,19 @@
 -- A triangle's three numbers behind those of the others.
 use mathlib.Core.Path.{_≡_, refl, ap, sym, _∙_, subst}
 use mathlib.Core.Logic.{_≢_}
-use mathlib.Core.Bool.{Bool, true, false}
 use mathlib.Core.List.{List, [], _∷_, _++_, append-assoc, append-nil}
-use mathlib.Core.Option.{Option, none, some}
+use mathlib.Core.Option.{none}
 use Prim.Native.Nat.{ℕ, _+_, _-_, _*_, _<_, _≤_}
 use native.Mathlib.Omega.{arith}
 use lib.ListN.{length, getD, take, drop, set, length-append, length-drop, drop-of-length-le}
 use lib.Seq.{take-all, take-at, drop-at, drop-drop, sets-eq}
 use borrow.Rule.Slice.PartMut.{midOf, putMid}
 use Rattle.definition.specs.Lists.{flat-map}
-use Rattle.definition.specs.Cells.{Tri, Cell, tri, quad, Live, Mesh, new-tri, new-live, tri-nodes, tri-of, cell-of}
+use Rattle.definition.specs.Cells.{Tri, Cell, tri, quad, Live, Mesh, new-live, tri-nodes, tri-of, cell-of}
 use Rattle.definition.specs.Call.{onto}
 use Rattle.account.specs.Lists.{flat-map-append}
 use Rattle.cells.specs.Rep.{Rep, Has, TriIn, CellAt}
-use Rattle.cells.specs.Walk.{node-in}
-use Rattle.cells.proofs.Slots.{ReadTri, read-tri, rep-held, rep-cell, tri-in, tri-held}
+use Rattle.cells.proofs.Slots.{read-tri, rep-held, rep-cell, tri-in, tri-held}
 use Rattle.cells.proofs.Members.{Lookup, absent, present, lookup}
 use Rattle.results.specs.Wrote.{three, tris-in, slot-tris, WroteSlot}
 use Rattle.results.proofs.Orders.{find-out, tris-below, tris-none, tris-more}

@@ -397,40 +397,46 @@ module _ (x : Setup) (w : List ℕ) (q : List Float) (quads : List ℕ) (g : Sta
       unfolding after counting
       stepped (placed n m h) ran to =
           let p = set .placed (to .0) in
-          let l = to .2 in
-          (p .kind, record {
-            ever = k .ever;
-            holds = record {
-              ready = ready-after n m l (r .standing .counters) (p .counted .counters);
-              counts = counts-after n _ (r .standing) (p .counted .counts (l .attempts)) refl (l .inserted);
-              behind = behind-trans (x .begun .floats) q q' (length (st .mesh .points)) (length (m .points)) (placed-fine n m h ran (l .ready .rep .points) .1) behind-before (l .behind);
-              so-far = subst (λ (z : Quad). Kept-so-far w'' quads'' (x .s) (x .p) (r .standing) (k .ever) (freed z (st .blocked)) (st .quads ++ z ∷ []) (x .begun .old)) (to .1) (p .so-far);
-            };
-            reaches = record { fixed = fx; old = k .reaches .old; reach = placed-reach n m h ran; sub = k .reaches .sub };
-          })
+          let l = to .2 in (
+            p .kind,
+            record {
+              ever = k .ever;
+              holds = record {
+                ready = ready-after n m l (r .standing .counters) (p .counted .counters);
+                counts = counts-after n _ (r .standing) (p .counted .counts (l .attempts)) refl (l .inserted);
+                behind = behind-trans (x .begun .floats) q q' (length (st .mesh .points)) (length (m .points)) (placed-fine n m h ran (l .ready .rep .points) .1) behind-before (l .behind);
+                so-far = subst (λ (z : Quad). Kept-so-far w'' quads'' (x .s) (x .p) (r .standing) (k .ever) (freed z (st .blocked)) (st .quads ++ z ∷ []) (x .begun .old)) (to .1) (p .so-far);
+              };
+              reaches = record { fixed = fx; old = k .reaches .old; reach = placed-reach n m h ran; sub = k .reaches .sub };
+            },
+          )
       stepped (refused why n m) ran to =
           let p = set .refused why (to .0) in
-          let l = to .1 in
-          (p .kind, record {
-            ever = with-edge (u, v) (k .ever);
-            holds = record {
-              ready = ready-after n m l (r .standing .counters) (p .counted .counters);
-              counts = p .counted .counts (l .attempts) ∙ ap (λ z. z ⊞ insertions (t .inserted) ⊞ refused-by why) counts-before ∙ ap (λ (z : ℕ). st .counts ⊞ one-attempt ⊞ insertions z ⊞ refused-by why) (l .inserted);
-              behind = behind-trans (x .begun .floats) q q' (length (st .mesh .points)) (length (m .points)) (refused-fine why n m ran (l .ready .rep .points) .1) behind-before (l .behind);
-              so-far = p .so-far;
-            };
-            reaches = record { fixed = fx; old = (u, v) ∷ k .reaches .old; reach = refused-reach why n m ran; sub = refused-sub why n m ran };
-          })
+          let l = to .1 in (
+            p .kind,
+            record {
+              ever = with-edge (u, v) (k .ever);
+              holds = record {
+                ready = ready-after n m l (r .standing .counters) (p .counted .counters);
+                counts = p .counted .counts (l .attempts) ∙ ap (λ z. z ⊞ insertions (t .inserted) ⊞ refused-by why) counts-before ∙ ap (λ (z : ℕ). st .counts ⊞ one-attempt ⊞ insertions z ⊞ refused-by why) (l .inserted);
+                behind = behind-trans (x .begun .floats) q q' (length (st .mesh .points)) (length (m .points)) (refused-fine why n m ran (l .ready .rep .points) .1) behind-before (l .behind);
+                so-far = p .so-far;
+              };
+              reaches = record { fixed = fx; old = (u, v) ∷ k .reaches .old; reach = refused-reach why n m ran; sub = refused-sub why n m ran };
+            },
+          )
       stepped (ended wt n m) ran to =
           let p = set .ended wt (to .0) in
-          let l = to .1 in
-          (p .kind, record {
-            ready = ready-after n m l (r .standing .counters) (p .counted .counters);
-            counts = counts-after n _ (r .standing) (p .counted .counts (l .attempts)) refl (l .inserted);
-            number = p .so-far .number;
-            text = p .so-far .text;
-            behind = behind-trans (x .begun .floats) q q' (length (st .mesh .points)) (length (m .points)) (ended-fine wt n m ran (l .ready .rep .points) .1) behind-before (l .behind);
-          })
+          let l = to .1 in (
+            p .kind,
+            record {
+              ready = ready-after n m l (r .standing .counters) (p .counted .counters);
+              counts = counts-after n _ (r .standing) (p .counted .counts (l .attempts)) refl (l .inserted);
+              number = p .so-far .number;
+              text = p .so-far .text;
+              behind = behind-trans (x .begun .floats) q q' (length (st .mesh .points)) (length (m .points)) (ended-fine wt n m ran (l .ready .rep .points) .1) behind-before (l .behind);
+            },
+          )
 
 -- ---- the callees' answers
 
@@ -519,12 +525,15 @@ module _ (x : Setup) (w : List ℕ) (q : List Float) (quads : List ℕ) (g₀ : 
   limited-step b h more =
       let c = counted-holds in
       record {
-        is = rw (b, attempt) (refl, record {
-          ready = subst (λ (z : Counters). Ready w q (x .s) (x .p) (x .bucket) z (st .mesh)) (sym (more .counters)) (c .ready);
-          counts = more .counts ∙ ap (λ z. z ⊞ at-limit) (c .counts);
-          number = more .quads ∙ c .so-far .number;
-          text = c .so-far .text;
-          behind = c .behind;
-        });
+        is = rw (b, attempt) (
+          refl,
+          record {
+            ready = subst (λ (z : Counters). Ready w q (x .s) (x .p) (x .bucket) z (st .mesh)) (sym (more .counters)) (c .ready);
+            counts = more .counts ∙ ap (λ z. z ⊞ at-limit) (c .counts);
+            number = more .quads ∙ c .so-far .number;
+            text = c .so-far .text;
+            behind = c .behind;
+          },
+        );
         front = record { len = refl; same = λ i a b. refl };
       }

@@ -107,15 +107,18 @@ module _ (x : Setup) (sized : Sized (x .size)) (from : List Node) (n₀ : ℕ) w
     opens = λ st es ok h f. h;
     begins = λ st es h. (h .within, fine-as (st .mesh .points) (st .mesh .points) (st .counts .mismatch-insertions) (st .counts .mismatch-insertions + 0) refl (omega arith) h);
     flips = λ st es n m m′ e ok h i f. (h .0, fine-as (m .points) (m′ .points) _ _ (flip-points m e m′ f) refl (h .1));
-    splits = λ st es n m y t p ok h w. (h .0, record {
-      new = h .1 .new ++ (p ∷ []);
-      is = split-grows m (y .slot) t p ∙ ap (λ l. l ++ (p ∷ [])) (h .1 .is) ∙ append-assoc from (h .1 .new) (p ∷ []);
-      number = omega (arith, length-append (h .1 .new) (p ∷ []), h .1 .number);
-      within = subst (λ l. All-within l) (sym (split-grows m (y .slot) t p)) (λ q i. elim (in-either q (m .points) (p ∷ []) i) [
-        | inl j ↦ h .1 .within q j
-        | inr (inl e) ↦ subst (λ z. Within z) (sym e) (split-within x sized (st .mesh) m p t (h .0) (h .1 .within) (w .normal) (w .held))
-      ]);
-    });
+    splits = λ st es n m y t p ok h w. (
+      h .0,
+      record {
+        new = h .1 .new ++ (p ∷ []);
+        is = split-grows m (y .slot) t p ∙ ap (λ l. l ++ (p ∷ [])) (h .1 .is) ∙ append-assoc from (h .1 .new) (p ∷ []);
+        number = omega (arith, length-append (h .1 .new) (p ∷ []), h .1 .number);
+        within = subst (λ l. All-within l) (sym (split-grows m (y .slot) t p)) (λ q i. elim (in-either q (m .points) (p ∷ []) i) [
+          | inl j ↦ h .1 .within q j
+          | inr (inl e) ↦ subst (λ z. Within z) (sym e) (split-within x sized (st .mesh) m p t (h .0) (h .1 .within) (w .normal) (w .held))
+        ]);
+      },
+    );
     refuses = λ st e es why n m h ok w. fine-as (m .points) (m .points) _ _ refl (refused-mismatch (st .counts) n why) (w .1);
     places = λ st e es n m q h w. fine-as (w .mesh .points) (m .points) _ _ (ap (λ k. k .points) (w .after) ∙ replaced-points (w .mesh) q (w .cells)) (made-mismatch (st .counts) n) (w .before .1 .1);
     ends = λ st e es n m h ok w. fine-as (m .points) (m .points) _ _ refl (made-mismatch (st .counts) n) (w .1);

@@ -80,14 +80,16 @@ module _ (w : List ℕ) (q : List Float) (quads : List ℕ) (x : Setup) (g : Sta
     unfolding counting
     empty-rounded e h more =
         let l = leaves-of w₁ q quads x g st [] goes₁ in
-        subst (λ p. Rounded w₁ q quads x p (record { kind = goings.Stuck; standing = h })) (sym (empty-round x (x .given) st es (no-edges es (to .at .len ∙ e))))
-        (refl, record {
-          ready = subst (λ (c : Counters). Ready w₁ q (x .s) (x .p) (x .bucket) c (st .mesh)) (sym (more .counters)) (l .ready);
-          counts = more .counts ∙ ap (λ c. c ⊞ emptied) (l .counts);
-          number = more .quads ∙ l .number;
-          text = l .text;
-          behind = l .behind;
-        })
+        subst (λ p. Rounded w₁ q quads x p (record { kind = goings.Stuck; standing = h })) (sym (empty-round x (x .given) st es (no-edges es (to .at .len ∙ e)))) (
+          refl,
+          record {
+            ready = subst (λ (c : Counters). Ready w₁ q (x .s) (x .p) (x .bucket) c (st .mesh)) (sym (more .counters)) (l .ready);
+            counts = more .counts ∙ ap (λ c. c ⊞ emptied) (l .counts);
+            number = more .quads ∙ l .number;
+            text = l .text;
+            behind = l .behind;
+          },
+        )
 
     pub can-loop : CanLoop w₁ (x .s) (x .p) (g .counters .points) k es
     can-loop = record { room = goes₁ .holds .ready .rep .room; at = to .at; edges = to .edges; nodes = omega (arith, points-number, rep-now .points) }

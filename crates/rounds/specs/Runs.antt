@@ -43,6 +43,7 @@ pub record Setup : Type 0 where
   pub even : Bool
   pub begun : Begun
 
+-- from the numbers and what was given
 abbrev pub setup : ℕ → ℕ → ℕ → Float → Float → Bool → Begun → Setup
 setup s p given bucket size even k = record { s = s; p = p; given = given; bucket = bucket; size = size; even = even; begun = k }
 

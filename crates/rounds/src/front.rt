@@ -100,19 +100,7 @@ fn run_rounds(
 {
     let mut g = before;
     loop {
-        let t = round(
-            w,
-            q,
-            f,
-            quads,
-            s,
-            p,
-            given,
-            bucket,
-            size,
-            even,
-            g,
-        );
+        let t = round(w, q, f, quads, s, p, given, bucket, size, even, g);
         let kind = t.kind;
         if !is_progressed(kind) {
             return finished(t);
@@ -141,17 +129,5 @@ pub fn front_loop(
     let b = refused_at(s, p);
     open(w, b, RECORDS * s, p);
     let g = begin(c);
-    run_rounds(
-        w,
-        q,
-        f,
-        quads,
-        s,
-        p,
-        given,
-        bucket,
-        size,
-        even,
-        g,
-    )
+    run_rounds(w, q, f, quads, s, p, given, bucket, size, even, g)
 }

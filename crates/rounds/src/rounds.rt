@@ -93,20 +93,7 @@ fn try_loops(
         }
         let b = loop_start(w, s, p, j);
         let e = loop_end(w, s, p, k, r, j);
-        let t = take_turn(
-            w,
-            q,
-            quads,
-            s,
-            p,
-            given,
-            bucket,
-            size,
-            even,
-            b,
-            e,
-            g,
-        );
+        let t = take_turn(w, q, quads, s, p, given, bucket, size, even, b, e, g);
         let kind = t.kind;
         if !is_stuck(kind) {
             return t;

@@ -23,10 +23,12 @@ ghost use Rattle.rounds.specs.Runs.{Begun, setup, Goes, Makes, StepTo};
 
 // The most attempts: so many for each given triangle, and so many more.
 pub const ATTEMPTS_EACH: usize = 200;
+
 pub const ATTEMPTS_MORE: usize = 10000;
 
 // The most live triangles.
 pub const LIVE_EACH: usize = 4;
+
 pub const LIVE_MORE: usize = 100;
 
 // A limit is passed, the attempt in hand counted.
@@ -94,18 +96,5 @@ pub fn attempt_one(
             standing: h,
         };
     }
-    make_attempt(
-        w,
-        q,
-        quads,
-        s,
-        p,
-        given,
-        bucket,
-        size,
-        even,
-        g,
-        u,
-        v,
-    )
+    make_attempt(w, q, quads, s, p, given, bucket, size, even, g, u, v)
 }

@@ -87,20 +87,7 @@ fn try_edges(
         }
         let u = first_on(w, s, p, i);
         let v = second_on(w, s, p, i);
-        let r = attempt_one(
-            w,
-            q,
-            quads,
-            s,
-            p,
-            given,
-            bucket,
-            size,
-            even,
-            g,
-            u,
-            v,
-        );
+        let r = attempt_one(w, q, quads, s, p, given, bucket, size, even, g, u, v);
         let kind = r.kind;
         if !is_stuck(kind) {
             return r;
@@ -128,18 +115,5 @@ pub fn take_turn(
     ensures { λ r. ⌜ ((k : Begun) (st : State) (l : List Edge) → CanTake (now (w .entry)) (now (q .entry)) (now (quads .entry)) (setup s p given bucket size even k) b e before st l → TryTo (now (w .entry)) (now (w .exit)) (now (q .exit)) (now (quads .exit)) (setup s p given bucket size even k) (try-edges (lent s p size even) given st (open-edges st l)) r) ⌝ }
 {
     open_places(w, s, p, b, e);
-    try_edges(
-        w,
-        q,
-        quads,
-        s,
-        p,
-        given,
-        bucket,
-        size,
-        even,
-        b,
-        e,
-        before,
-    )
+    try_edges(w, q, quads, s, p, given, bucket, size, even, b, e, before)
 }

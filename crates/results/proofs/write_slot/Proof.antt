@@ -1,102 +1,75 @@
-use mathlib.Core.Path.{_≡_, refl, ap, sym, _∙_, subst}
-use mathlib.Core.List.{List, [], _∷_, _++_}
-use Prim.Native.Nat.{ℕ, suc, _+_, _-_, _*_, _^_, _<_, _≤_}
+use mathlib.Core.Path.{sym, _∙_}
+use Prim.Native.Nat.{_-_}
 use native.Mathlib.Omega.{arith}
-use lib.ListN.{length, getD, set, length-set}
 use Rattle.results.specs.Wrote.{slot-tris}
 use Rattle.results.proofs.Texts.{wrote-none, wrote-one, no-tri}
 use borrow.Author.Needs.{needs}
 use Rattle.results.proofs.write_slot.Statement.{statement}
 use Rattle.results.proofs.write_slot.Tie as tie
-use Rattle.results.proofs.write_slot.Reads as reads
-use Rattle.results.proofs.write_slot.Lts as lts
-use Rattle.cells.proofs.find.kind.Reads as kind-reads
-use Rattle.results.proofs.write_three.Reads as write-three-reads
 
--- src/lib.rt:33:8
 kind-requires : tie.Need-kind-requires
 kind-requires c κs = search needs
 
--- src/lib.rt:34:9
 returns : tie.Need-returns
 returns c =
     let k = c .before in
     let a = k .before .before .before .args in
     λ m r. wrote-none (a .out .now) (a .n) (slot-tris m (a .i)) (no-tri (a .w .now) (a .s) (a .p) m r (a .i) (λ e. c .if1 .taken (k .kind .ensures ∙ e)))
 
--- src/lib.rt:36:17
 mul-j : tie.Need-mul-j
 mul-j c = search needs
 
--- src/lib.rt:36:13
 add-j : tie.Need-add-j
 add-j c = search needs
 
--- src/lib.rt:37:14
 mul-at : tie.Need-mul-at
 mul-at c = search needs
 
--- src/lib.rt:38:17
 mul-write-three : tie.Need-mul-write-three
 mul-write-three c = search needs
 
--- src/lib.rt:38:17
 sub-write-three : tie.Need-sub-write-three
 sub-write-three c = search needs
 
--- src/lib.rt:38:17
 part-write-three-start : tie.Need-part-write-three-start
 part-write-three-start c = search needs
 
--- src/lib.rt:38:17
 part-write-three-end : tie.Need-part-write-three-end
 part-write-three-end c = search needs
 
--- src/lib.rt:38:33
 mul-write-three-2 : tie.Need-mul-write-three-2
 mul-write-three-2 c = search needs
 
--- src/lib.rt:38:33
 shared-slice-read-write-three : tie.Need-shared-slice-read-write-three
 shared-slice-read-write-three c = search needs
 
--- src/lib.rt:38:41
 add-write-three : tie.Need-add-write-three
 add-write-three c = search needs
 
--- src/lib.rt:38:39
 mul-write-three-3 : tie.Need-mul-write-three-3
 mul-write-three-3 c = search needs
 
--- src/lib.rt:38:39
 shared-slice-read-write-three-2 : tie.Need-shared-slice-read-write-three-2
 shared-slice-read-write-three-2 c = search needs
 
--- src/lib.rt:38:51
 add-write-three-2 : tie.Need-add-write-three-2
 add-write-three-2 c = search needs
 
--- src/lib.rt:38:49
 mul-write-three-4 : tie.Need-mul-write-three-4
 mul-write-three-4 c = search needs
 
--- src/lib.rt:38:49
 shared-slice-read-write-three-3 : tie.Need-shared-slice-read-write-three-3
 shared-slice-read-write-three-3 c = search needs
 
--- src/lib.rt:38:5
 write-three-requires : tie.Need-write-three-requires
 write-three-requires c κs = search needs
 
--- src/lib.rt:39:5
 add-result : tie.Need-add-result
 add-result c = search needs
 
--- src/lib.rt:28:1
 same-length : tie.Need-same-length
 same-length c = search needs
 
--- src/lib.rt:28:1
 returns-2 : tie.Need-returns-2
 returns-2 c =
     let x = c .before .before in

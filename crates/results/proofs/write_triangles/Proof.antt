@@ -1,8 +1,8 @@
-use mathlib.Core.Path.{_≡_, refl, ap, sym, _∙_, subst}
-use mathlib.Core.List.{List, [], _∷_, _++_}
-use Prim.Native.Nat.{ℕ, suc, _+_, _-_, _*_, _^_, _<_, _≤_}
+use mathlib.Core.Path.{_≡_, ap, sym, _∙_}
+use mathlib.Core.List.{List}
+use Prim.Native.Nat.{_-_}
 use native.Mathlib.Omega.{arith}
-use lib.ListN.{length, getD, set, length-set}
+use lib.ListN.{length}
 use Rattle.results.proofs.Orders.{tris-all, tris-below}
 use Rattle.results.proofs.Texts.{Writing, writing-none, writing-more}
 use Rattle.definition.specs.Lists.{flat-map}
@@ -11,9 +11,6 @@ use Rattle.definition.specs.Call.{onto}
 use borrow.Author.Needs.{needs}
 use Rattle.results.proofs.write_triangles.Statement.{statement}
 use Rattle.results.proofs.write_triangles.Tie as tie
-use Rattle.results.proofs.write_triangles.Reads as reads
-use Rattle.results.proofs.write_triangles.Lts as lts
-use Rattle.results.proofs.write_slot.Reads as write-slot-reads
 
 abbrev Inv-loop : tie.InvT-loop
 Inv-loop w out₀ s p used n₀ i₀ out n i = Writing w out₀ out s p used n i
@@ -21,11 +18,9 @@ Inv-loop w out₀ s p used n₀ i₀ out n i = Writing w out₀ out s p used n i
 abbrev μ-loop : tie.MeasureT-loop
 μ-loop w out₀ s p used n₀ i₀ out n i = used - i
 
--- src/lib.rt:50:5
 loop-holds : tie.Need-loop-holds Inv-loop μ-loop
 loop-holds c = let a = c .before .before .args in writing-none (a .w .now) (a .out .now) (a .s) (a .p) (a .used)
 
--- src/lib.rt:51:9
 write-slot-requires : tie.Need-write-slot-requires Inv-loop μ-loop
 write-slot-requires c κs =
     let l = c .before .before in
@@ -39,15 +34,12 @@ write-slot-requires c κs =
       },
     )
 
--- src/lib.rt:52:9
 add-i : tie.Need-add-i Inv-loop μ-loop
 add-i c = search needs
 
--- src/lib.rt:50:5
 loop-less : tie.Need-loop-less Inv-loop μ-loop
 loop-less c = search needs
 
--- src/lib.rt:50:5
 loop-again : tie.Need-loop-again Inv-loop μ-loop
 loop-again c =
     let x = c .before .before in
@@ -58,11 +50,9 @@ loop-again c =
     writing-more (a .w .now) (a .out .now) (l .loop .out) _ (a .s) (a .p) (a .used) (l .loop .n) (x .write-slot .result) (l .loop .i)
     (t .pre .0 .0) (t .pre .0 .1) (l .loop .inv) (i .loop-test .taken) (search needs) (x .write-slot .ensures)
 
--- src/lib.rt:43:1
 same-length : tie.Need-same-length Inv-loop μ-loop
 same-length c = c .before .loop .inv .len
 
--- src/lib.rt:43:1
 returns : tie.Need-returns Inv-loop μ-loop
 returns c =
     let l = c .before in

@@ -168,14 +168,13 @@ loop-again c =
     let t = at-loop .before .before .before .before .before in
     let a = t .args in
     let go-on : (z : Begun) (st : State) (fuel : ℕ) → Goes (a .w .now) (a .q .now) (a .quads .now) (setup (a .s) (a .p) (a .given) (a .bucket) (a .size) (a .even) z) (a .before) st [] → max-attempts base (a .given) < fuel + st .counts .attempts
-        → Running (at-round .round .last .0) (at-round .round .last .1 .0) (at-round .round .last .1 .1 .1 .0) (setup (a .s) (a .p) (a .given) (a .bucket) (a .size) (a .even) z) (at-round .round .result .standing) (front-loop fuel (lent (a .s) (a .p) (a .size) (a .even)) (a .given) st) =
+    → Running (at-round .round .last .0) (at-round .round .last .1 .0) (at-round .round .last .1 .1 .1 .0) (setup (a .s) (a .p) (a .given) (a .bucket) (a .size) (a .even) z) (at-round .round .result .standing) (front-loop fuel (lent (a .s) (a .p) (a .size) (a .even)) (a .given) st) =
     λ z st fuel go en.
     let x = setup (a .s) (a .p) (a .given) (a .bucket) (a .size) (a .even) z in
     let p = front-loop fuel (lent (a .s) (a .p) (a .size) (a .even)) (a .given) st in
     let so = at-loop .loop .inv .4 z st fuel go en in
     let to = at-round .round .ensures z (so .st) (so .goes) in
-    goes-on (at-loop .loop .w) (at-loop .loop .q) (at-loop .loop .quads) x (at-loop .loop .g) p so (at-round .round .last .0) (at-round .round .last .1 .0) (at-round .round .last .1 .1 .1 .0) (at-round .round .result) to (sym (at-is-progressed .is-progressed .ensures) ∙ not-false (at-is-progressed .is-progressed .result) (at-if1 .if1 .left)) in
-    (
+    goes-on (at-loop .loop .w) (at-loop .loop .q) (at-loop .loop .quads) x (at-loop .loop .g) p so (at-round .round .last .0) (at-round .round .last .1 .0) (at-round .round .last .1 .1 .1 .0) (at-round .round .result) to (sym (at-is-progressed .is-progressed .ensures) ∙ not-false (at-is-progressed .is-progressed .result) (at-if1 .if1 .left)) in (
       at-round .round .kept .0 ∙ at-loop .loop .inv .0,
       at-round .round .kept .1 .0 ∙ at-loop .loop .inv .1,
       at-round .round .kept .1 .1 .0 ∙ at-loop .loop .inv .2,

@@ -360,7 +360,7 @@ loop-again c =
     let t = at-loop .before .before .before .before .before in
     let a = t .args in
     let go : (z : Begun) (st : State) (ps : List Node) (ls : List (List Edge)) → CanLoops (a .w .now) (a .q .now) (a .f .now) (a .quads .now) (setup (a .s) (a .p) (a .given) (a .bucket) (a .size) (a .even) z) (a .k) (a .r) (a .before) st ps ls
-        → Looping (at-take-turn .take-turn .last .0) (at-take-turn .take-turn .last .1 .0) (a .f .now) (at-take-turn .take-turn .last .1 .1 .0) (setup (a .s) (a .p) (a .given) (a .bucket) (a .size) (a .even) z) (a .k) (a .r) (at-take-turn .take-turn .result .standing) st (loops-left (a .w .now) (setup (a .s) (a .p) (a .given) (a .bucket) (a .size) (a .even) z) ps ls) ps ls =
+    → Looping (at-take-turn .take-turn .last .0) (at-take-turn .take-turn .last .1 .0) (a .f .now) (at-take-turn .take-turn .last .1 .1 .0) (setup (a .s) (a .p) (a .given) (a .bucket) (a .size) (a .even) z) (a .k) (a .r) (at-take-turn .take-turn .result .standing) st (loops-left (a .w .now) (setup (a .s) (a .p) (a .given) (a .bucket) (a .size) (a .even) z) ps ls) ps ls =
     λ z st ps ls can.
     let x = setup (a .s) (a .p) (a .given) (a .bucket) (a .size) (a .even) z in
     let ls₀ = loops-left (a .w .now) x ps ls in
@@ -383,8 +383,7 @@ loop-again c =
     let q₂ = at-take-turn .take-turn .last .1 .0 in
     let quads₂ = at-take-turn .take-turn .last .1 .1 .0 in
     let turn = at-take-turn .take-turn .ensures z (so .st) (getD ls j []) take in
-    goes-on w q f quads x (a .k) (a .r) g st ls₀ ps ls so w₁ j at b e eb le w₂ q₂ quads₂ (at-take-turn .take-turn .result) turn (sym (at-is-stuck .is-stuck .ensures) ∙ not-false (at-is-stuck .is-stuck .result) (at-if2 .if2 .left)) in
-    (
+    goes-on w q f quads x (a .k) (a .r) g st ls₀ ps ls so w₁ j at b e eb le w₂ q₂ quads₂ (at-take-turn .take-turn .result) turn (sym (at-is-stuck .is-stuck .ensures) ∙ not-false (at-is-stuck .is-stuck .result) (at-if2 .if2 .left)) in (
       at-take-turn .take-turn .kept .0 ∙ at-pick-loop .pick-loop .kept .0 ∙ at-loop .loop .inv .0,
       at-take-turn .take-turn .kept .1 .0 ∙ at-loop .loop .inv .1,
       at-take-turn .take-turn .kept .1 .1 .0 ∙ at-loop .loop .inv .2,

@@ -57,16 +57,19 @@ free-requires c κs =
     let t = f .before .before .before .before .before .before .before in
     let a = t .args in
     let h = t .pre .4 in
-    let e = h .so-far .number in
-    (t .pre .0, t .pre .1, record {
-      blocks = subst (λ (z : ℕ). Blocks (a .w .now) z (3 * a .s) (a .p) (a .g .quads) (t .pre .0) (t .pre .1)) (sym (f .refused-at .ensures))
-          (subst (λ (z : ℕ). Blocks (a .w .now) (refused-at (a .s) (a .p)) (3 * a .s) (a .p) z (t .pre .0) (t .pre .1)) (sym e) (h .so-far .blocks));
-      more = omega (arith, e, h .fits .few, h .small-slots);
-      node0 = h .fits .node0;
-      node1 = h .fits .node1;
-      node2 = h .fits .node2;
-      node3 = h .fits .node3;
-    })
+    let e = h .so-far .number in (
+      t .pre .0,
+      t .pre .1,
+      record {
+        blocks = subst (λ (z : ℕ). Blocks (a .w .now) z (3 * a .s) (a .p) (a .g .quads) (t .pre .0) (t .pre .1)) (sym (f .refused-at .ensures))
+            (subst (λ (z : ℕ). Blocks (a .w .now) (refused-at (a .s) (a .p)) (3 * a .s) (a .p) z (t .pre .0) (t .pre .1)) (sym e) (h .so-far .blocks));
+        more = omega (arith, e, h .fits .few, h .small-slots);
+        node0 = h .fits .node0;
+        node1 = h .fits .node1;
+        node2 = h .fits .node2;
+        node3 = h .fits .node3;
+      },
+    )
 
 -- src/settle.rt:60:9
 quadded-requires : tie.Need-quadded-requires

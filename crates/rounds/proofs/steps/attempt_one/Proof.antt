@@ -57,9 +57,13 @@ make-attempt-requires c κs =
     let at-counted = at-c .before in
     let t = at-counted .before .before .before .before in
     let a = t .args in
-    let m = t .pre in
-    (m .0, m .1, m .2, makes (setup (a .s) (a .p) (a .given) (a .bucket) (a .size) (a .even) (t .pre .0)) (a .w .now) (a .q .now) (a .quads .now) (a .before) (m .1) (a .u, a .v) (m .2) (m .3) (at-counted .counted .result) (at-counted .counted .ensures)
-    (past-is (setup (a .s) (a .p) (a .given) (a .bucket) (a .size) (a .even) (t .pre .0)) (a .w .now) (a .q .now) (a .quads .now) (a .before) (m .1) (a .u, a .v) (m .2) (m .3) (at-counted .counted .result) (at-counted .counted .ensures) (at-past-limit .past-limit .result) (at-past-limit .past-limit .ensures) ∙ at-if1 .if1 .left))
+    let m = t .pre in (
+      m .0,
+      m .1,
+      m .2,
+      makes (setup (a .s) (a .p) (a .given) (a .bucket) (a .size) (a .even) (t .pre .0)) (a .w .now) (a .q .now) (a .quads .now) (a .before) (m .1) (a .u, a .v) (m .2) (m .3) (at-counted .counted .result) (at-counted .counted .ensures)
+          (past-is (setup (a .s) (a .p) (a .given) (a .bucket) (a .size) (a .even) (t .pre .0)) (a .w .now) (a .q .now) (a .quads .now) (a .before) (m .1) (a .u, a .v) (m .2) (m .3) (at-counted .counted .result) (at-counted .counted .ensures) (at-past-limit .past-limit .result) (at-past-limit .past-limit .ensures) ∙ at-if1 .if1 .left),
+    )
 
 -- src/steps.rt:73:1
 same-length : tie.Need-same-length

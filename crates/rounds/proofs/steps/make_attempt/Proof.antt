@@ -44,9 +44,14 @@ settle-requires c κs =
     let t = at-c .before .before .before .before in
     let a = t .args in
     let m = t .pre in
-    let off = was-off (setup (a .s) (a .p) (a .given) (a .bucket) (a .size) (a .even) (t .pre .0)) (a .w .now) (a .q .now) (a .quads .now) (a .g) (m .1) (a .u) (a .v) (m .2) (m .3) (at-is-front .is-front .result) (at-is-front .is-front .ensures) (at-if1 .if1 .taken) in
-    (m .3 .ever, m .1 .blocked, m .1 .quads, m .0 .old, can-settle (setup (a .s) (a .p) (a .given) (a .bucket) (a .size) (a .even) (t .pre .0)) (a .w .now) (a .q .now) (a .quads .now) (a .g) (m .1) (a .u) (a .v) (m .2) (m .3) (a .w .now) (a .q .now) (at-without-quad .without-quad .result) (beyond-refl (a .w .now) (a .s) (a .p)) (refused Placement 0 (m .1 .mesh))
-    (off-front (setup (a .s) (a .p) (a .given) (a .bucket) (a .size) (a .even) (t .pre .0)) (a .w .now) (a .q .now) (a .quads .now) (a .g) (m .1) (a .u) (a .v) (m .2) (m .3) off) (off-to (setup (a .s) (a .p) (a .given) (a .bucket) (a .size) (a .even) (t .pre .0)) (a .w .now) (a .q .now) (a .quads .now) (a .g) (m .1) (a .u) (a .v) (m .2) (m .3) (at-without-quad .without-quad .result) (at-without-quad .without-quad .ensures)))
+    let off = was-off (setup (a .s) (a .p) (a .given) (a .bucket) (a .size) (a .even) (t .pre .0)) (a .w .now) (a .q .now) (a .quads .now) (a .g) (m .1) (a .u) (a .v) (m .2) (m .3) (at-is-front .is-front .result) (at-is-front .is-front .ensures) (at-if1 .if1 .taken) in (
+      m .3 .ever,
+      m .1 .blocked,
+      m .1 .quads,
+      m .0 .old,
+      can-settle (setup (a .s) (a .p) (a .given) (a .bucket) (a .size) (a .even) (t .pre .0)) (a .w .now) (a .q .now) (a .quads .now) (a .g) (m .1) (a .u) (a .v) (m .2) (m .3) (a .w .now) (a .q .now) (at-without-quad .without-quad .result) (beyond-refl (a .w .now) (a .s) (a .p)) (refused Placement 0 (m .1 .mesh))
+          (off-front (setup (a .s) (a .p) (a .given) (a .bucket) (a .size) (a .even) (t .pre .0)) (a .w .now) (a .q .now) (a .quads .now) (a .g) (m .1) (a .u) (a .v) (m .2) (m .3) off) (off-to (setup (a .s) (a .p) (a .given) (a .bucket) (a .size) (a .even) (t .pre .0)) (a .w .now) (a .q .now) (a .quads .now) (a .g) (m .1) (a .u) (a .v) (m .2) (m .3) (at-without-quad .without-quad .result) (at-without-quad .without-quad .ensures)),
+    )
 
 -- src/steps.rt:66:9
 same-length : tie.Need-same-length

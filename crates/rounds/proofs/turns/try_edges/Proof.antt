@@ -346,7 +346,7 @@ loop-again c =
     let t = at-loop .before .before .before .before in
     let a = t .args in
     let go : (k : Begun) (st : State) (l : List Edge) → CanTry (a .w .now) (a .q .now) (a .quads .now) (setup (a .s) (a .p) (a .given) (a .bucket) (a .size) (a .even) k) (a .b) (a .e) (a .before) st l
-        → Trying (a .w .now) (at-attempt-one .attempt-one .last .0) (at-attempt-one .attempt-one .last .1 .0) (at-attempt-one .attempt-one .last .1 .1 .0) (setup (a .s) (a .p) (a .given) (a .bucket) (a .size) (a .even) k) (a .b) (a .e) (at-attempt-one .attempt-one .result .standing) st (by-length (st .mesh .points) (waiting (a .w .now) (a .s) (a .p) (a .b) (length l))) l =
+    → Trying (a .w .now) (at-attempt-one .attempt-one .last .0) (at-attempt-one .attempt-one .last .1 .0) (at-attempt-one .attempt-one .last .1 .1 .0) (setup (a .s) (a .p) (a .given) (a .bucket) (a .size) (a .even) k) (a .b) (a .e) (at-attempt-one .attempt-one .result .standing) st (by-length (st .mesh .points) (waiting (a .w .now) (a .s) (a .p) (a .b) (length l))) l =
     λ k st l can.
     let x = setup (a .s) (a .p) (a .given) (a .bucket) (a .size) (a .even) k in
     let es = by-length (st .mesh .points) (waiting (a .w .now) (a .s) (a .p) (a .b) (length l)) in
@@ -369,8 +369,7 @@ loop-again c =
     let q₂ = at-attempt-one .attempt-one .last .1 .0 in
     let quads₂ = at-attempt-one .attempt-one .last .1 .1 .0 in
     let step = at-attempt-one .attempt-one .ensures k (so .st) rest next in
-    goes-on (a .w .now) w q quads x (a .b) (a .e) g st es l so w₁ i at u v eu ev w₂ q₂ quads₂ (at-attempt-one .attempt-one .result) step (sym (at-is-stuck .is-stuck .ensures) ∙ not-false (at-is-stuck .is-stuck .result) (at-if2 .if2 .left)) in
-    (
+    goes-on (a .w .now) w q quads x (a .b) (a .e) g st es l so w₁ i at u v eu ev w₂ q₂ quads₂ (at-attempt-one .attempt-one .result) step (sym (at-is-stuck .is-stuck .ensures) ∙ not-false (at-is-stuck .is-stuck .result) (at-if2 .if2 .left)) in (
       at-attempt-one .attempt-one .kept .0 ∙ at-pick-edge .pick-edge .kept .0 ∙ at-loop .loop .inv .0,
       at-attempt-one .attempt-one .kept .1 .0 ∙ at-loop .loop .inv .1,
       at-attempt-one .attempt-one .kept .1 .1 .0 ∙ at-loop .loop .inv .2,
