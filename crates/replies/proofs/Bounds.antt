@@ -3,9 +3,8 @@ use mathlib.Core.Path.{_≡_, refl, sym, ap, _∙_, subst}
 use mathlib.Core.Bool.{Bool}
 use mathlib.Core.Logic.{inl, inr}
 use mathlib.Core.List.{List, [], _∷_}
-use mathlib.Core.Option.{none, some}
 use Prim.{absurd}
-use Prim.Native.Nat.{ℕ, suc, _+_, _*_, _≤_, _<_}
+use Prim.Native.Nat.{ℕ, suc, _+_, _≤_, _<_}
 use native.Mathlib.Omega.{arith}
 use lib.ListN.{length}
 use lib.Ieee.{Float}
@@ -13,9 +12,8 @@ use Rattle.definition.specs.Lists.{find, table, below}
 use Rattle.definition.specs.Numbers.{base, max-attempts}
 use Rattle.definition.specs.Counts.{Counts, tally, no-counts, Want, of-points, of-slots, number}
 use Rattle.definition.specs.Front.{Outcome, ran, wanting, run-front}
-use Rattle.definition.specs.Call.{Asked, Lent, Lengths, finished, refusal, Returned, given-points, given-tris, first-points, first-quads, settings, conditions, untouched, after-run, call}
+use Rattle.definition.specs.Call.{Asked, Lent, Lengths, finished, refusal, given-points, given-tris, first-points, settings, conditions, untouched, after-run, call}
 use Rattle.definition.specs.Call as call
-use Rattle.definition.specs.Account.{Account}
 use Rattle.account.specs.Lists.{known, In, find-in, numbers-length}
 use Rattle.account.specs.Finished.{behind, points-number, tris-number}
 use Rattle.account.specs.Rounds.{attempts-bound}

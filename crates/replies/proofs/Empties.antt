@@ -1,5 +1,5 @@
 -- The front is found empty at most once in a run.
-use mathlib.Core.Path.{_≡_, refl, sym, ap, _∙_, subst}
+use mathlib.Core.Path.{_≡_, refl, sym, subst}
 use mathlib.Core.List.{List, [], _∷_}
 use Prim.{absurd, tt}
 use Prim.Native.Nat.{ℕ, zero, suc, _+_, _≤_}

@@ -1,14 +1,14 @@
 -- The call that the program makes for an input that was read.
-use mathlib.Core.Path.{_≡_, refl, sym, ap, _∙_}
+use mathlib.Core.Path.{_≡_, sym, ap, _∙_}
 use mathlib.Core.List.{List, map}
-use Prim.Native.Nat.{ℕ, _+_, _*_}
+use Prim.Native.Nat.{ℕ, _*_}
 use lib.ListN.{length, take, replicate}
 use lib.Ieee.{Float}
 use Rattle.definition.specs.Lists.{concat, rows}
 use Rattle.definition.specs.Floats.{f64, 0·0}
 use Rattle.definition.specs.Numbers.{base}
 use Rattle.definition.specs.Call.{Asked, Lent, onto, slot-words, point-words, slot-floats, call}
-use Rattle.definition.specs.Text.{Bytes, Input, lent-points, lent-slots, asked, lent-for, show-returned}
+use Rattle.definition.specs.Text.{lent-points, lent-slots, asked, lent-for, show-returned}
 use Rattle.reading.specs.declared.found.Header.{Header}
 use Rattle.reading.specs.Whole.{input-of, answer, triangle-count, point-count, triangle-words, point-words as point-numbers}
 use mathlib.Core.Option.{some}

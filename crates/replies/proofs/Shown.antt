@@ -6,7 +6,7 @@ use Prim.Native.Nat.{ℕ, _≤_, _<_}
 use native.Mathlib.Omega.{arith}
 use lib.Ieee.{Float}
 use Rattle.definition.specs.Counts as def
-use Rattle.definition.specs.Call.{Lent, finished, refusal, Returned}
+use Rattle.definition.specs.Call.{finished, refusal, Returned}
 use Rattle.definition.specs.Call as call
 use Rattle.definition.specs.Text.{show-lists, show-refusal, show-answer, show-returned}
 use Rattle.writing.specs.Answer.{shown, only-shown}

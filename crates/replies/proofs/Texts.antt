@@ -1,13 +1,13 @@
 -- The definition's reply by what was read.
-use mathlib.Core.Path.{_≡_, refl, sym, ap, _∙_, subst}
+use mathlib.Core.Path.{_≡_, sym, ap, _∙_, subst}
 use mathlib.Core.List.{List}
-use mathlib.Core.Option.{none, some}
+use mathlib.Core.Option.{some}
 use Prim.Native.Nat.{ℕ}
 use Rattle.definition.specs.Text.{show-refusal, reply}
 use Rattle.reading.specs.declared.found.Header.{Header}
 use Rattle.reading.specs.declared.found.Reading.{Reading}
 use Rattle.reading.specs.declared.found.Reading.the-variants.{Bad, Read}
-use Rattle.reading.specs.Whole.{whole, answer, reply-is, input-of, read-as, Kept, kept-if, Whole-read}
+use Rattle.reading.specs.Whole.{answer, reply-is, input-of, read-as, Kept, kept-if, Whole-read}
 
 module _ {s tris₀ tris bits₀ bits : List ℕ} {r : Reading} (w : Whole-read s tris₀ tris bits₀ bits r) where
   read-is : {v : Reading} → r ≡ v → answer (read-as tris bits v) ≡ reply s

@@ -1,11 +1,10 @@
 -- `meshed`: what is lent is what the definition lends, and what the call returns is written.
 use borrow.Author.Needs.{needs}
-use mathlib.Core.Path.{_≡_, refl, ap, subst}
-use Prim.Native.Nat.{ℕ, _*_, _≤_}
-use lib.ListN.{length, take, length-take, length-replicate}
+use mathlib.Core.Path.{refl, ap, subst}
+use Prim.Native.Nat.{ℕ, _*_}
+use lib.ListN.{take, length-take, length-replicate}
 use lib.Ieee.{binary64, ofBits}
 use denote.Ref.{now}
-use Rattle.definition.specs.Lists.{rows}
 use Rattle.definition.specs.Floats.{f64, 0·0}
 use Rattle.definition.specs.Numbers.{base}
 use Rattle.definition.specs.Call.{call}

@@ -1,6 +1,6 @@
 -- `told`: a refusal's number, or the counts and lists.
 use borrow.Author.Needs.{needs}
-use mathlib.Core.Path.{_≡_, refl, subst}
+use mathlib.Core.Path.{refl, subst}
 use denote.Ref.{now}
 use native.Mathlib.Omega.{arith}
 use Rattle.definition.specs.Lists.{rows}

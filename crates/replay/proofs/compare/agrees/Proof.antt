@@ -1,6 +1,6 @@
 -- `compare::agrees`: the bytes that were written are the definition's reply.
 use borrow.Author.Needs.{needs}
-use mathlib.Core.Path.{_≡_, sym, _∙_}
+use mathlib.Core.Path.{sym, _∙_}
 use Prim.{absurd}
 use native.Mathlib.Omega.{arith}
 use Rattle.replay.proofs.compare.agrees.Statement.{statement}

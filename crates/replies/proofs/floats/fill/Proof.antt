@@ -1,7 +1,7 @@
 -- `floats::fill`. Invariant: the first i floats are there.
 use borrow.Author.Needs.{needs}
 use mathlib.Core.Path.{_≡_, refl, ap, _∙_}
-use Prim.Native.Nat.{ℕ, _+_, _-_, _≤_}
+use Prim.Native.Nat.{_-_, _≤_}
 use lib.ListN.{length, set, length-set}
 use denote.Ref.{now}
 use native.Mathlib.Omega.{arith}
