@@ -1,0 +1,195 @@
+//! Times of the port, linked from its static library, and of the patched Rust on the same meshes, in one run.
+
+use reference::generators::large::SHAPES;
+use reference::input::{Input, LARGEST};
+use reference::random::Random;
+use sedgepick::lent::{self, Call, Memory};
+
+/// Triangles of the meshes: a jittered grid with a hole.
+const TRIANGLES: [usize; 3] = [200, 800, 4000];
+
+/// Triangles of a hub, the worst case known: all have one node, and each look at an edge there walks over them.
+const HUB: [usize; 3] = [100, 200, 400];
+
+/// Element sizes, in steps of the grid; 0 is none.
+const STEPS: [f64; 3] = [0.0, 1.0, 3.0];
+
+/// The best of so many runs counts, but no mesh is run longer than this.
+const RUNS: usize = 7;
+const MOST_SECONDS: f64 = 3.0;
+
+/// The processor time of this thread, in seconds: other programs on the machine count less than in the time of day.
+fn clock() -> f64 {
+    #[repr(C)]
+    struct Time {
+        seconds: i64,
+        nanoseconds: i64,
+    }
+    extern "C" {
+        fn clock_gettime(clock: i32, time: *mut Time) -> i32;
+    }
+    const THREAD: i32 = 3;
+    let mut t = Time {
+        seconds: 0,
+        nanoseconds: 0,
+    };
+    assert_eq!(
+        unsafe { clock_gettime(THREAD, &mut t) },
+        0,
+        "the thread's clock"
+    );
+    t.seconds as f64 + 1e-9 * t.nanoseconds as f64
+}
+
+/// The slices that the port is lent: the most that may be, cleared before each run.
+struct Lent {
+    points: Vec<f64>,
+    quads: Vec<u32>,
+    triangles: Vec<u32>,
+    components: Vec<u32>,
+    work: Vec<u32>,
+    float_work: Vec<f64>,
+}
+
+impl Lent {
+    fn new(call: &Call) -> Self {
+        Lent {
+            points: vec![0.0; 3 * call.capacity],
+            quads: vec![0; 4 * call.slots],
+            triangles: vec![0; 3 * call.slots],
+            components: vec![0; call.slots],
+            work: vec![0; call.work_len()],
+            float_work: vec![0.0; call.float_work_len()],
+        }
+    }
+
+    fn clear(&mut self, input: &Input) {
+        self.points.fill(0.0);
+        let given = input.points.iter().flatten().map(|&b| f64::from_bits(b));
+        self.points
+            .iter_mut()
+            .zip(given)
+            .for_each(|(to, from)| *to = from);
+        self.quads.fill(0);
+        self.triangles.fill(0);
+        self.components.fill(0);
+        self.work.fill(0);
+        self.float_work.fill(0.0);
+    }
+
+    fn memory(&mut self) -> Memory<'_> {
+        Memory {
+            points: &mut self.points,
+            quads: &mut self.quads,
+            triangles: &mut self.triangles,
+            components: &mut self.components,
+            work: &mut self.work,
+            float_work: &mut self.float_work,
+        }
+    }
+}
+
+/// The least time of some runs, in milliseconds, and what the last one gave.
+fn best<T>(mut run: impl FnMut() -> (f64, T)) -> (f64, T) {
+    let (mut least, mut last) = run();
+    let mut sum = least;
+    for _ in 1..RUNS {
+        if sum > MOST_SECONDS {
+            break;
+        }
+        let (seconds, result) = run();
+        sum += seconds;
+        least = least.min(seconds);
+        last = result;
+    }
+    (1e3 * least, last)
+}
+
+/// A large shape of about so many triangles.
+fn shape(name: &str, triangles: usize) -> Input {
+    let (_, make) = SHAPES.iter().find(|s| s.0 == name).expect("a shape");
+    make(&mut Random::new(7, triangles as u64), triangles)
+}
+
+/// A jittered grid with a hole, at so many steps as its size.
+fn plate(triangles: usize, steps: f64, stop: u32) -> Input {
+    let input = shape("plate", triangles);
+    let size = (steps * input.size()).min(8.0);
+    Input {
+        size: size.to_bits(),
+        stop,
+        ..input
+    }
+}
+
+/// The port's time and counts of quads and points.
+fn port(input: &Input) -> (f64, (usize, usize)) {
+    let call = Call {
+        given: input.points.len(),
+        capacity: LARGEST.points,
+        count: input.triangles.len(),
+        slots: LARGEST.slots,
+        size: input.size(),
+        stop: input.stop,
+    };
+    let mut lent = Lent::new(&call);
+    best(|| {
+        lent.clear(input);
+        let start = clock();
+        let answer = lent::run_front(input.triangles.as_flattened(), lent.memory(), call);
+        let seconds = clock() - start;
+        let answer = answer.expect("a finished run");
+        (seconds, (answer.quads, answer.points))
+    })
+}
+
+/// The same of the Rust.
+fn rust(input: &Input) -> (f64, (usize, usize)) {
+    best(|| {
+        let start = clock();
+        let result = input.run_unchecked(LARGEST);
+        let seconds = clock() - start;
+        (seconds, (result.quads.len(), result.points.len()))
+    })
+}
+
+/// A line of the table: both times of one mesh.
+fn row(input: &Input, size: &str) -> (f64, f64) {
+    let (slow, made) = rust(input);
+    let (fast, same) = port(input);
+    assert_eq!(made, same, "quads and points");
+    let added = made.1 - input.points.len();
+    println!(
+        "| {} | {size} | {} | {} | {added} | {slow:.2} | {fast:.2} | {:.2} |",
+        input.triangles.len(),
+        input.stop,
+        made.0,
+        fast / slow
+    );
+    (slow, fast)
+}
+
+fn main() {
+    println!(
+        "| triangles | size | rule | quads | points added | Rust, ms | port, ms | port / Rust |"
+    );
+    println!("|---|---|---|---|---|---|---|---|");
+    let mut growth = Vec::new();
+    for steps in STEPS {
+        for stop in [0, 1] {
+            let size = format!("{steps}");
+            let times = TRIANGLES.map(|n| row(&plate(n, steps, stop), &size));
+            growth.push((steps, stop, times));
+        }
+    }
+    for triangles in HUB {
+        row(&shape("hub", triangles), "hub");
+    }
+    let (from, to) = (TRIANGLES[1], TRIANGLES[2]);
+    println!("\n| size | rule | Rust, {from} to {to} triangles | port |");
+    println!("|---|---|---|---|");
+    for (steps, stop, [_, small, large]) in growth {
+        let (rust, port) = (large.0 / small.0, large.1 / small.1);
+        println!("| {steps} | {stop} | {rust:.1} times | {port:.1} times |");
+    }
+}

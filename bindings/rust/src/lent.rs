@@ -1,0 +1,146 @@
+//! The call over memory that the caller lends: nothing is allocated, and every number is tested before any slice is touched.
+
+use crate::{Counts, Refusal};
+
+/// Numbers that a finished run writes: nine counts and four lengths.
+const ANSWER: usize = 13;
+
+extern "C" {
+    /// include/sedgepick.h says what it takes and gives.
+    fn sedgepick_run_front(
+        points: *mut f64,
+        points_len: usize,
+        triangles: *const u32,
+        triangles_len: usize,
+        quads: *mut u32,
+        quads_len: usize,
+        triangles_out: *mut u32,
+        triangles_out_len: usize,
+        components: *mut u32,
+        components_len: usize,
+        work: *mut u32,
+        work_len: usize,
+        float_work: *mut f64,
+        float_work_len: usize,
+        given: usize,
+        capacity: usize,
+        count: usize,
+        slots: usize,
+        size: f64,
+        stop: u32,
+        answer: *mut usize,
+        answer_len: usize,
+    ) -> usize;
+}
+
+/// The numbers of a call. Any are safe: those that do not fit are refused.
+#[derive(Clone, Copy, Debug, PartialEq)]
+pub struct Call {
+    /// Given points, at most 4,096.
+    pub given: usize,
+    /// Points that the points slice has room for, at most 8,192.
+    pub capacity: usize,
+    /// Given triangles, at most 4,096.
+    pub count: usize,
+    /// Slots for cells, at most 16,384. Each given triangle takes one, each quad one more, each insertion two more; none is used twice.
+    pub slots: usize,
+    /// The target length of an edge: 0 for none, otherwise from 1/64 to 8.
+    pub size: f64,
+    /// 0: the front goes on while an edge is open. 1: components stay even.
+    pub stop: u32,
+}
+
+impl Call {
+    /// u32 of work that the call needs.
+    pub fn work_len(&self) -> usize {
+        64usize
+            .saturating_mul(self.slots)
+            .saturating_add(8usize.saturating_mul(self.capacity))
+    }
+
+    /// f64 of work.
+    pub fn float_work_len(&self) -> usize {
+        4usize.saturating_mul(self.slots)
+    }
+}
+
+/// The lent slices. Each may be longer than the call needs; what it holds beforehand does not matter, but for the given points.
+#[derive(Debug)]
+pub struct Memory<'a> {
+    /// Three f64 a point of capacity: the given points first. Added points come behind them.
+    pub points: &'a mut [f64],
+    /// Four u32 a slot: the quads come to its front.
+    pub quads: &'a mut [u32],
+    /// Three u32 a slot: the triangles that are left come to its front.
+    pub triangles: &'a mut [u32],
+    /// One u32 a slot: the sizes of the components of the triangles left, descending, come to its front.
+    pub components: &'a mut [u32],
+    /// 64 u32 a slot and 8 more a point of capacity. Zeros after a run.
+    pub work: &'a mut [u32],
+    /// Four f64 a slot. Zeros after a run.
+    pub float_work: &'a mut [f64],
+}
+
+/// What a finished run counted, and the lengths of its lists; entries past a list's length are as they were.
+#[derive(Clone, Copy, Debug, PartialEq, Eq)]
+pub struct Answer {
+    pub counts: Counts,
+    pub quads: usize,
+    pub triangles: usize,
+    pub points: usize,
+    pub components: usize,
+}
+
+/// Meshes the first `call.count` triangles, three node numbers each, over the first `call.given` points of the memory.
+///
+/// Refusals 1 to 7 touch nothing. 8 and 9 leave the points added and the quads written before them, clear both work slices and touch nothing else.
+pub fn run_front(triangles: &[u32], memory: Memory<'_>, call: Call) -> Result<Answer, Refusal> {
+    let mut a = [0usize; ANSWER];
+    // Each pointer comes with the length of its slice, the slices are exclusive or only read, and the function asks nothing else.
+    let number = unsafe {
+        sedgepick_run_front(
+            memory.points.as_mut_ptr(),
+            memory.points.len(),
+            triangles.as_ptr(),
+            triangles.len(),
+            memory.quads.as_mut_ptr(),
+            memory.quads.len(),
+            memory.triangles.as_mut_ptr(),
+            memory.triangles.len(),
+            memory.components.as_mut_ptr(),
+            memory.components.len(),
+            memory.work.as_mut_ptr(),
+            memory.work.len(),
+            memory.float_work.as_mut_ptr(),
+            memory.float_work.len(),
+            call.given,
+            call.capacity,
+            call.count,
+            call.slots,
+            call.size,
+            call.stop,
+            a.as_mut_ptr(),
+            a.len(),
+        )
+    };
+    if let Some(refusal) = Refusal::of_number(number) {
+        return Err(refusal);
+    }
+    Ok(Answer {
+        counts: Counts {
+            front_empty: a[0],
+            attempts: a[1],
+            placement: a[2],
+            invalid_quad: a[3],
+            recovery: a[4],
+            region: a[5],
+            odd_region: a[6],
+            mismatch_insertions: a[7],
+            limit: a[8],
+        },
+        quads: a[9],
+        triangles: a[10],
+        points: a[11],
+        components: a[12],
+    })
+}

@@ -1,0 +1,160 @@
+//! Quads from the triangles of a plane mesh, by an advancing front.
+//!
+//! The mesher is proved: a finished mesh is the one that a short definition fixes, bit for bit, and each of its quads is, in exact arithmetic, convex,
+//! counterclockwise and without a corner under 24.99 degrees. This crate lends it memory.
+//!
+//! ```
+//! use sedgepick::{run_front, Refusal, Stop};
+//!
+//! let points = [[0.0, 0.0, 0.0], [1.0, 0.0, 0.0], [1.0, 1.0, 0.0], [0.0, 1.0, 0.0]];
+//! let triangles = [[0, 1, 2], [0, 2, 3]];
+//! let mesh = run_front(&points, &triangles, 1.0, Stop::Exhaust)?;
+//! assert_eq!(mesh.quads, [[0, 1, 2, 3]]);
+//! assert!(mesh.triangles.is_empty());
+//! assert_eq!(mesh.counts.attempts, 1);
+//!
+//! let refused = run_front(&points, &[[0, 1, 4]], 1.0, Stop::Exhaust);
+//! assert_eq!(refused, Err(Refusal::UnknownNode));
+//! # Ok::<(), Refusal>(())
+//! ```
+//!
+//! A mesh must lie within 8 of zero in x and y; z is carried and never read. Larger meshes are scaled by their user, with the size.
+
+pub mod lent;
+mod refusal;
+
+pub use refusal::Refusal;
+
+use lent::{Call, Memory};
+
+/// Limits on points and slots, and on the given ones.
+pub const MOST_CAPACITY: usize = 8192;
+pub const MOST_SLOTS: usize = 16384;
+pub const MOST_GIVEN: usize = 4096;
+
+/// When a run stops.
+#[derive(Clone, Copy, Debug, PartialEq, Eq, Hash)]
+#[repr(u32)]
+pub enum Stop {
+    /// It goes on while an edge of the front is open.
+    Exhaust = 0,
+    /// And a quad that would leave a component with an odd number of triangles is refused.
+    EvenComponents = 1,
+}
+
+/// What a run counted. Attempts are quads, refused attempts and, where a limit ended the run, the one that passed it.
+#[derive(Clone, Copy, Debug, Default, PartialEq, Eq, Hash)]
+pub struct Counts {
+    /// 1 when no front edge was left.
+    pub front_empty: usize,
+    pub attempts: usize,
+    /// Attempts refused: no side nodes.
+    pub placement: usize,
+    /// No pair of side nodes with a good quad.
+    pub invalid_quad: usize,
+    /// A side that flips could not bring into the mesh.
+    pub recovery: usize,
+    /// The triangles inside the quad do not fill it.
+    pub region: usize,
+    /// They do, and without them some component would be odd.
+    pub odd_region: usize,
+    /// Points added.
+    pub mismatch_insertions: usize,
+    /// 1 when a limit ended the run.
+    pub limit: usize,
+}
+
+/// A finished mesh.
+#[derive(Clone, Debug, Default, PartialEq)]
+pub struct Mesh {
+    /// The given points, then the added ones in order of insertion.
+    pub points: Vec<[f64; 3]>,
+    /// Each convex and counterclockwise, in the order in which they were placed.
+    pub quads: Vec<[u32; 4]>,
+    /// The triangles that are left.
+    pub triangles: Vec<[u32; 3]>,
+    /// The sizes of their components, descending.
+    pub components: Vec<u32>,
+    pub counts: Counts,
+}
+
+/// Meshes the triangles over the points. `size` is the target length of an edge: 0 for none, otherwise from 1/64 to 8.
+///
+/// Where points or slots run out the run is made again with more, up to the limits, so that 8 and 9 come back only from a run that needs more than them.
+/// The result does not depend on how much was lent.
+pub fn run_front(
+    points: &[[f64; 3]],
+    triangles: &[[u32; 3]],
+    size: f64,
+    stop: Stop,
+) -> Result<Mesh, Refusal> {
+    let (given, count) = (points.len(), triangles.len());
+    let mut call = Call {
+        given,
+        capacity: (given + given / 4 + 32).min(MOST_CAPACITY).max(given),
+        count,
+        slots: (2 * count + 64).min(MOST_SLOTS).max(count),
+        size,
+        stop: stop as u32,
+    };
+    loop {
+        match attempt(points, triangles, call) {
+            Err(Refusal::NoPoint) if call.capacity < MOST_CAPACITY => {
+                call.capacity = (2 * call.capacity).min(MOST_CAPACITY)
+            }
+            Err(Refusal::NoSlots) if call.slots < MOST_SLOTS => {
+                call.slots = (2 * call.slots).min(MOST_SLOTS)
+            }
+            other => return other,
+        }
+    }
+}
+
+/// One run, with as much memory as the call states.
+fn attempt(points: &[[f64; 3]], triangles: &[[u32; 3]], call: Call) -> Result<Mesh, Refusal> {
+    // A call over the limits is refused before any memory is looked at.
+    let over = call.given > MOST_GIVEN || call.count > MOST_GIVEN;
+    let lend = if over {
+        Call {
+            capacity: 0,
+            slots: 0,
+            ..call
+        }
+    } else {
+        call
+    };
+    let mut xyz: Vec<f64> = points.iter().flatten().copied().collect();
+    xyz.resize(xyz.len().max(3 * lend.capacity), 0.0);
+    let mut quads = vec![0; 4 * lend.slots];
+    let mut left = vec![0; 3 * lend.slots];
+    let mut components = vec![0; lend.slots];
+    let memory = Memory {
+        points: &mut xyz,
+        quads: &mut quads,
+        triangles: &mut left,
+        components: &mut components,
+        work: &mut vec![0; lend.work_len()],
+        float_work: &mut vec![0.0; lend.float_work_len()],
+    };
+    let answer = lent::run_front(triangles.as_flattened(), memory, call)?;
+    components.truncate(answer.components);
+    Ok(Mesh {
+        points: xyz
+            .chunks_exact(3)
+            .take(answer.points)
+            .map(|p| [p[0], p[1], p[2]])
+            .collect(),
+        quads: quads
+            .chunks_exact(4)
+            .take(answer.quads)
+            .map(|q| [q[0], q[1], q[2], q[3]])
+            .collect(),
+        triangles: left
+            .chunks_exact(3)
+            .take(answer.triangles)
+            .map(|t| [t[0], t[1], t[2]])
+            .collect(),
+        components,
+        counts: answer.counts,
+    })
+}

@@ -1,0 +1,74 @@
+//! Why a call is refused.
+
+use std::fmt;
+
+/// The refusals of a call, in the order in which they are tested. Each is returned under its condition and under no other.
+#[derive(Clone, Copy, Debug, PartialEq, Eq, Hash)]
+#[repr(u8)]
+pub enum Refusal {
+    /// Over 4,096 triangles or given points, or over a capacity limit (8,192 points, 16,384 slots).
+    OverLimit = 1,
+    /// The size is neither zero nor from 1/64 to 8.
+    BadSize = 2,
+    /// The stop rule is neither 0 nor 1.
+    BadStop = 3,
+    /// A lent slice is shorter than stated, the capacity is below the given points, or the slots are below the triangles.
+    TooShort = 4,
+    /// A node number is not below the given points.
+    UnknownNode = 5,
+    /// A triangle has a node twice.
+    RepeatedNode = 6,
+    /// An x or y is not finite or is beyond 8 in magnitude.
+    FarPoint = 7,
+    /// An insertion, with the point capacity used up.
+    NoPoint = 8,
+    /// A split with fewer than two slots free, or a quad with none.
+    NoSlots = 9,
+}
+
+impl Refusal {
+    const ALL: [Refusal; 9] = [
+        Refusal::OverLimit,
+        Refusal::BadSize,
+        Refusal::BadStop,
+        Refusal::TooShort,
+        Refusal::UnknownNode,
+        Refusal::RepeatedNode,
+        Refusal::FarPoint,
+        Refusal::NoPoint,
+        Refusal::NoSlots,
+    ];
+
+    /// The refusal's number, 1 to 9.
+    pub fn number(self) -> u32 {
+        self as u32
+    }
+
+    /// The refusal of a number; `None` for every other number, also for the 0 of a finished run.
+    pub fn of_number(number: usize) -> Option<Refusal> {
+        Self::ALL.get(number.checked_sub(1)?).copied()
+    }
+
+    /// The condition in words.
+    pub fn words(self) -> &'static str {
+        match self {
+            Refusal::OverLimit => "over 4,096 triangles or given points, or over a capacity limit",
+            Refusal::BadSize => "the size is neither zero nor from 1/64 to 8",
+            Refusal::BadStop => "the stop rule is neither 0 nor 1",
+            Refusal::TooShort => "a lent slice is shorter than stated, the capacity is below the given points, or the slots are below the triangles",
+            Refusal::UnknownNode => "a node number is not below the given points",
+            Refusal::RepeatedNode => "a triangle has a node twice",
+            Refusal::FarPoint => "an x or y is not finite or is beyond 8 in magnitude",
+            Refusal::NoPoint => "an insertion, with the point capacity used up",
+            Refusal::NoSlots => "a split with fewer than two slots free, or a quad with none",
+        }
+    }
+}
+
+impl fmt::Display for Refusal {
+    fn fmt(&self, f: &mut fmt::Formatter<'_>) -> fmt::Result {
+        write!(f, "refused with {}: {}", self.number(), self.words())
+    }
+}
+
+impl std::error::Error for Refusal {}

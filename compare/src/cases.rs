@@ -1,0 +1,287 @@
+//! One generated mesh: the port against the Rust, under both rules and with memory that does or does not suffice.
+
+use reference::account::slots_used;
+use reference::generators::large::SHAPES;
+use reference::generators::shape::Room;
+use reference::generators::{of_case, KINDS, TEXT};
+use reference::input::{Input, Lent, LARGEST};
+use reference::patched::FrontResult;
+use reference::random::Random;
+use sedgepick::Refusal;
+
+use crate::memory::{self, Tails};
+
+/// A large mesh comes once in so many cases.
+const LARGE_EACH: u64 = 4096;
+
+/// Triangles of large meshes.
+const LARGE: (usize, usize) = (600, 4000);
+
+/// Runs of a kind of mesh, by what the port answered.
+#[derive(Clone, Copy, Default)]
+pub struct Tally {
+    pub meshes: u64,
+    pub runs: u64,
+    pub finished: u64,
+    pub limited: u64,
+    /// Refusals 1 to 9.
+    pub refused: [u64; 9],
+    pub quads: u64,
+    pub inserted: u64,
+    pub differ: u64,
+}
+
+impl Tally {
+    pub fn add(&mut self, other: &Tally) {
+        self.meshes += other.meshes;
+        self.runs += other.runs;
+        self.finished += other.finished;
+        self.limited += other.limited;
+        self.refused
+            .iter_mut()
+            .zip(other.refused)
+            .for_each(|(to, n)| *to += n);
+        self.quads += other.quads;
+        self.inserted += other.inserted;
+        self.differ += other.differ;
+    }
+}
+
+/// A call on which the two part.
+pub struct Parting {
+    pub input: Input,
+    pub lent: Lent,
+    pub what: String,
+}
+
+/// The mesh of a case: kinds in turn, larger rooms now and then, and once in a while one of the large shapes.
+pub fn mesh(seed: u64, case: u64) -> (&'static str, Input, Random) {
+    let mut r = Random::new(seed, case);
+    if case % LARGE_EACH == LARGE_EACH - 1 {
+        let (name, make) = SHAPES[(case / LARGE_EACH) as usize % SHAPES.len()];
+        let triangles = r.from_to(LARGE.0, LARGE.1);
+        let input = make(&mut r, triangles);
+        return (large_name(name), input, r);
+    }
+    let kind = of_case(None, case);
+    let room = match case / KINDS.len() as u64 % 64 {
+        63 => Room {
+            triangles: 600,
+            points: 500,
+        },
+        n if n % 16 == 15 => Room {
+            triangles: 200,
+            points: 160,
+        },
+        n if n % 4 == 3 => TEXT,
+        _ => Room {
+            triangles: 24,
+            points: 32,
+        },
+    };
+    (kind.0, kind.1(&mut r, &room), r)
+}
+
+/// The large shapes are listed as one kind each, apart from the small ones of their name.
+fn large_name(name: &str) -> &'static str {
+    match name {
+        "plate" => "large plate",
+        "plate-even" => "large plate-even",
+        "coarse" => "large coarse",
+        "fine" => "large fine",
+        "no-size" => "large no-size",
+        "scatter" => "large scatter",
+        "scatter-even" => "large scatter-even",
+        "wheel" => "large wheel",
+        "sheets" => "large sheets",
+        "torn" => "large torn",
+        "heap" => "large heap",
+        "hub" => "large hub",
+        _ => "large",
+    }
+}
+
+/// The runs of one mesh.
+pub struct Case<'a> {
+    pub tally: &'a mut Tally,
+    pub partings: &'a mut Vec<Parting>,
+    pub r: Random,
+}
+
+impl Case<'_> {
+    /// Both rules, and the given one where it is neither.
+    pub fn run(&mut self, input: Input) {
+        self.tally.meshes += 1;
+        if input.stop > 1 {
+            return self.run_rule(input);
+        }
+        for stop in [0, 1] {
+            self.run_rule(Input {
+                stop,
+                ..input.clone()
+            });
+        }
+    }
+
+    fn run_rule(&mut self, input: Input) {
+        let small = Lent {
+            points: input.points.len() + self.r.below(9),
+            slots: input.triangles.len() + self.r.below(9),
+        };
+        if input.refusal(LARGEST).is_some() {
+            return self.refused(&input, small);
+        }
+        let full = input.run_unchecked(LARGEST);
+        let need = match full.refused {
+            Some(_) => LARGEST,
+            None => Lent {
+                points: full.points.len(),
+                slots: slots_used(&input, &full),
+            },
+        };
+        let lent = self.enough(need);
+        self.hold(&input, lent, &full);
+        if full.refused.is_some() {
+            return;
+        }
+        if input.triangles.len() <= 10 && full.refusals.attempts < 200 && self.r.once_in(16) {
+            self.every_capacity(&input, need);
+        } else if full.refusals.attempts < 2000 && self.r.once_in(4) {
+            self.some_capacity(&input, need);
+        }
+        if self.r.once_in(16) {
+            self.short_slice(&input, lent);
+        }
+        if self.r.once_in(256) {
+            self.over_limit(&input, lent);
+        }
+    }
+
+    /// Just enough, a little more, or rarely all that may be lent.
+    fn enough(&mut self, need: Lent) -> Lent {
+        if self.r.once_in(128) {
+            return LARGEST;
+        }
+        let more = self.r.pick(&[0, 0, 1, 7, 60]);
+        Lent {
+            points: (need.points + self.r.below(more + 1)).min(LARGEST.points),
+            slots: (need.slots + self.r.below(more + 1)).min(LARGEST.slots),
+        }
+    }
+
+    /// Slices a little longer than they need to be.
+    fn longer(&mut self) -> Tails {
+        Tails([(); 6].map(|_| self.r.below(5) as isize))
+    }
+
+    /// Every capacity and every number of slots of a small mesh, up to what it needs.
+    fn every_capacity(&mut self, input: &Input, need: Lent) {
+        for points in input.points.len().saturating_sub(1)..need.points {
+            self.capacity(input, Lent { points, ..need });
+        }
+        for slots in input.triangles.len().saturating_sub(1)..need.slots {
+            self.capacity(input, Lent { slots, ..need });
+        }
+    }
+
+    /// One capacity that does not suffice, or just does.
+    fn some_capacity(&mut self, input: &Input, need: Lent) {
+        let points = self.r.from_to(input.points.len(), need.points);
+        let slots = self.r.from_to(input.triangles.len(), need.slots);
+        let lent = match self.r.below(3) {
+            0 => Lent { points, ..need },
+            1 => Lent { slots, ..need },
+            _ => Lent { points, slots },
+        };
+        self.capacity(input, lent);
+    }
+
+    fn capacity(&mut self, input: &Input, lent: Lent) {
+        if input.refusal(lent).is_some() {
+            return self.refused(input, lent);
+        }
+        let rust = input.run_unchecked(lent);
+        self.hold(input, lent, &rust);
+    }
+
+    /// A slice shorter by one than it needs to be is 4.
+    fn short_slice(&mut self, input: &Input, lent: Lent) {
+        if lent.points == 0 || lent.slots == 0 {
+            return;
+        }
+        let mut tails = self.longer();
+        tails.0[self.r.below(6)] = -1;
+        self.untouched(input, lent, tails, Refusal::TooShort);
+    }
+
+    /// A capacity over its limit is 1.
+    fn over_limit(&mut self, input: &Input, lent: Lent) {
+        let points = LARGEST.points + 1;
+        let slots = LARGEST.slots + 1;
+        let over = self
+            .r
+            .pick(&[Lent { points, ..lent }, Lent { slots, ..lent }]);
+        self.refused(input, over);
+    }
+
+    /// A call that one of 1 to 7 refuses.
+    fn refused(&mut self, input: &Input, lent: Lent) {
+        let Some(number) = input.refusal(lent) else {
+            return;
+        };
+        let tails = self.longer();
+        self.untouched(input, lent, tails, memory::refusal(number));
+    }
+
+    /// The call is refused so, and every slice is as it was.
+    fn untouched(&mut self, input: &Input, lent: Lent, tails: Tails, why: Refusal) {
+        let before = memory::slices(input, lent, tails, &mut self.r);
+        let mut slices = before.clone();
+        let got = memory::run_port(input, lent, &mut slices);
+        self.judge(input, lent, (got, slices), (Err(why), before));
+    }
+
+    /// The run is the Rust's.
+    fn hold(&mut self, input: &Input, lent: Lent, rust: &FrontResult) {
+        let tails = self.longer();
+        let before = memory::slices(input, lent, tails, &mut self.r);
+        let mut slices = before.clone();
+        let got = memory::run_port(input, lent, &mut slices);
+        self.judge(
+            input,
+            lent,
+            (got, slices),
+            (memory::answer(rust), memory::after_run(&before, rust)),
+        );
+    }
+
+    fn judge(&mut self, input: &Input, lent: Lent, got: Left, want: Left) {
+        let t = &mut *self.tally;
+        t.runs += 1;
+        match &got.0 {
+            Ok(a) => {
+                t.finished += 1;
+                t.limited += a.counts.limit as u64;
+                t.quads += a.quads as u64;
+                t.inserted += a.counts.mismatch_insertions as u64;
+            }
+            Err(why) => t.refused[why.number() as usize - 1] += 1,
+        }
+        let what = if got.0 != want.0 {
+            Some(format!("answers\n  port {:?}\n  Rust {:?}", got.0, want.0))
+        } else {
+            memory::first_difference(&got.1, &want.1)
+        };
+        if let Some(what) = what {
+            t.differ += 1;
+            self.partings.push(Parting {
+                input: input.clone(),
+                lent,
+                what,
+            });
+        }
+    }
+}
+
+/// An answer and the slices after it.
+type Left = (Result<sedgepick::lent::Answer, Refusal>, memory::Slices);

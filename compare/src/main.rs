@@ -1,0 +1,168 @@
+//! The port, linked from its static library, against the patched Rust on generated meshes: answers and every lent slice, bit for bit.
+
+mod cases;
+mod memory;
+
+use std::collections::BTreeMap;
+use std::sync::atomic::{AtomicU64, Ordering};
+use std::sync::Mutex;
+use std::time::{Duration, Instant};
+
+use cases::{Case, Parting, Tally};
+
+const USAGE: &str = "usage: compare SEED COUNT [JOBS]
+  runs COUNT generated meshes of the seed under both stop rules, JOBS at a time (1 without it)";
+
+/// Partings that are printed whole.
+const SHOWN: usize = 3;
+
+/// How often the progress is said.
+const PAUSE: Duration = Duration::from_secs(10);
+
+/// What all jobs found.
+#[derive(Default)]
+struct Found {
+    kinds: BTreeMap<&'static str, Tally>,
+    partings: Vec<(u64, Parting)>,
+}
+
+/// The next case to make, and what was found.
+struct Work {
+    seed: u64,
+    count: u64,
+    next: AtomicU64,
+    differ: AtomicU64,
+    found: Mutex<Found>,
+}
+
+impl Work {
+    /// Cases until none is left.
+    fn job(&self) {
+        let mut mine = Found::default();
+        loop {
+            let case = self.next.fetch_add(1, Ordering::Relaxed);
+            if case >= self.count {
+                break;
+            }
+            let (kind, input, r) = cases::mesh(self.seed, case);
+            let mut partings = Vec::new();
+            let tally = mine.kinds.entry(kind).or_default();
+            Case {
+                tally,
+                partings: &mut partings,
+                r,
+            }
+            .run(input);
+            self.differ
+                .fetch_add(partings.len() as u64, Ordering::Relaxed);
+            mine.partings
+                .extend(partings.into_iter().map(|p| (case, p)));
+        }
+        let mut all = self.found.lock().expect("no job failed");
+        for (kind, tally) in mine.kinds {
+            all.kinds.entry(kind).or_default().add(&tally);
+        }
+        all.partings.extend(mine.partings);
+    }
+
+    /// Says how far the jobs are until they are done.
+    fn watch(&self) {
+        let start = Instant::now();
+        let mut said = start;
+        while self.next.load(Ordering::Relaxed) < self.count {
+            std::thread::sleep(Duration::from_millis(100));
+            if said.elapsed() >= PAUSE {
+                said = Instant::now();
+                let done = self.next.load(Ordering::Relaxed).min(self.count);
+                let differ = self.differ.load(Ordering::Relaxed);
+                eprintln!(
+                    "{done} of {} meshes, {differ} runs differ, {} s",
+                    self.count,
+                    start.elapsed().as_secs()
+                );
+            }
+        }
+    }
+}
+
+/// A line a kind, then the sums.
+fn print(kinds: &BTreeMap<&'static str, Tally>) -> Tally {
+    println!("kind | meshes | runs | finished | by limit | refused 1 2 3 4 5 6 7 | 8 | 9 | quads | insertions | differ");
+    let mut all = Tally::default();
+    let line = |kind: &str, t: &Tally| {
+        let early = t.refused[..7]
+            .iter()
+            .map(u64::to_string)
+            .collect::<Vec<_>>()
+            .join(" ");
+        println!(
+            "{kind} | {} | {} | {} | {} | {early} | {} | {} | {} | {} | {}",
+            t.meshes,
+            t.runs,
+            t.finished,
+            t.limited,
+            t.refused[7],
+            t.refused[8],
+            t.quads,
+            t.inserted,
+            t.differ
+        );
+    };
+    for (kind, tally) in kinds {
+        line(kind, tally);
+        all.add(tally);
+    }
+    line("all", &all);
+    all
+}
+
+/// The smallest partings, as calls of the library that the reference answers.
+fn show(partings: &mut [(u64, Parting)]) {
+    partings.sort_by_key(|(case, p)| (p.input.triangles.len(), *case));
+    for (case, p) in partings.iter().take(SHOWN) {
+        eprintln!("case {case}: {}", p.what);
+        eprintln!(
+            "{}",
+            String::from_utf8_lossy(&reference::call::write(p.lent, &p.input))
+        );
+    }
+}
+
+fn numbers() -> Option<(u64, u64, u64)> {
+    let words: Vec<u64> = std::env::args()
+        .skip(1)
+        .map(|w| w.parse().ok())
+        .collect::<Option<_>>()?;
+    match words[..] {
+        [seed, count] => Some((seed, count, 1)),
+        [seed, count, jobs] => Some((seed, count, jobs.max(1))),
+        _ => None,
+    }
+}
+
+fn main() {
+    let Some((seed, count, jobs)) = numbers() else {
+        eprintln!("{USAGE}");
+        std::process::exit(2);
+    };
+    let work = Work {
+        seed,
+        count,
+        next: AtomicU64::new(0),
+        differ: AtomicU64::new(0),
+        found: Mutex::default(),
+    };
+    std::thread::scope(|scope| {
+        for _ in 0..jobs {
+            scope.spawn(|| work.job());
+        }
+        work.watch();
+    });
+    let mut found = work.found.into_inner().expect("no job failed");
+    let all = print(&found.kinds);
+    show(&mut found.partings);
+    println!("{} of {} runs agree", all.runs - all.differ, all.runs);
+    if all.differ > 0 {
+        std::process::exit(1);
+    }
+}

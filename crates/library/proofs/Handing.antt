@@ -1,0 +1,52 @@
+-- The numbers of a finished run as thirteen stores, and the number of a call whose answer is too short.
+use mathlib.Core.Path.{_≡_, refl}
+use mathlib.Core.Logic.{_≢_}
+use mathlib.Core.List.{List}
+use Prim.{absurd}
+use Prim.Native.Nat.{ℕ, _<_, _≤_}
+use native.Mathlib.Omega.{arith}
+use lib.ListN.{length, set}
+use lib.Seq.{sets-eq}
+use borrow.Author.Tests.{eq-eqb, ne-eqb}
+use Rattle.definition.specs.Call.{Asked, Lent, onto}
+use Rattle.checks.specs.Refusals.{first-refusal}
+use Rattle.mesher.specs.declared.Answer.{Answer}
+use Rattle.library.specs.Exported.{numbers, handed, up-to-4, Roomy, Exported}
+
+-- the stores, first to last
+abbrev stored : List ℕ → Answer → List ℕ
+stored xs r =
+    set (set (set (set (set (set (set (set (set (set (set (set (set xs
+    0 (r .«front_empty»)) 1 (r .attempts)) 2 (r .placement)) 3 (r .«invalid_quad»)) 4 (r .recovery)) 5 (r .region)) 6 (r .«odd_region»)) 7 (r .«mismatch_insertions»)) 8 (r .limit))
+    9 (r .quads)) 10 (r .triangles)) 11 (r .points)) 12 (r .components)
+
+pub written : (xs : List ℕ) (r : Answer) → 13 ≤ length xs → stored xs r ≡ onto (numbers r) xs
+unfolding onto
+written xs r h = sets-eq (numbers r) xs 0 (omega (arith, h))
+
+-- none of 1 to 3 comes before it
+pub is-4 : (k : ℕ) → k ≢ 1 → k ≢ 2 → k ≢ 3 → up-to-4 k ≡ 4
+is-4 k a b c = rw (ne-eqb k 1 a, ne-eqb k 2 b, ne-eqb k 3 c)
+
+-- ---- what the slice holds
+
+-- after a refusal what was there
+pub kept : (r : Answer) (old : List ℕ) → r .refusal ≢ 0 → old ≡ handed r old
+kept r old h = rw (ne-eqb (r .refusal) 0 h)
+
+-- after a finished run its numbers
+pub put : (r : Answer) (old new : List ℕ) → r .refusal ≡ 0 → new ≡ onto (numbers r) old → new ≡ handed r old
+put r old new h e = rw (eq-eqb (r .refusal) 0 h) e
+
+-- ---- the promise
+
+-- with room the call, whatever the slice holds then
+pub with-room : (a : Asked) (l : Lent) (old : List ℕ) (k : ℕ) (new : List ℕ) (exit : Lent) (r : Answer)
+    → 13 ≤ length old → Roomy a l old k new exit r → Exported a l old k new exit
+with-room a l old k new exit r h d = record { roomy = λ _. (r, d); short = λ s. absurd (omega (arith, h, s)) }
+
+-- without it the refusal
+pub without-room : (a : Asked) (l : Lent) (old : List ℕ) (k : ℕ)
+    → length old < 13 → k ≡ up-to-4 (first-refusal a l) → Exported a l old k old l
+without-room a l old k h e =
+    record { roomy = λ s. absurd (omega (arith, h, s)); short = λ _. record { number = e; answer = refl; lent = refl } }

@@ -1,0 +1,27 @@
+-- The number of checks, where it is 1 to 3.
+use mathlib.Core.Path.{ap, sym, _∙_}
+use borrow.Author.Needs.{needs}
+use Rattle.library.specs.Exported.{up-to-4}
+use Rattle.library.proofs.Handing.{is-4}
+use Rattle.library.proofs.short_answer.Statement.{statement}
+use Rattle.library.proofs.short_answer.Tie as tie
+
+refusal-requires : tie.Need-refusal-requires
+refusal-requires c κs = search needs
+
+returns : tie.Need-returns
+returns c = λ l h. sym (ap up-to-4 (sym (c .before .refusal .ensures l h) ∙ c .if1 .taken))
+
+returns-2 : tie.Need-returns-2
+returns-2 c = λ l h. sym (ap up-to-4 (sym (c .before .before .refusal .ensures l h) ∙ c .if2 .taken))
+
+returns-3 : tie.Need-returns-3
+returns-3 c = λ l h. sym (ap up-to-4 (sym (c .before .before .before .refusal .ensures l h) ∙ c .if3 .taken))
+
+returns-4 : tie.Need-returns-4
+returns-4 c = λ l h.
+    let r = c .before .before .before in
+    sym (ap up-to-4 (sym (r .refusal .ensures l h)) ∙ is-4 (r .refusal .result) (c .before .before .if1 .left) (c .before .if2 .left) (c .if3 .left))
+
+pub short-answer-spec : {M : Type 1} → statement M
+short-answer-spec = tie.close (tie.spec refusal-requires returns returns-2 returns-3 returns-4)

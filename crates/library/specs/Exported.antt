@@ -1,0 +1,56 @@
+-- The promise of the exported function: the call of the definition, with the numbers of a finished run in a slice of their own.
+use mathlib.Core.Path.{_≡_}
+use mathlib.Core.Bool.{cond}
+use mathlib.Core.List.{List, [], _∷_}
+use Prim.Native.Nat.{ℕ, _<_, _≤_}
+use lib.Dec.{eqb}
+use lib.ListN.{length}
+use Rattle.definition.specs.Numbers.{base}
+use Rattle.definition.specs.Call.{Asked, Lent, call, onto}
+use Rattle.checks.specs.Refusals.{first-refusal}
+use Rattle.mesher.specs.declared.Answer.{Answer}
+use Rattle.mesher.specs.Promise.{Returns, Kept-account}
+
+-- the numbers of a finished run in their order
+abbrev pub numbers : Answer → List ℕ
+numbers r =
+    r .«front_empty»
+    ∷ r .attempts
+    ∷ r .placement
+    ∷ r .«invalid_quad»
+    ∷ r .recovery
+    ∷ r .region
+    ∷ r .«odd_region»
+    ∷ r .«mismatch_insertions»
+    ∷ r .limit
+    ∷ r .quads
+    ∷ r .triangles
+    ∷ r .points
+    ∷ r .components
+    ∷ []
+
+-- what the answer's slice holds: the numbers of a finished run before what was there, and after a refusal what was there
+abbrev pub handed : Answer → List ℕ → List ℕ
+handed r old = cond (eqb (r .refusal) 0) (onto (numbers r) old) old
+
+-- the number of a call whose answer is too short: 1 to 3 come before 4
+abbrev pub up-to-4 : ℕ → ℕ
+up-to-4 k = cond (eqb k 1) 1 (cond (eqb k 2) 2 (cond (eqb k 3) 3 4))
+
+-- With room for the numbers: r is all that the definition's call answers, k is its number, and the slice has its numbers.
+pub record Roomy (a : Asked) (l : Lent) (old : List ℕ) (k : ℕ) (new : List ℕ) (exit : Lent) (r : Answer) : Type 0 where
+  pub returns : Returns (call base a l) r exit
+  pub keeps : Kept-account a l r exit
+  pub number : k ≡ r .refusal
+  pub answer : new ≡ handed r old
+
+-- Without: refused, and nothing is touched.
+pub record Short (a : Asked) (l : Lent) (old : List ℕ) (k : ℕ) (new : List ℕ) (exit : Lent) : Type 0 where
+  pub number : k ≡ up-to-4 (first-refusal a l)
+  pub answer : new ≡ old
+  pub lent : exit ≡ l
+
+-- k is returned of a call that states a and lends l, with `old` in the answer's slice; `new` and `exit` are there then
+pub record Exported (a : Asked) (l : Lent) (old : List ℕ) (k : ℕ) (new : List ℕ) (exit : Lent) : Type 0 where
+  pub roomy : 13 ≤ length old → (r : Answer) × Roomy a l old k new exit r
+  pub short : length old < 13 → Short a l old k new exit

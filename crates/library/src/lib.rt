@@ -1,0 +1,121 @@
+// run_front for programs in C and Rust: numbers and slices only. include/sedgepick.h says the same to their authors.
+use checks::Room;
+use checks::Stated;
+use checks::refusal;
+use mesher::Answer;
+use mesher::run_front;
+ghost use mathlib.Core.Path.{_≡_};
+ghost use Prim.Native.Nat.{_≤_};
+ghost use lib.ListN.{length};
+ghost use Rattle.definition.specs.Call.{Lent, onto};
+ghost use Rattle.checks.specs.Stated.{Lends, asked};
+ghost use Rattle.checks.specs.Refusals.{first-refusal};
+ghost use Rattle.mesher.specs.Promise.{asked-of, lent-of};
+ghost use Rattle.library.specs.Exported.{numbers, up-to-4, Exported};
+
+// Numbers of a finished run: nine counts and four lengths.
+const ANSWER: usize = 13;
+
+// The numbers of a finished run come to the front of the slice.
+fn write_answer(answer: &mut [usize], a: Answer)
+    requires { ⌜ 13 ≤ length (now answer) ⌝ }
+    ensures { λ r. ⌜ now (answer .exit) ≡ onto (numbers a) (now (answer .entry)) ⌝ }
+{
+    answer[0] = a.front_empty;
+    answer[1] = a.attempts;
+    answer[2] = a.placement;
+    answer[3] = a.invalid_quad;
+    answer[4] = a.recovery;
+    answer[5] = a.region;
+    answer[6] = a.odd_region;
+    answer[7] = a.mismatch_insertions;
+    answer[8] = a.limit;
+    answer[9] = a.quads;
+    answer[10] = a.triangles;
+    answer[11] = a.points;
+    answer[12] = a.components;
+}
+
+// The number of a call whose answer is too short: 1 to 3 come before it, and it is 4.
+fn short_answer(points: &[f64], triangles: &[u32], a: Stated, n: Room) -> usize
+    ensures { λ r. ⌜ ((l : Lent) → Lends l (now (points .entry)) (now (triangles .entry)) n → r ≡ up-to-4 (first-refusal (asked a) l)) ⌝ }
+{
+    let k = refusal(points, triangles, a, n);
+    if k == 1 {
+        return 1;
+    }
+    if k == 2 {
+        return 2;
+    }
+    if k == 3 {
+        return 3;
+    }
+    4
+}
+
+// run_front. The number of the refusal is returned, 0 where the run finished; then the counts and the lengths of the lists come to the front of the answer, and a refusal leaves it as it was.
+#[no_mangle]
+pub extern "C" fn sedgepick_run_front(
+    points: &mut [f64],
+    triangles: &[u32],
+    quads: &mut [u32],
+    triangles_out: &mut [u32],
+    components: &mut [u32],
+    work: &mut [u32],
+    float_work: &mut [f64],
+    given: usize,
+    capacity: usize,
+    count: usize,
+    slots: usize,
+    size: f64,
+    stop: u32,
+    answer: &mut [usize],
+) -> usize
+    ensures { λ r. ⌜ Exported
+        (asked-of given capacity count slots size stop)
+        (lent-of (now (points .entry)) (now (triangles .entry)) (now (quads .entry)) (now («triangles_out» .entry)) (now (components .entry)) (now (work .entry)) (now («float_work» .entry)))
+        (now (answer .entry))
+        r
+        (now (answer .exit))
+        (lent-of (now (points .exit)) (now (triangles .entry)) (now (quads .exit)) (now («triangles_out» .exit)) (now (components .exit)) (now (work .exit)) (now («float_work» .exit))) ⌝ }
+{
+    if answer.len() < ANSWER {
+        let stated = Stated {
+            given,
+            capacity,
+            count,
+            slots,
+            size,
+            stop,
+        };
+        let room = Room {
+            quads: quads.len(),
+            out: triangles_out.len(),
+            components: components.len(),
+            work: work.len(),
+            floats: float_work.len(),
+        };
+        return short_answer(points, triangles, stated, room);
+    }
+    let a = run_front(
+        points,
+        triangles,
+        quads,
+        triangles_out,
+        components,
+        work,
+        float_work,
+        given,
+        capacity,
+        count,
+        slots,
+        size,
+        stop,
+    );
+    let k = a.refusal;
+    if k != 0 {
+        return k;
+    }
+    write_answer(answer, a);
+    0
+}

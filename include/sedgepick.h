@@ -1,0 +1,111 @@
+/* Sedgepick: quads from the triangles of a plane mesh, by an advancing front.
+ *
+ * The function is proved: it ends on every input, a finished mesh is the one that a short definition fixes, bit for bit, and each of its quads is, in
+ * exact arithmetic, convex, counterclockwise and without a corner under 24.99 degrees. It allocates nothing, keeps nothing between calls, and may be
+ * called from several threads at once on memory of their own.
+ *
+ * Link target/staticlib/liblibrary.a (x86-64, written by `rt staticlib library`).
+ */
+#ifndef SEDGEPICK_H
+#define SEDGEPICK_H
+
+#include <stddef.h>
+#include <stdint.h>
+
+#ifdef __cplusplus
+extern "C" {
+#endif
+
+/* Limits on the numbers of a call. */
+#define SEDGEPICK_MOST_GIVEN 4096     /* given points, and given triangles */
+#define SEDGEPICK_MOST_CAPACITY 8192  /* points that the points slice has room for */
+#define SEDGEPICK_MOST_SLOTS 16384    /* slots */
+
+/* Lengths of the slices, for so many slots and points of capacity. */
+#define SEDGEPICK_POINTS(capacity) (3 * (size_t)(capacity))
+#define SEDGEPICK_QUADS(slots) (4 * (size_t)(slots))
+#define SEDGEPICK_TRIANGLES_OUT(slots) (3 * (size_t)(slots))
+#define SEDGEPICK_COMPONENTS(slots) ((size_t)(slots))
+#define SEDGEPICK_WORK(slots, capacity) (64 * (size_t)(slots) + 8 * (size_t)(capacity))
+#define SEDGEPICK_FLOAT_WORK(slots) (4 * (size_t)(slots))
+
+/* Stop rules. */
+#define SEDGEPICK_EXHAUST 0          /* go on while an edge of the front is open */
+#define SEDGEPICK_EVEN_COMPONENTS 1  /* and refuse a quad that would leave a component with an odd number of triangles */
+
+/* What is returned. The refusals are tested 1 to 7 in this order, and 8 before 9; each is returned under its condition and under no other. */
+enum sedgepick_refusal {
+    SEDGEPICK_FINISHED = 0,
+    /* the caller's numbers */
+    SEDGEPICK_OVER_LIMIT = 1,   /* over 4,096 triangles or given points, or over a capacity limit */
+    SEDGEPICK_BAD_SIZE = 2,     /* size neither zero (of either sign) nor from 1/64 to 8; a NaN is refused here */
+    SEDGEPICK_BAD_STOP = 3,     /* stop rule neither 0 nor 1 */
+    /* the lender */
+    SEDGEPICK_TOO_SHORT = 4,    /* a slice shorter than stated, the answer's too; capacity below the given points, or slots below the triangles */
+    /* the mesh's maker */
+    SEDGEPICK_UNKNOWN_NODE = 5, /* a node number not below the given points */
+    SEDGEPICK_REPEATED_NODE = 6,/* a triangle with a node twice */
+    SEDGEPICK_FAR_POINT = 7,    /* x or y not finite or beyond 8 in magnitude (8 passes); z may be anything */
+    /* the run itself */
+    SEDGEPICK_NO_POINT = 8,     /* an insertion, with the point capacity used up */
+    SEDGEPICK_NO_SLOTS = 9      /* a split with fewer than two slots free, or a quad with none */
+};
+
+/* Places in the answer of a finished run. */
+enum sedgepick_answer {
+    SEDGEPICK_FRONT_EMPTY,         /* 1 when no front edge was left */
+    SEDGEPICK_ATTEMPTS,            /* the quads, the five counts that follow, and `limit` add up to it */
+    SEDGEPICK_PLACEMENT,           /* attempts refused: no side nodes */
+    SEDGEPICK_INVALID_QUAD,        /* no pair of side nodes with a good quad */
+    SEDGEPICK_RECOVERY,            /* a side that flips could not bring into the mesh */
+    SEDGEPICK_REGION,              /* the triangles inside the quad do not fill it */
+    SEDGEPICK_ODD_REGION,          /* they do, and without them some component would be odd */
+    SEDGEPICK_MISMATCH_INSERTIONS, /* points added */
+    SEDGEPICK_LIMIT,               /* 1 when a limit on attempts or triangles ended the run */
+    SEDGEPICK_QUAD_COUNT,          /* lengths of the four lists */
+    SEDGEPICK_TRIANGLE_COUNT,
+    SEDGEPICK_POINT_COUNT,
+    SEDGEPICK_COMPONENT_COUNT,
+    SEDGEPICK_ANSWER               /* how many they are */
+};
+
+/* Meshes the given triangles over the given points.
+ *
+ * Each slice is a pointer, aligned for its numbers and not null (also where the length is 0), and how many numbers may be read and written there. No two
+ * slices share memory, and nothing else uses them during the call. This is all that a caller owes: every other number is safe and, where it does not fit,
+ * refused. Slices may be longer than the call needs, and what they hold beforehand does not matter, but for the given points and triangles.
+ *
+ * points         3 numbers a point of capacity: x, y, z of the given points first. Given points stay as they are; added ones come behind them, with z 0.
+ * triangles      3 node numbers a triangle; only read. Clockwise, overlapping and repeated triangles are accepted.
+ * quads          4 numbers a slot: the nodes of the quads, counterclockwise, in the order in which they were placed.
+ * triangles_out  3 numbers a slot: the nodes of the triangles that are left.
+ * components     1 number a slot: the sizes of the components of the triangles left, descending.
+ * work           64 numbers a slot and 8 a point of capacity; zeros afterwards, the whole slice.
+ * float_work     4 numbers a slot; zeros afterwards, the whole slice.
+ * given          given points, at most 4,096.
+ * capacity       points that there is room for, from the given ones to 8,192.
+ * count          given triangles, at most 4,096.
+ * slots          slots for cells, from the triangles to 16,384. Each given triangle takes one, each quad one more, each added point two more.
+ * size           target length of an edge: 0 for none, otherwise from 1/64 to 8.
+ * stop           stop rule: 0 or 1.
+ * answer         13 numbers (SEDGEPICK_ANSWER), written only where 0 is returned; after a refusal all counts and lengths are zero, and the slice is as it was.
+ *
+ * Entries past a list's length are as they were. 1 to 7 touch no slice. 8 and 9 leave the points added and the quads written before them, clear both work
+ * slices and touch nothing else; with more capacity, or more slots, the same call goes further.
+ */
+size_t sedgepick_run_front(
+    double *points, size_t points_len,
+    const uint32_t *triangles, size_t triangles_len,
+    uint32_t *quads, size_t quads_len,
+    uint32_t *triangles_out, size_t triangles_out_len,
+    uint32_t *components, size_t components_len,
+    uint32_t *work, size_t work_len,
+    double *float_work, size_t float_work_len,
+    size_t given, size_t capacity, size_t count, size_t slots, double size, uint32_t stop,
+    size_t *answer, size_t answer_len);
+
+#ifdef __cplusplus
+}
+#endif
+
+#endif

@@ -1,0 +1,12 @@
+//! The patched module, the generated inputs and the forms of files, for the tools that hold the port against them.
+
+#![allow(dead_code)]
+
+pub mod account;
+pub mod call;
+pub mod generators;
+pub mod input;
+mod mesh;
+pub mod patched;
+pub mod random;
+pub mod text;
