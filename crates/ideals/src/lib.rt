@@ -79,7 +79,7 @@ fn half_close(u: Vec, v: Vec, every: bool, e: Vec) -> bool
     false
 }
 
-// The front edge from a to v, if it is one, gives an ideal that is near e.
+// The front edge from a to v, if it is one, gives an ideal that is near e. Its owners are sought around v: the walk is around a already.
 fn wanted_by(
     w: &[u32],
     q: &[f64],
@@ -101,7 +101,7 @@ fn wanted_by(
     if v == other {
         return false;
     }
-    if is_front(w, s, p, a, v) {
+    if is_front(w, s, p, v, a) {
         let d = from_to(q, a, v);
         let n = norm(d);
         if n <= TINY_LENGTH {
@@ -200,7 +200,7 @@ pub fn edge_candidate(
     if !edge_reach(n, target) {
         return false;
     }
-    if tri_owner(w, s, p, a, v) >= s {
+    if tri_owner(w, s, p, v, a) >= s {
         return false;
     }
     let u = from_to(q, a, other);

@@ -4,9 +4,11 @@ use native.Mathlib.Omega.{arith}
 use lib.Ieee.{Float}
 use Rattle.definition.specs.Floats.{_≼_, 1e-12, f64}
 use Rattle.definition.specs.Numbers.{base}
-use Rattle.definition.specs.Plane.{Vec, norm, over}
-use Rattle.definition.specs.Cells.{tri, new-live, key}
+use Rattle.definition.specs.Plane.{Edge, Vec, norm, over}
+use Rattle.definition.specs.Cells.{tri, new-live, key, tri-owner}
 use Rattle.definition.specs.Candidates.{toward}
+use Rattle.cells.specs.Walk.{slot-or}
+use Rattle.cells.proofs.Edges.{key-swap}
 use Rattle.cells.proofs.Slots.{owner-found, owner-none}
 use Rattle.plane.specs.Vectors.{vec}
 use Rattle.ideals.specs.Wanted.{turn, edge-reach, near-ideal}
@@ -71,7 +73,7 @@ tri-owner-requires c κs =
     let e1 = c .before .before .before .before .before in
     let t = e1 .before .before .before in
     let a = t .args in
-    ((t .pre .0, t .pre .1), record { node = omega (arith, t .pre .3 .node, t .pre .1 .points); apart = λ z. e1 .if1 .left (sym z) })
+    ((t .pre .0, t .pre .1), record { node = omega (arith, t .pre .4 .end, t .pre .1 .points); apart = e1 .if1 .left })
 
 returns-4 : tie.Need-returns-4
 returns-4 c =
@@ -85,7 +87,7 @@ returns-4 c =
     let t = e1 .before .before .before in
     let a = t .args in
     λ m r k y z. edge-bare (turn (a .left)) m (a .a) (a .other) (a .target) (a .v) (e1 .if1 .left) (e2 .if2 .left)
-    (owner-none (a .w .now) (a .s) (a .p) m r (key (a .a) (a .v)) (to .tri-owner .result) (to .tri-owner .ensures m r) (c .if4 .taken))
+    (owner-none (a .w .now) (a .s) (a .p) m r (key (a .a) (a .v)) (to .tri-owner .result) (to .tri-owner .ensures m r ∙ ap (λ (x : Edge). slot-or (a .s) (tri-owner m x)) (key-swap (a .v) (a .a))) (c .if4 .taken))
 
 from-to-requires-2 : tie.Need-from-to-requires-2
 from-to-requires-2 c κs =
@@ -149,7 +151,7 @@ returns-6 c =
     let n2 : nm2 .norm2 .result ≡ norm (toward m (a .a) (a .other)) = nm2 .norm2 .ensures ∙ ap norm d2 in
     let o : vec (ov .over .result) ≡ over (toward m (a .a) (a .other)) (norm (toward m (a .a) (a .other))) = ov .over .ensures ∙ ap (λ (x : Vec). over x (nm2 .norm2 .result)) d2 ∙ ap (over (toward m (a .a) (a .other))) n2 in
     let o2 : vec (ov2 .over2 .result) ≡ over (toward m (a .a) (a .v)) (norm (toward m (a .a) (a .v))) = ov2 .over2 .ensures ∙ ap (λ (x : Vec). over x (nm .norm .result)) d ∙ ap (over (toward m (a .a) (a .v))) n in
-    let f = owner-found (a .w .now) (a .s) (a .p) m r (key (a .a) (a .v)) (to .tri-owner .result) (to .tri-owner .ensures m r) (e4 .if4 .left) in
+    let f = owner-found (a .w .now) (a .s) (a .p) m r (key (a .a) (a .v)) (to .tri-owner .result) (to .tri-owner .ensures m r ∙ ap (λ (x : Edge). slot-or (a .s) (tri-owner m x)) (key-swap (a .v) (a .a))) (e4 .if4 .left) in
     edge-near (turn (a .left)) m (a .a) (a .other) (a .target) (a .v) (c .near-ideal .result) (new-live (to .tri-owner .result) (tri (f .t))) (e1 .if1 .left) (e2 .if2 .left)
     (was (er .edge-reach .result) (e3 .if3 .left) ∙ er .edge-reach .ensures ∙ ap (λ (x : Float). edge-reach x (a .target)) n) (f .is)
     (subst (λ (x : Float). (x ≼ base .tiny-length) ≡ false) n2 (e5 .if5 .left))

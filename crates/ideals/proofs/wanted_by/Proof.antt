@@ -7,7 +7,9 @@ use Rattle.definition.specs.Floats.{_≼_, 1e-12, f64}
 use Rattle.definition.specs.Lists.{any}
 use Rattle.definition.specs.Numbers.{base}
 use Rattle.definition.specs.Plane.{Vec, norm, over}
+use Rattle.definition.specs.Cells.{is-front}
 use Rattle.definition.specs.Candidates.{toward, halfway}
+use Rattle.cells.proofs.Edges.{key-swap}
 use Rattle.plane.specs.Vectors.{vec}
 use Rattle.ideals.specs.Wanted.{close}
 use Rattle.ideals.proofs.Halves.{by-same, by-other, by-inner, by-tiny, by-half, toward-read, within}
@@ -40,7 +42,7 @@ is-front-requires c κs =
     let e1 = c .before in
     let t = e1 .before .before .before in
     let a = t .args in
-    ((t .pre .0, t .pre .1), record { node = omega (arith, t .pre .3 .node, t .pre .1 .points); apart = λ z. e1 .if1 .left (sym z) })
+    ((t .pre .0, t .pre .1), record { node = omega (arith, t .pre .3 .end, t .pre .1 .points); apart = e1 .if1 .left })
 
 from-to-requires : tie.Need-from-to-requires
 from-to-requires c κs =
@@ -68,7 +70,7 @@ returns-3 c =
     λ m r k y.
     let d : vec (ft .from-to .result) ≡ toward m (a .a) (a .v) = toward-read (a .q .now) (a .p) m k (a .a) (a .v) y (vec (ft .from-to .result)) (ft .from-to .ensures) in
     let n : nm .norm .result ≡ norm (toward m (a .a) (a .v)) = nm .norm .ensures ∙ ap norm d in
-    by-tiny m (a .a) (a .other) (vec (a .u)) (a .every) (vec (a .e)) (a .v) (e1 .if1 .left) (e2 .if2 .left) (sym (is .is-front .ensures m r) ∙ t3 .if3 .taken) (subst (λ (x : Float). (x ≼ base .tiny-length) ≡ true) n (c .if4 .taken))
+    by-tiny m (a .a) (a .other) (vec (a .u)) (a .every) (vec (a .e)) (a .v) (e1 .if1 .left) (e2 .if2 .left) (ap (is-front m) (key-swap (a .a) (a .v)) ∙ sym (is .is-front .ensures m r) ∙ t3 .if3 .taken) (subst (λ (x : Float). (x ≼ base .tiny-length) ≡ true) n (c .if4 .taken))
 
 over-requires : tie.Need-over-requires
 over-requires c κs = search needs
@@ -93,7 +95,7 @@ returns-4 c =
     let d : vec (ft .from-to .result) ≡ toward m (a .a) (a .v) = toward-read (a .q .now) (a .p) m k (a .a) (a .v) y (vec (ft .from-to .result)) (ft .from-to .ensures) in
     let n : nm .norm .result ≡ norm (toward m (a .a) (a .v)) = nm .norm .ensures ∙ ap norm d in
     let o : vec (ov .over .result) ≡ over (toward m (a .a) (a .v)) (norm (toward m (a .a) (a .v))) = ov .over .ensures ∙ ap (λ (x : Vec). over x (nm .norm .result)) d ∙ ap (over (toward m (a .a) (a .v))) n in
-    by-half m (a .a) (a .other) (vec (a .u)) (a .every) (vec (a .e)) (a .v) (c .half-close .result) (e1 .if1 .left) (e2 .if2 .left) (sym (is .is-front .ensures m r) ∙ t3 .if3 .taken) (subst (λ (x : Float). (x ≼ base .tiny-length) ≡ false) n (e4 .if4 .left))
+    by-half m (a .a) (a .other) (vec (a .u)) (a .every) (vec (a .e)) (a .v) (c .half-close .result) (e1 .if1 .left) (e2 .if2 .left) (ap (is-front m) (key-swap (a .a) (a .v)) ∙ sym (is .is-front .ensures m r) ∙ t3 .if3 .taken) (subst (λ (x : Float). (x ≼ base .tiny-length) ≡ false) n (e4 .if4 .left))
     (c .half-close .ensures ∙ ap (λ (x : Vec). any (close (a .every) (vec (a .e))) (halfway base (vec (a .u)) x)) o)
 
 returns-5 : tie.Need-returns-5
@@ -103,7 +105,7 @@ returns-5 c =
     let e1 = e2 .before in
     let t = e1 .before .before .before in
     let a = t .args in
-    λ m r k y. by-inner m (a .a) (a .other) (vec (a .u)) (a .every) (vec (a .e)) (a .v) (e1 .if1 .left) (e2 .if2 .left) (sym (is .is-front .ensures m r) ∙ c .if3 .left)
+    λ m r k y. by-inner m (a .a) (a .other) (vec (a .u)) (a .every) (vec (a .e)) (a .v) (e1 .if1 .left) (e2 .if2 .left) (ap (is-front m) (key-swap (a .a) (a .v)) ∙ sym (is .is-front .ensures m r) ∙ c .if3 .left)
 
 pub wanted-by-spec : {M : Type 1} → statement M
 wanted-by-spec =
