@@ -7,6 +7,7 @@ mod compare;
 mod damage;
 mod files;
 mod generators;
+mod grids;
 mod input;
 mod large;
 mod mesh;
@@ -41,6 +42,7 @@ const USAGE: &str = "usage:
   call                                     answer the library's call on standard input
   calls SEED COUNT DIR                     write calls of the library with their answers
   meshes SEED TRIANGLES [DIR]              make large meshes, print their hashes
+  grids                                    the hashes that the crate `replay` holds
   compare SEED COUNT [--kind KIND] [--save DIR]
                                            run patched against published
   parts                                    both runs of the text on standard input, in short
@@ -111,6 +113,7 @@ fn command(words: &[&str]) -> Result<()> {
         ["run"] => run(),
         ["call"] => call(),
         ["parts"] => parts(),
+        ["grids"] => grids::print(),
         ["cases", seed, count, folder] => {
             files::cases(number(seed)?, number(count)?, Path::new(folder), None)
         }

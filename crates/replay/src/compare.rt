@@ -29,6 +29,7 @@ fn same(a: &[u8], n: usize, b: &[u8]) -> bool
 
 // 1 where the reply to the text is the answer, otherwise 0.
 pub fn agrees(text: &[u8], answer: &[u8]) -> u64
+    ensures { λ r. ⌜ r ≤ 1 ⌝ }
     ensures { λ r. ⌜ (r ≡ 1 → defined.reply (now (text .entry)) ≡ now (answer .entry)) ⌝ }
 {
     let mut out = [0u8; ROOM];

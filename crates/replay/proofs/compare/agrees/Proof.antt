@@ -19,10 +19,10 @@ same-requires : tie.Need-same-requires
 same-requires c κs = search needs
 
 returns : tie.Need-returns
-returns c = λ e. sym (c .before .before .before .before .reply .ensures .text) ∙ c .before .same .ensures (c .if1 .taken)
+returns c = (omega arith, λ e. sym (c .before .before .before .before .reply .ensures .text) ∙ c .before .same .ensures (c .if1 .taken))
 
 returns-2 : tie.Need-returns-2
-returns-2 c = λ e. absurd (omega arith)
+returns-2 c = (omega arith, λ e. absurd (omega arith))
 
 pub agrees-spec : {M : Type 1} → statement M
 agrees-spec = tie.close (tie.spec slice-aggregate-reply reply-requires slice-aggregate-same same-requires returns returns-2)

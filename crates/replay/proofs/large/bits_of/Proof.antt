@@ -1,0 +1,17 @@
+-- `large::bits_of`: a NaN differs from itself, and is given its pattern; any other float has its bits.
+use borrow.Author.Needs.{needs}
+use Rattle.writing.proofs.Shows.{of-nan, no-nan}
+use Rattle.replay.proofs.large.bits_of.Statement.{statement}
+use Rattle.replay.proofs.large.bits_of.Tie as tie
+
+returns : tie.Need-returns
+returns c = of-nan (c .before .args .x) (c .if1 .taken)
+
+float-to-bits-result : tie.Need-float-to-bits-result
+float-to-bits-result c = no-nan (c .before .args .x) (c .if1 .left)
+
+returns-2 : tie.Need-returns-2
+returns-2 c = search needs
+
+pub bits-of-spec : {M : Type 1} → statement M
+bits-of-spec = tie.close (tie.spec returns float-to-bits-result returns-2)

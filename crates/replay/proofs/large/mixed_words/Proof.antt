@@ -1,0 +1,86 @@
+-- `large::mixed_words`. Invariant: h is the hash of the first i words.
+use borrow.Author.Needs.{needs}
+use mathlib.Core.Path.{_≡_, ap, _∙_}
+use Prim.Native.Nat.{_-_, _≤_}
+use native.Mathlib.Omega.{arith}
+use lib.ListN.{length, take}
+use Rattle.replay.specs.Hash.{step, hash, word}
+use Rattle.replay.proofs.Hashes.{hash-none, hash-more, hash-done, hash-out}
+use Rattle.replay.proofs.large.mixed_words.Statement.{statement}
+use Rattle.replay.proofs.large.mixed_words.Tie as tie
+
+abbrev Inv-loop : tie.InvT-loop
+Inv-loop start words n h₀ i₀ h i = (i ≤ length words) × (i ≤ n) × (h ≡ hash word start (take i words))
+
+abbrev μ-loop : tie.MeasureT-loop
+μ-loop start words n h₀ i₀ h i = length words - i
+
+loop-holds : tie.Need-loop-holds Inv-loop μ-loop
+loop-holds c = (omega arith, omega arith, hash-none word (c .before .args .start) (c .before .args .words .now))
+
+returns : tie.Need-returns Inv-loop μ-loop
+returns c =
+    let l = c .before .before .loop in
+    let a = c .before .before .before .before .args in
+    hash-done word (a .start) (l .h) (a .words .now) (l .i) (a .n) (omega (arith, l .inv .1, c .if1 .taken)) (l .inv .2)
+
+mul-wide : tie.Need-mul-wide Inv-loop μ-loop
+mul-wide c = search needs
+
+shared-slice-read-wide : tie.Need-shared-slice-read-wide Inv-loop μ-loop
+shared-slice-read-wide c = search needs
+
+wide-requires : tie.Need-wide-requires Inv-loop μ-loop
+wide-requires c κs = search needs
+
+mixed-requires : tie.Need-mixed-requires Inv-loop μ-loop
+mixed-requires c κs = search needs
+
+add-i : tie.Need-add-i Inv-loop μ-loop
+add-i c = search needs
+
+loop-less : tie.Need-loop-less Inv-loop μ-loop
+loop-less c = search needs
+
+loop-again : tie.Need-loop-again Inv-loop μ-loop
+loop-again c =
+    let top = c .before .before .before .before .before in
+    let l = top .loop in
+    let a = top .before .before .args in (
+      omega arith,
+      omega arith,
+      hash-more
+          word
+          0
+          (a .start)
+          (l .h)
+          (c .mixed .result)
+          (a .words .now)
+          (l .i)
+          (omega arith)
+          (l .inv .2)
+          (c .mixed .ensures ∙ ap (step (l .h)) (c .before .wide .ensures)),
+    )
+
+returns-2 : tie.Need-returns-2 Inv-loop μ-loop
+returns-2 c =
+    let l = c .before .loop in
+    let a = c .before .before .before .args in
+    hash-out word (a .start) (l .h) (a .words .now) (l .i) (a .n) (omega arith) (omega (arith, l .inv .1)) (l .inv .2)
+
+pub mixed-words-spec : {M : Type 1} → statement M
+mixed-words-spec =
+    tie.close
+    (tie.spec
+    Inv-loop
+    μ-loop
+    loop-holds
+    returns
+    mul-wide
+    shared-slice-read-wide
+    wide-requires
+    mixed-requires
+    add-i
+    loop-less
+    loop-again
+    returns-2)

@@ -1,0 +1,40 @@
+-- `large::put_points`. Invariant: the length is kept.
+use borrow.Author.Needs.{needs}
+use mathlib.Core.Path.{_≡_, refl, _∙_}
+use Prim.Native.Nat.{_-_}
+use native.Mathlib.Omega.{arith}
+use lib.ListN.{length}
+use Rattle.replay.proofs.large.put_points.Statement.{statement}
+use Rattle.replay.proofs.large.put_points.Tie as tie
+
+abbrev Inv-loop : tie.InvT-loop
+Inv-loop points₀ n₀ points n = length points ≡ length points₀
+
+abbrev μ-loop : tie.MeasureT-loop
+μ-loop points₀ n₀ points n = 225 - n
+
+loop-holds : tie.Need-loop-holds Inv-loop μ-loop
+loop-holds c = refl
+
+put-node-requires : tie.Need-put-node-requires Inv-loop μ-loop
+put-node-requires c κs = omega (arith, c .before .before .loop .inv, c .before .before .before .before .pre)
+
+add-n : tie.Need-add-n Inv-loop μ-loop
+add-n c = search needs
+
+loop-less : tie.Need-loop-less Inv-loop μ-loop
+loop-less c = search needs
+
+loop-again : tie.Need-loop-again Inv-loop μ-loop
+loop-again c = c .before .before .put-node .ensures ∙ c .before .before .before .before .before .loop .inv
+
+same-length : tie.Need-same-length Inv-loop μ-loop
+same-length c = c .before .loop .inv
+
+returns : tie.Need-returns Inv-loop μ-loop
+returns c = c .before .loop .inv
+
+pub put-points-spec : {M : Type 1} → statement M
+put-points-spec =
+    tie.close
+    (tie.spec Inv-loop μ-loop loop-holds put-node-requires add-n loop-less loop-again same-length returns)

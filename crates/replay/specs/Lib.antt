@@ -1,0 +1,2 @@
+-- What the hash of a larger mesh is.
+pub mod Hash
