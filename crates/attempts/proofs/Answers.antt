@@ -19,7 +19,7 @@ use Rattle.cells.specs.declared.counters.Counters.{Counters}
 use Rattle.cells.proofs.Slots.{sizes}
 use Rattle.ideals.specs.Wanted.{turn}
 use Rattle.trials.specs.Kept.{Stands as StandsAt, Keeps as KeepsTrials}
-use Rattle.trials.specs.Pairs.{part, length-part, part-at, Named}
+use Rattle.trials.specs.Ranked.{part, length-part, part-at, Named}
 use Rattle.trials.specs.Nodes.{Sound, sound}
 use Rattle.trials.specs.declared.kept.Trials.{Trials}
 use Rattle.lending.specs.Ready.{Ready, Behind, Beyond, lent}

@@ -21,7 +21,8 @@ use Rattle.cells.specs.declared.counters.Counters.{Counters}
 use Rattle.cells.proofs.Edges.{key-up}
 use Rattle.cells.proofs.Slots.{Found, owner-found, owner-none, rep-held, read-tri}
 use Rattle.flips.specs.Nodes.{tri-read}
-use Rattle.flips.proofs.Flips.{tri-ok, tri-path}
+use Rattle.crossings.proofs.Tris.{tri-ok}
+use Rattle.flips.proofs.Flips.{tri-path}
 use Rattle.plane.specs.Points.{node-of}
 use Rattle.attempts.specs.Tries.{CanAttempt, Ends}
 use Rattle.attempts.proofs.Standing.{points-are}

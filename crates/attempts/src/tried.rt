@@ -20,7 +20,7 @@ use plane::vectors::from_to;
 use plane::vectors::length;
 use plane::vectors::norm;
 use plane::vectors::size_mismatch;
-use trials::pairs::best;
+use trials::ranked::best;
 ghost use mathlib.Core.Path.{_≡_};
 ghost use mathlib.Core.List.{List};
 ghost use Prim.Native.Nat.{ℕ, _<_};

@@ -40,7 +40,7 @@ pub record Spot (w : List ℕ) (s p n k i : ℕ) (m : Mesh) (rest : List Live) :
   pub inside : i < s
   pub next : Scan w s p n (k + 1) m more
 
-pub scan-here : (w : List ℕ) (s p n k i : ℕ) (m : Mesh) (rest : List Live) → Rep w s p m → Scan w s p n k m rest → k < n → i ≡ getD w (15 * s + 2 * p + k) 0 → Spot w s p n k i m rest
+pub scan-here : (w : List ℕ) (s p n k i : ℕ) (m : Mesh) (rest : List Live) → Rep w s p m → Scan w s p n k m rest → k < n → i ≡ getD w (21 * s + 3 * p + k) 0 → Spot w s p n k i m rest
 scan-here w s p n k i m [] r h l e = absurd (omega (arith, h .len))
 scan-here w s p n k i m (x ∷ more) r h l e =
     let z : i ≡ x .slot = e ∙ h .stored .0 in

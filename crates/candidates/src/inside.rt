@@ -119,7 +119,7 @@ pub fn segment_inside(
 {
     let mut k: usize = 0;
     while k < n {
-        if !open_cell(w, q, s, p, a, b, wide(w[15 * s + 2 * p + k])) {
+        if !open_cell(w, q, s, p, a, b, wide(w[21 * s + 3 * p + k])) {
             return false;
         }
         k += 1;
@@ -149,7 +149,7 @@ pub fn in_region(w: &[u32], q: &[f64], s: usize, p: usize, n: usize, v: usize) -
 {
     let mut k: usize = 0;
     while k < n {
-        if cell_has(w, s, p, wide(w[15 * s + 2 * p + k]), v) {
+        if cell_has(w, s, p, wide(w[21 * s + 3 * p + k]), v) {
             return true;
         }
         k += 1;

@@ -11,11 +11,13 @@ use borrow.Author.Tests.{ltb-true}
 use Rattle.rings.specs.Rings.{nx, Below, Out, Distinct, Kept, Family}
 use Rattle.rings.proofs.Rings.{on, off}
 use Rattle.rings.proofs.Families.{family-kept}
-use Rattle.definition.specs.Cells.{Cell, Live, Mesh, nodes}
-use Rattle.cells.specs.Layout.{nodes-at, rings-at, codes, mesh-end}
+use Rattle.definition.specs.Lists.{filter}
+use Rattle.definition.specs.Cells.{Cell, Live, Mesh, nodes, key, owns, owners}
+use Rattle.cells.specs.Layout.{nodes-at, rings-at, codes, notes-at, mesh-end}
 use Rattle.cells.specs.Rep.{CellAt, Held, Cells, corners, Room, Rep, slots}
 use Rattle.cells.specs.Walk.{From, Pos, Sought, nobody, somebody, At, Next, steps, left}
 use Rattle.cells.specs.Frames.{Under, Keeps}
+use Rattle.cells.proofs.Notes.{Spared, note-spared, SameAt, Grown, note-mesh}
 use Rattle.cells.proofs.Corners.{corners-below, node-count, cells-weaken}
 
 -- ---- the words below an offset
@@ -111,6 +113,7 @@ module _ (w w' : List ℕ) (s p : ℕ) (k : Under w w' (mesh-end s p)) where
         cells = cells-under w w' s (m .used) (length (m .points)) (m .live) (r .used) (under-less w w' (5 * s) (mesh-end s p) (omega arith) k) (r .cells);
         rings = family-kept w w' (rings-at s) (codes s p) (4 * s) (corners (m .live)) (k .len) (λ i a b. k .low i (omega arith)) (r .rings);
         dead = λ i h o. k .low i (omega arith) ∙ r .dead i h o;
+        notes = λ u h. note-spared w w' s p u (record { same = k .low (notes-at s p + u) (omega arith); more = λ us i a b. k .low i b }) m (r .notes u h);
       }
 
   held-under : (x : Live) → Held w s s p x → Held w' s s p x
@@ -159,16 +162,17 @@ module _ (w w' : List ℕ) (s p : ℕ) (k : Under w w' (mesh-end s p)) where
   pub at-under : (u v c : ℕ) (xs : List Live) → At w s p u v c xs → At w' s p u v c xs
   at-under u v c xs a = record { rest = a .rest; sought = sought-under u v c (a .rest) (a .sought); are = a .are }
 
--- the memory stands for another mesh with the same live cells, as many points or more and as many slots given out or more
-pub rep-as : (w : List ℕ) (s p : ℕ) (m m' : Mesh) → Rep w s p m → m .used ≤ m' .used → m' .used ≤ s → length (m .points) ≤ length (m' .points) → length (m' .points) ≤ p
-    → m .live ≡ m' .live → Rep w s p m'
+-- the memory stands for another mesh with the same live cells, the same points and maybe more, and as many slots given out or more
+pub rep-as : (w : List ℕ) (s p : ℕ) (m m' : Mesh) → Rep w s p m → m .used ≤ m' .used → m' .used ≤ s → Grown m m' → length (m' .points) ≤ p → m .live ≡ m' .live → Rep w s p m'
+unfolding owners
 rep-as w s p m m' r a b c d e =
     record {
       room = r .room;
       used = b;
       points = d;
       distinct = subst (λ (l : List Live). Distinct (slots l)) e (r .distinct);
-      cells = subst (λ (l : List Live). Cells w s (m' .used) (length (m' .points)) l) e (cells-weaken w s (m .used) (m' .used) (length (m .points)) (length (m' .points)) (m .live) a c (r .cells));
+      cells = subst (λ (l : List Live). Cells w s (m' .used) (length (m' .points)) l) e (cells-weaken w s (m .used) (m' .used) (length (m .points)) (length (m' .points)) (m .live) a (c .more) (r .cells));
       rings = subst (λ (l : List Live). Family w (rings-at s) (codes s p) (4 * s) (corners l)) e (r .rings);
       dead = λ i h o. r .dead i h (subst (λ (l : List Live). Out i (slots l)) (sym e) o);
+      notes = λ u h. note-mesh m m' u (λ v q. ap (filter (owns (key u v))) (sym e)) c w s p (r .notes u h);
     }

@@ -59,6 +59,10 @@ any-none f (y ∷ l) h = go (f y) refl (any-none f l)
     go true e r = let z : _≡_ {A = ℕ} (suc (length (filter f l))) 0 = ap length (sym (filter-hit f y l e) ∙ h) in absurd (omega arith)
     go false e r = rw e (r (sym (filter-miss f y l e) ∙ h))
 
+no-both : (b : Bool) → false ≡ (b && false)
+no-both true = refl
+no-both false = refl
+
 -- `all` owners and `t` triangles among them were passed; the corner c is the next owner's
 pub record Counted (w : List ℕ) (s p u v all t c : ℕ) (m : Mesh) : Type 0 where
   pub xs : List Live
@@ -76,14 +80,19 @@ module _ (w : List ℕ) (s p u v c : ℕ) (m : Mesh) where
   pub counted-start : At w s p u v c (owners m (key u v)) → Counted w s p u v 0 0 c m
   counted-start h = record { xs = owners m (key u v); at = h; sum = omega arith; tris = omega arith }
 
+  -- the triangles to come: that of c, if it is one, and those after it
+  tris-here : c < 4 * s → (x : ℕ) → x ≡ one-if (eqb (getD w (c / 4) 0) 3) → (xs : List Live) (g : Here w s p c xs)
+      → length (filter live-tri xs) ≡ x + length (filter live-tri (g .more))
+  tris-here h x e xs g =
+      let z : eqb (getD w (c / 4) 0) 3 ≡ live-tri (g .x) = ap (λ (i : ℕ). eqb (getD w i 0) 3) (g .slot) ∙ held-tri w s s p (g .x) (g .held) in
+      ap (λ (l : List Live). length (filter live-tri l)) (g .is) ∙ tri-more (g .x) (g .more) ∙ ap (λ (y : ℕ). y + length (filter live-tri (g .more))) (ap one-if (sym z) ∙ sym e)
+
   pub counted-more : (all t r x : ℕ) → c < 4 * s → x ≡ one-if (eqb (getD w (c / 4) 0) 3) → Counted w s p u v all t c m → Next w s p u v c r
       → Counted w s p u v (all + 1) (t + x) r m
   counted-more all t r x h e k f =
       let g = at-here w s p u v c (k .xs) (k .at) h in
       let n : length (k .xs) ≡ suc (length (g .more)) = ap length (g .is) in
-      let z : eqb (getD w (c / 4) 0) 3 ≡ live-tri (g .x) = ap (λ (i : ℕ). eqb (getD w i 0) 3) (g .slot) ∙ held-tri w s s p (g .x) (g .held) in
-      let q : length (filter live-tri (k .xs)) ≡ x + length (filter live-tri (g .more)) =
-      ap (λ (l : List Live). length (filter live-tri l)) (g .is) ∙ tri-more (g .x) (g .more) ∙ ap (λ (y : ℕ). y + length (filter live-tri (g .more))) (ap one-if (sym z) ∙ sym e) in
+      let q = tris-here h x e (k .xs) g in
       record {
         xs = g .more;
         at = f .at (g .x) (g .more) (subst (λ (l : List Live). At w s p u v c l) (g .is) (k .at));
@@ -97,6 +106,14 @@ module _ (w : List ℕ) (s p u v c : ℕ) (m : Mesh) where
       let g = at-here w s p u v c (k .xs) (k .at) h in
       let n : length (k .xs) ≡ suc (length (g .more)) = ap length (g .is) in
       rw (lt-leb (length (owners m (key u v))) 2 (omega (arith, k .sum)))
+
+  -- a second triangle is seen at c
+  pub front-twice : (all t x : ℕ) → t + x ≡ 2 → c < 4 * s → x ≡ one-if (eqb (getD w (c / 4) 0) 3) → Counted w s p u v all t c m → false ≡ is-front m (key u v)
+  unfolding is-front front-owners
+  front-twice all t x a h e k =
+      let g = at-here w s p u v c (k .xs) (k .at) h in
+      let q = tris-here h x e (k .xs) g in
+      rw (ne-eqb (length (filter live-tri (owners m (key u v)))) 1 (omega (arith, k .tris))) (no-both (leb (length (owners m (key u v))) 2))
 
   pub front-end : (all t : ℕ) → all ≤ 2 → 4 * s ≤ c → Counted w s p u v all t c m → eqb t 1 ≡ is-front m (key u v)
   unfolding is-front front-owners filter

@@ -5,6 +5,7 @@ pub mod Views
 pub mod Walks
 pub mod Owners
 pub mod Fronts
+pub mod Notes
 pub mod Frames
 pub mod Clears
 pub mod Slots

@@ -7,13 +7,13 @@ use mathlib.Core.Option.{Option, none, some}
 use Prim.Native.Nat.{ℕ, zero, suc, _+_, _-_, _*_, _≤_, _<_}
 use native.Mathlib.Omega.{arith}
 use lib.Dec.{eqb}
-use lib.ListN.{length, getD, length-append}
+use lib.ListN.{length, getD, length-append, List·getD-append}
 use borrow.Author.Tests.{eq-eqb, ne-eqb}
 use Rattle.rings.specs.Rings.{Out, Distinct}
 use Rattle.rings.proofs.Lists.{Same, same, differ, decide}
-use Rattle.definition.specs.Plane.{Node, Edge}
+use Rattle.definition.specs.Plane.{Node, Edge, point}
 use Rattle.definition.specs.Lists.{filter, find, first}
-use Rattle.definition.specs.Cells.{Tri, Quad, Cell, tri, quad, Live, Mesh, nodes, tri-nodes, quad-nodes, new-live, is-tri, live-tri, in-slot, cell-of, owns, owners, tri-owners, tri-owner}
+use Rattle.definition.specs.Cells.{Tri, Quad, Cell, tri, quad, Live, Mesh, node-at, nodes, tri-nodes, quad-nodes, new-live, is-tri, live-tri, in-slot, cell-of, owns, owners, tri-owners, tri-owner}
 use Rattle.definition.specs.Insertion.{with-point}
 use Rattle.cells.specs.Layout.{Sizes}
 use Rattle.cells.specs.Rep.{Shape, CellAt, Held, slots, Has, here, there, Room, Rep, TriIn, QuadIn}
@@ -154,10 +154,10 @@ module _ (w : List ℕ) (s p : ℕ) (m : Mesh) (r : Rep w s p m) where
 
   -- a point more
   pub rep-point : (x : Node) → length (m .points) < p → Rep w s p (with-point m x)
-  unfolding with-point
+  unfolding with-point node-at point
   rep-point x h =
       let e : length (m .points ++ (x ∷ [])) ≡ length (m .points) + 1 = length-append (m .points) (x ∷ []) in
-      rep-as w s p m (with-point m x) r (omega arith) (r .used) (omega arith) (omega arith) refl
+      rep-as w s p m (with-point m x) r (omega arith) (r .used) (record { more = omega arith; same = λ v l. List·getD-append (m .points) (x ∷ []) _ v l }) (omega arith) refl
 
   -- ---- the answer of tri_owner
 

@@ -28,107 +28,115 @@ rings-at s = 5 * s
 abbrev pub codes : ℕ → ℕ → ℕ
 codes s p = 4 * s + p
 
+-- a note for each point: what is known of its front edges and of its neighbours
+abbrev pub notes-at : ℕ → ℕ → ℕ
+notes-at s p = 13 * s + 2 * p
+
+-- for a point below s two other ends of front edges
+abbrev pub fronts-at : ℕ → ℕ → ℕ
+fronts-at s p = 13 * s + 3 * p
+
+-- and four nodes that bound it and its neighbours: left, right, below, above
+abbrev pub boxes-at : ℕ → ℕ → ℕ
+boxes-at s p = 15 * s + 3 * p
+
 -- the end of the mesh's own areas
 abbrev pub mesh-end : ℕ → ℕ → ℕ
-mesh-end s p = 13 * s + 2 * p
+mesh-end s p = 19 * s + 3 * p
 
 -- ---- marks and lists
 
 -- a mark for each slot
 abbrev pub marks-at : ℕ → ℕ → ℕ
-marks-at s p = 13 * s + 2 * p
+marks-at s p = 19 * s + 3 * p
 
 -- another
 abbrev pub others-at : ℕ → ℕ → ℕ
-others-at s p = 14 * s + 2 * p
+others-at s p = 20 * s + 3 * p
 
 -- the region in hand: a list of slots
 abbrev pub list-at : ℕ → ℕ → ℕ
-list-at s p = 15 * s + 2 * p
+list-at s p = 21 * s + 3 * p
 
 -- ---- refused edges, three a slot: other node, birth, next record of the same node
 
 -- other node
 abbrev pub refused-at : ℕ → ℕ → ℕ
-refused-at s p = 16 * s + 2 * p
+refused-at s p = 22 * s + 3 * p
 
 -- how many quads there were when the edge was refused
 abbrev pub birth-at : ℕ → ℕ → ℕ
-birth-at s p = 19 * s + 2 * p
+birth-at s p = 25 * s + 3 * p
 
 -- next record
 abbrev pub after-at : ℕ → ℕ → ℕ
-after-at s p = 22 * s + 2 * p
+after-at s p = 28 * s + 3 * p
 
 -- the first record of each point
 abbrev pub first-at : ℕ → ℕ → ℕ
-first-at s p = 25 * s + 2 * p
+first-at s p = 31 * s + 3 * p
 
 -- how many quads there were when one last touched the point
 abbrev pub touched-at : ℕ → ℕ → ℕ
-touched-at s p = 25 * s + 3 * p
+touched-at s p = 31 * s + 4 * p
 
 -- ---- front edges, three a slot, and their loops
 
 -- first node
 abbrev pub front-u-at : ℕ → ℕ → ℕ
-front-u-at s p = 25 * s + 4 * p
+front-u-at s p = 31 * s + 5 * p
 
 -- second node
 abbrev pub front-v-at : ℕ → ℕ → ℕ
-front-v-at s p = 28 * s + 4 * p
+front-v-at s p = 34 * s + 5 * p
 
 -- lists of the front edges at each node: two links an edge
 abbrev pub front-links-at : ℕ → ℕ → ℕ
-front-links-at s p = 31 * s + 4 * p
+front-links-at s p = 37 * s + 5 * p
 
 -- the edge is in a loop already
 abbrev pub front-used-at : ℕ → ℕ → ℕ
-front-used-at s p = 37 * s + 4 * p
+front-used-at s p = 43 * s + 5 * p
 
 -- the edges loop after loop
 abbrev pub order-at : ℕ → ℕ → ℕ
-order-at s p = 40 * s + 4 * p
+order-at s p = 46 * s + 5 * p
 
 -- where each loop starts
 abbrev pub starts-at : ℕ → ℕ → ℕ
-starts-at s p = 43 * s + 4 * p
+starts-at s p = 49 * s + 5 * p
 
 -- the loop's turn is over
 abbrev pub done-at : ℕ → ℕ → ℕ
-done-at s p = 46 * s + 4 * p
+done-at s p = 52 * s + 5 * p
 
 -- the edge was tried
 abbrev pub tried-at : ℕ → ℕ → ℕ
-tried-at s p = 49 * s + 4 * p
+tried-at s p = 55 * s + 5 * p
 
 -- ---- by point
 
 -- the first front edge of each point, and at other times a mark for each point
 abbrev pub heads-at : ℕ → ℕ → ℕ
-heads-at s p = 52 * s + 4 * p
+heads-at s p = 58 * s + 5 * p
 
 -- candidates at the first end of an edge
 abbrev pub near-at : ℕ → ℕ → ℕ
-near-at s p = 52 * s + 5 * p
+near-at s p = 58 * s + 6 * p
 
 -- and at the second
 abbrev pub far-at : ℕ → ℕ → ℕ
-far-at s p = 52 * s + 6 * p
-
--- bucket of each point, both axes in one word
-abbrev pub buckets-at : ℕ → ℕ → ℕ
-buckets-at s p = 52 * s + 7 * p
+far-at s p = 58 * s + 7 * p
 
 -- ---- the stack of `live_region`, last: a ring of the s slots with one sentinel, s; without a slot there is no run to need it
 
 -- its 2 s + 2 words
 abbrev pub stack-at : ℕ → ℕ → ℕ
-stack-at s p = 52 * s + 8 * p
+stack-at s p = 58 * s + 8 * p
 
 -- the end of all areas
 abbrev pub all-end : ℕ → ℕ → ℕ
-all-end s p = 54 * s + 8 * p + 2
+all-end s p = 60 * s + 8 * p + 2
 
 -- ---- the f64 work slice
 
@@ -159,11 +167,12 @@ Row a (x ∷ l) z = (a ≡ x .from) × Row (a + x .size) l z
 abbrev pub areas : ℕ → ℕ → List Area
 areas s p =
     area (kinds-at s p) s ∷ area (nodes-at s) (4 * s) ∷ area (rings-at s) (codes s p + codes s p)
+    ∷ area (notes-at s p) p ∷ area (fronts-at s p) (2 * s) ∷ area (boxes-at s p) (4 * s)
     ∷ area (marks-at s p) s ∷ area (others-at s p) s ∷ area (list-at s p) s
     ∷ area (refused-at s p) (3 * s) ∷ area (birth-at s p) (3 * s) ∷ area (after-at s p) (3 * s) ∷ area (first-at s p) p ∷ area (touched-at s p) p
     ∷ area (front-u-at s p) (3 * s) ∷ area (front-v-at s p) (3 * s) ∷ area (front-links-at s p) (6 * s) ∷ area (front-used-at s p) (3 * s)
     ∷ area (order-at s p) (3 * s) ∷ area (starts-at s p) (3 * s) ∷ area (done-at s p) (3 * s) ∷ area (tried-at s p) (3 * s)
-    ∷ area (heads-at s p) p ∷ area (near-at s p) p ∷ area (far-at s p) p ∷ area (buckets-at s p) p
+    ∷ area (heads-at s p) p ∷ area (near-at s p) p ∷ area (far-at s p) p
     ∷ area (stack-at s p) (2 * s + 2) ∷ []
 
 -- the areas of the work slice are apart

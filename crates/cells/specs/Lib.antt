@@ -1,4 +1,5 @@
 pub mod Layout
+pub mod Notes
 pub mod Rep
 pub mod Walk
 pub mod Frames

@@ -11,6 +11,7 @@ use Rattle.definition.specs.Plane.{Node}
 use Rattle.definition.specs.Cells.{Tri, Quad, Cell, tri, quad, Live, Mesh, nodes, new-live}
 use Rattle.definition.specs.Call.{first-points}
 use Rattle.cells.specs.Layout.{nodes-at, rings-at, codes}
+use Rattle.cells.specs.Notes.{NoteAt}
 
 -- ---- a cell
 
@@ -69,7 +70,7 @@ pub record Room (w : List ℕ) (s p : ℕ) : Type 0 where
   pub small : codes s p ≤ 2 ^ 32
 
 -- Live slots are distinct and were given out; each live cell is stored, its nodes distinct and among the points; the ring of v has its corners in the order
--- of the live cells; a slot that is not live has kind 0.
+-- of the live cells; a slot that is not live has kind 0; every note is true.
 pub record Rep (w : List ℕ) (s p : ℕ) (m : Mesh) : Type 0 where
   pub room : Room w s p
   pub used : m .used ≤ s
@@ -78,6 +79,7 @@ pub record Rep (w : List ℕ) (s p : ℕ) (m : Mesh) : Type 0 where
   pub cells : Cells w s (m .used) (length (m .points)) (m .live)
   pub rings : Family w (rings-at s) (codes s p) (4 * s) (corners (m .live))
   pub dead : (i : ℕ) → i < s → Out i (slots (m .live)) → getD w i 0 ≡ 0
+  pub notes : (u : ℕ) → u < p → NoteAt w s p m u
 
 -- slot i holds the triangle t
 pub record TriIn (m : Mesh) (i : ℕ) : Type 0 where

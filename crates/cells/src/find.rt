@@ -1,6 +1,8 @@
-// Owners of an edge, found by walking the ring of corners of one of its nodes.
+// Owners of an edge, found by walking the ring of corners of one of its nodes; of a front edge a note may tell.
 use crate::layout::BEFORE;
 use crate::layout::CORNERS;
+use crate::layout::fronts_at;
+use crate::layout::notes_at;
 use rings::next;
 use rings::wide;
 ghost use mathlib.Core.Path.{_≡_};
@@ -10,6 +12,7 @@ ghost use lib.Dec.{eqb};
 ghost use lib.ListN.{length, getD};
 ghost use Rattle.definition.specs.Cells.{Live, Mesh, key, owners, is-front, has-edge, tri-owner};
 ghost use Rattle.cells.specs.Rep.{Rep};
+ghost use Rattle.cells.specs.Notes.{IsNoted};
 ghost use Rattle.cells.specs.Walk.{node-in, node-after, node-before, after, before, beside, CanSee, CanRead, IsEdge, Pos, Sought, At, Next, one-if, slot-or};
 
 // The kind of the cell in slot i: 3 a triangle, 4 a quad, 0 none.
@@ -144,8 +147,8 @@ fn tri_count(w: &[u32], s: usize, i: usize) -> usize
     0
 }
 
-// The edge u-v has one or two owners, exactly one of them a triangle.
-pub fn is_front(w: &[u32], s: usize, p: usize, u: usize, v: usize) -> bool
+// The edge u-v has one or two owners, exactly one of them a triangle: found by a walk.
+fn front_by_walk(w: &[u32], s: usize, p: usize, u: usize, v: usize) -> bool
     requires { ⌜ ((m : Mesh) × Rep (now w) s p m) ⌝ }
     requires { ⌜ IsEdge p u v ⌝ }
     ensures { λ r. ⌜ ((m : Mesh) → Rep (now (w .entry)) s p m → r ≡ is-front m (key u v)) ⌝ }
@@ -159,9 +162,58 @@ pub fn is_front(w: &[u32], s: usize, p: usize, u: usize, v: usize) -> bool
         }
         all += 1;
         tri += tri_count(w, s, c / CORNERS);
+        if tri == 2 {
+            return false;
+        }
         c = next_owner(w, s, p, u, v, c);
     }
     tri == 1
+}
+
+// The same for u below v where the front edges of u are noted: v is one of the noted ends, of which there are known - 1.
+fn front_by_note(w: &[u32], s: usize, p: usize, u: usize, v: usize, known: usize) -> bool
+    requires { ⌜ ((m : Mesh) × Rep (now w) s p m) ⌝ }
+    requires { ⌜ IsEdge p u v ⌝ }
+    requires { ⌜ IsNoted (now w) s p u v known ⌝ }
+    ensures { λ r. ⌜ ((m : Mesh) → Rep (now (w .entry)) s p m → r ≡ is-front m (key u v)) ⌝ }
+{
+    if known == 1 {
+        return false;
+    }
+    let at = fronts_at(s, p) + 2 * u;
+    if wide(w[at]) == v {
+        return true;
+    }
+    if known == 2 {
+        return false;
+    }
+    wide(w[at + 1]) == v
+}
+
+// The same for u below v: by the note of u, and by a walk where its front edges are not noted.
+fn front_from(w: &[u32], s: usize, p: usize, u: usize, v: usize) -> bool
+    requires { ⌜ ((m : Mesh) × Rep (now w) s p m) ⌝ }
+    requires { ⌜ IsEdge p u v ⌝ }
+    requires { ⌜ u < v ⌝ }
+    ensures { λ r. ⌜ ((m : Mesh) → Rep (now (w .entry)) s p m → r ≡ is-front m (key u v)) ⌝ }
+{
+    let known = wide(w[notes_at(s, p) + u]) % 4;
+    if known == 0 {
+        return front_by_walk(w, s, p, u, v);
+    }
+    front_by_note(w, s, p, u, v, known)
+}
+
+// The edge u-v has one or two owners, exactly one of them a triangle.
+pub fn is_front(w: &[u32], s: usize, p: usize, u: usize, v: usize) -> bool
+    requires { ⌜ ((m : Mesh) × Rep (now w) s p m) ⌝ }
+    requires { ⌜ IsEdge p u v ⌝ }
+    ensures { λ r. ⌜ ((m : Mesh) → Rep (now (w .entry)) s p m → r ≡ is-front m (key u v)) ⌝ }
+{
+    if u < v {
+        return front_from(w, s, p, u, v);
+    }
+    front_from(w, s, p, v, u)
 }
 
 // The slot of the first triangle that has the edge u-v; s: there is none.

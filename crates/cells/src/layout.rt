@@ -1,6 +1,6 @@
 // Where each area of the work slice stands, for s slots and p points of capacity; the mesh's own areas come first.
 ghost use mathlib.Core.Path.{_≡_};
-ghost use Rattle.cells.specs.Layout.{Sizes, marks-at, others-at, list-at, refused-at, birth-at, after-at, first-at, touched-at, front-u-at, front-v-at, front-links-at, front-used-at, order-at, starts-at, done-at, tried-at, heads-at, near-at, far-at, buckets-at, stack-at};
+ghost use Rattle.cells.specs.Layout.{Sizes, notes-at, fronts-at, boxes-at, mesh-end, marks-at, others-at, list-at, refused-at, birth-at, after-at, first-at, touched-at, front-u-at, front-v-at, front-links-at, front-used-at, order-at, starts-at, done-at, tried-at, heads-at, near-at, far-at, stack-at};
 
 // Corners of a slot: corner k of slot i has the code CORNERS * i + k, and its node stands behind the kinds at that place.
 pub const CORNERS: usize = 4;
@@ -8,12 +8,44 @@ pub const CORNERS: usize = 4;
 // Words a slot before the rings of corners: the kind and the nodes.
 pub const BEFORE: usize = 5;
 
+// A note for each point: what is known of its front edges and of its neighbours.
+pub fn notes_at(s: usize, p: usize) -> usize
+    requires { ⌜ Sizes s p ⌝ }
+    ensures { λ r. ⌜ r ≡ notes-at s p ⌝ }
+{
+    13 * s + 2 * p
+}
+
+// For a point below s two other ends of front edges.
+pub fn fronts_at(s: usize, p: usize) -> usize
+    requires { ⌜ Sizes s p ⌝ }
+    ensures { λ r. ⌜ r ≡ fronts-at s p ⌝ }
+{
+    13 * s + 3 * p
+}
+
+// And four nodes that bound it and its neighbours: left, right, below, above.
+pub fn boxes_at(s: usize, p: usize) -> usize
+    requires { ⌜ Sizes s p ⌝ }
+    ensures { λ r. ⌜ r ≡ boxes-at s p ⌝ }
+{
+    15 * s + 3 * p
+}
+
+// The end of the mesh's own areas.
+pub fn mesh_end(s: usize, p: usize) -> usize
+    requires { ⌜ Sizes s p ⌝ }
+    ensures { λ r. ⌜ r ≡ mesh-end s p ⌝ }
+{
+    19 * s + 3 * p
+}
+
 // A mark for each slot.
 pub fn marks_at(s: usize, p: usize) -> usize
     requires { ⌜ Sizes s p ⌝ }
     ensures { λ r. ⌜ r ≡ marks-at s p ⌝ }
 {
-    13 * s + 2 * p
+    19 * s + 3 * p
 }
 
 // Another.
@@ -21,7 +53,7 @@ pub fn others_at(s: usize, p: usize) -> usize
     requires { ⌜ Sizes s p ⌝ }
     ensures { λ r. ⌜ r ≡ others-at s p ⌝ }
 {
-    14 * s + 2 * p
+    20 * s + 3 * p
 }
 
 // The region in hand: a list of slots.
@@ -29,7 +61,7 @@ pub fn list_at(s: usize, p: usize) -> usize
     requires { ⌜ Sizes s p ⌝ }
     ensures { λ r. ⌜ r ≡ list-at s p ⌝ }
 {
-    15 * s + 2 * p
+    21 * s + 3 * p
 }
 
 // Other node.
@@ -37,7 +69,7 @@ pub fn refused_at(s: usize, p: usize) -> usize
     requires { ⌜ Sizes s p ⌝ }
     ensures { λ r. ⌜ r ≡ refused-at s p ⌝ }
 {
-    16 * s + 2 * p
+    22 * s + 3 * p
 }
 
 // How many quads there were when the edge was refused.
@@ -45,7 +77,7 @@ pub fn birth_at(s: usize, p: usize) -> usize
     requires { ⌜ Sizes s p ⌝ }
     ensures { λ r. ⌜ r ≡ birth-at s p ⌝ }
 {
-    19 * s + 2 * p
+    25 * s + 3 * p
 }
 
 // Next record.
@@ -53,7 +85,7 @@ pub fn after_at(s: usize, p: usize) -> usize
     requires { ⌜ Sizes s p ⌝ }
     ensures { λ r. ⌜ r ≡ after-at s p ⌝ }
 {
-    22 * s + 2 * p
+    28 * s + 3 * p
 }
 
 // The first record of each point.
@@ -61,7 +93,7 @@ pub fn first_at(s: usize, p: usize) -> usize
     requires { ⌜ Sizes s p ⌝ }
     ensures { λ r. ⌜ r ≡ first-at s p ⌝ }
 {
-    25 * s + 2 * p
+    31 * s + 3 * p
 }
 
 // How many quads there were when one last touched the point.
@@ -69,7 +101,7 @@ pub fn touched_at(s: usize, p: usize) -> usize
     requires { ⌜ Sizes s p ⌝ }
     ensures { λ r. ⌜ r ≡ touched-at s p ⌝ }
 {
-    25 * s + 3 * p
+    31 * s + 4 * p
 }
 
 // First node.
@@ -77,7 +109,7 @@ pub fn front_u_at(s: usize, p: usize) -> usize
     requires { ⌜ Sizes s p ⌝ }
     ensures { λ r. ⌜ r ≡ front-u-at s p ⌝ }
 {
-    25 * s + 4 * p
+    31 * s + 5 * p
 }
 
 // Second node.
@@ -85,7 +117,7 @@ pub fn front_v_at(s: usize, p: usize) -> usize
     requires { ⌜ Sizes s p ⌝ }
     ensures { λ r. ⌜ r ≡ front-v-at s p ⌝ }
 {
-    28 * s + 4 * p
+    34 * s + 5 * p
 }
 
 // Lists of the front edges at each node: two links an edge.
@@ -93,7 +125,7 @@ pub fn front_links_at(s: usize, p: usize) -> usize
     requires { ⌜ Sizes s p ⌝ }
     ensures { λ r. ⌜ r ≡ front-links-at s p ⌝ }
 {
-    31 * s + 4 * p
+    37 * s + 5 * p
 }
 
 // The edge is in a loop already.
@@ -101,7 +133,7 @@ pub fn front_used_at(s: usize, p: usize) -> usize
     requires { ⌜ Sizes s p ⌝ }
     ensures { λ r. ⌜ r ≡ front-used-at s p ⌝ }
 {
-    37 * s + 4 * p
+    43 * s + 5 * p
 }
 
 // The edges loop after loop.
@@ -109,7 +141,7 @@ pub fn order_at(s: usize, p: usize) -> usize
     requires { ⌜ Sizes s p ⌝ }
     ensures { λ r. ⌜ r ≡ order-at s p ⌝ }
 {
-    40 * s + 4 * p
+    46 * s + 5 * p
 }
 
 // Where each loop starts.
@@ -117,7 +149,7 @@ pub fn starts_at(s: usize, p: usize) -> usize
     requires { ⌜ Sizes s p ⌝ }
     ensures { λ r. ⌜ r ≡ starts-at s p ⌝ }
 {
-    43 * s + 4 * p
+    49 * s + 5 * p
 }
 
 // The loop's turn is over.
@@ -125,7 +157,7 @@ pub fn done_at(s: usize, p: usize) -> usize
     requires { ⌜ Sizes s p ⌝ }
     ensures { λ r. ⌜ r ≡ done-at s p ⌝ }
 {
-    46 * s + 4 * p
+    52 * s + 5 * p
 }
 
 // The edge was tried.
@@ -133,7 +165,7 @@ pub fn tried_at(s: usize, p: usize) -> usize
     requires { ⌜ Sizes s p ⌝ }
     ensures { λ r. ⌜ r ≡ tried-at s p ⌝ }
 {
-    49 * s + 4 * p
+    55 * s + 5 * p
 }
 
 // The first front edge of each point, and at other times a mark for each point.
@@ -141,7 +173,7 @@ pub fn heads_at(s: usize, p: usize) -> usize
     requires { ⌜ Sizes s p ⌝ }
     ensures { λ r. ⌜ r ≡ heads-at s p ⌝ }
 {
-    52 * s + 4 * p
+    58 * s + 5 * p
 }
 
 // Candidates at the first end of an edge.
@@ -149,7 +181,7 @@ pub fn near_at(s: usize, p: usize) -> usize
     requires { ⌜ Sizes s p ⌝ }
     ensures { λ r. ⌜ r ≡ near-at s p ⌝ }
 {
-    52 * s + 5 * p
+    58 * s + 6 * p
 }
 
 // And at the second.
@@ -157,15 +189,7 @@ pub fn far_at(s: usize, p: usize) -> usize
     requires { ⌜ Sizes s p ⌝ }
     ensures { λ r. ⌜ r ≡ far-at s p ⌝ }
 {
-    52 * s + 6 * p
-}
-
-// Bucket of each point, both axes in one word.
-pub fn buckets_at(s: usize, p: usize) -> usize
-    requires { ⌜ Sizes s p ⌝ }
-    ensures { λ r. ⌜ r ≡ buckets-at s p ⌝ }
-{
-    52 * s + 7 * p
+    58 * s + 7 * p
 }
 
 // Its 2 s + 2 words.
@@ -173,5 +197,5 @@ pub fn stack_at(s: usize, p: usize) -> usize
     requires { ⌜ Sizes s p ⌝ }
     ensures { λ r. ⌜ r ≡ stack-at s p ⌝ }
 {
-    52 * s + 8 * p
+    58 * s + 8 * p
 }

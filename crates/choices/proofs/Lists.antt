@@ -12,7 +12,7 @@ use Rattle.rings.specs.Rings.{Below}
 use Rattle.rings.proofs.Rings.{on, off}
 use Rattle.definition.specs.Lists.{filter, numbers, below}
 use Rattle.definition.specs.Cells.{Live, Mesh}
-use Rattle.cells.specs.Layout.{mesh-end, list-at, near-at, buckets-at}
+use Rattle.cells.specs.Layout.{mesh-end, list-at, near-at, stack-at}
 use Rattle.cells.specs.Rep.{slots}
 use Rattle.cells.specs.Frames.{Under}
 use Rattle.cells.proofs.Corners.{below-at}
@@ -169,7 +169,7 @@ chosen-to w w1 w2 q s p used n at a other seed k r m g cs c h z =
     let np : n ≤ p = omega (arith, c .count, c .lent .rep .points) in
     let f : 64 * s + 8 * p ≤ length w = c .lent .rep .room .fits in
     let lo : near-at s p ≤ at = c .from in
-    let hi : at + p ≤ buckets-at s p = c .to in
+    let hi : at + p ≤ stack-at s p = c .to in
     let fw : r ≤ n = z .few in
     record {
       len = rn;

@@ -12,7 +12,7 @@ use Rattle.definition.specs.Root.{sqrt}
 use Rattle.definition.specs.Plane.{Vec}
 use Rattle.definition.specs.Cells.{Live, Mesh}
 use Rattle.definition.specs.Candidates.{walls, side-candidate}
-use Rattle.cells.specs.Layout.{marks-at, refused-at, near-at, buckets-at, stack-at}
+use Rattle.cells.specs.Layout.{marks-at, refused-at, near-at, stack-at}
 use Rattle.cells.specs.Walk.{one-if}
 use Rattle.lives.specs.Stack.{Lent, Stored}
 use Rattle.candidates.specs.Hand.{InHand}
@@ -27,7 +27,7 @@ pub record CanChoose (w : List ℕ) (q : List Float) (s p used n at a other seed
   pub apart : a ≡ other → ⊥
   pub seeded : seed < s
   pub from : near-at s p ≤ at
-  pub to : at + p ≤ buckets-at s p
+  pub to : at + p ≤ stack-at s p
 
 -- nothing changed but marks, list, stack and the p words from `at` on
 pub record Spare (w w' : List ℕ) (s p at : ℕ) : Type 0 where
@@ -71,7 +71,7 @@ pub record CanScan (w : List ℕ) (q : List Float) (s p k n at a other : ℕ) (m
   pub first : a < n
   pub second : other < n
   pub from : near-at s p ≤ at
-  pub to : at + p ≤ buckets-at s p
+  pub to : at + p ≤ stack-at s p
 
 -- nothing changed but the p words from b on
 pub record Besides (w w' : List ℕ) (b p : ℕ) : Type 0 where

@@ -17,8 +17,8 @@ use Rattle.cells.proofs.Slots.{tri-in}
 use Rattle.regions.specs.Listing.{Stored, CanList, Aside}
 use Rattle.regions.proofs.Listings.{aside-refl, aside-trans}
 use Rattle.regions.proofs.Reaches.{appended}
-use Rattle.components.specs.Flood.{body, tri-live, around, Marked, Seen, Met, Whole, Flooded, Taken, nothing, component}
-use Rattle.components.proofs.Members.{in-has, has-in, parts-apart, tris-at, live-is, body-three, around-live, around-shares, shares-around}
+use Rattle.components.specs.Flood.{body, tri-live, Marked, Seen, Met, Beside, Whole, Flooded, Taken, nothing, component}
+use Rattle.components.proofs.Members.{in-has, has-in, parts-apart, tris-at, live-is}
 use Rattle.components.proofs.Grows.{few, can-list, fresh, known, kind, more, seen-can, seen-room, Grown, grown}
 
 -- ---- a cell of the list
@@ -164,7 +164,7 @@ module _ (w₀ w : List ℕ) (s p k head : ℕ) (m : Mesh) (xs : List Live) (x :
   pub popped-tri : TriIn m j
   popped-tri = tri-at m j (b .y) (b .live) (b .is-tri) (b .slot)
 
-  pub flood-on : (w' : List ℕ) (r : ℕ) → Met w w' s p r m (xs ++ (b .done ++ b .y ∷ b .todo)) (around m (popped-tri .t)) → Flooding w₀ w' s p r (head + 1) m xs x
+  pub flood-on : (w' : List ℕ) (r : ℕ) → Met w w' s p r m (xs ++ (b .done ++ b .y ∷ b .todo)) (Beside (popped-tri .t)) → Flooding w₀ w' s p r (head + 1) m xs x
   unfolding popped-tri tri-at
   flood-on w' r f =
       record {
@@ -201,14 +201,14 @@ module _ (w₀ w : List ℕ) (s p k head : ℕ) (m : Mesh) (xs : List Live) (x :
         | inl l ↦ b .linked c h z l
         | inr l ↦
             let t : live-tri z ≡ true = tris-at (xs ++ (ys ++ f .new)) (state .tris) z (in-right z xs (ys ++ f .new) i) in
-            let g : Shares (body (b .y)) (body z) = around-shares m (body (b .y)) (body-three w s p m (b .state .rep) (b .y) (b .live) (b .is-tri)) z t (f .from z l) in
-            sym (h (b .y) z (b .live) (around-live m (body (b .y)) z (f .from z l)) (b .is-tri) t (outside (b .y) (in-left (b .y) ys (f .new) here)) (outside z i) g) ∙ b .linked c h (b .y) here
+            let lives : In z (m .live) = state .live z (in-right z xs (ys ++ f .new) i) in
+            sym (h (b .y) z (b .live) lives (b .is-tri) t (outside (b .y) (in-left (b .y) ys (f .new) here)) (outside z i) (f .from z l)) ∙ b .linked c h (b .y) here
       ]
 
       closed : (v z : Live) → (In v (b .done) ⊎ In v (b .y ∷ [])) → In z (m .live) → live-tri z ≡ true → Shares (body v) (body z) → In z (xs ++ (ys ++ f .new))
       closed v z (inl i) l t h = subst (λ (u : List Live). In z u) whole (in-left z (xs ++ ys) (f .new) (b .closed v z i l t h))
       closed v z (inr (inl e)) l t h =
-          subst (λ (u : List Live). In z u) whole (f .all z (shares-around m (body (b .y)) z t l (subst (λ (u : Live). Shares (body u) (body z)) e h)) t)
+          subst (λ (u : List Live). In z u) whole (f .all z l t (subst (λ (u : Live). Shares (body u) (body z)) e h))
       closed v z (inr (inr i)) l t h = absurd i
 
 -- ---- a slot of the sweep

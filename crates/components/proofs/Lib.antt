@@ -1,5 +1,6 @@
 pub mod Members
 pub mod Grows
+pub mod Spots
 pub mod Meets
 pub mod Floods
 pub mod Wipes

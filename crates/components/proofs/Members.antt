@@ -1,21 +1,24 @@
 -- Live cells of a list: by slots, by membership, and as triangles.
 use mathlib.Core.Path.{_≡_, refl, ap, sym, _∙_, subst}
-use mathlib.Core.Logic.{inl, inr, _≢_}
-use mathlib.Core.Bool.{true, _&&_, false≢true}
+use mathlib.Core.Logic.{_⊎_, inl, inr, _≢_}
+use mathlib.Core.Bool.{true, false≢true}
 use mathlib.Core.List.{List, [], _∷_, _++_}
-use Prim.Native.Nat.{ℕ, _+_, _-_}
-use lib.ListN.{length}
-use borrow.Author.Tests.{eqb-true}
+use Prim.Native.Nat.{ℕ, _+_, _*_, _<_}
+use native.Mathlib.Omega.{arith}
+use lib.Dec.{eqb}
+use lib.ListN.{length, getD}
+use borrow.Author.Tests.{eqb-true, ne-eqb}
 use Rattle.rings.specs.Rings.{Out, Distinct}
+use Rattle.rings.proofs.Lists.{Same, same, differ, decide}
 use Rattle.definition.specs.Lists.{any}
-use Rattle.definition.specs.Cells.{Tri, Cell, tri, quad, Live, Mesh, live-tri, is-tri, in-slot, nodes, tri-nodes, tri-has, new-live, key, owns, has-side, owners}
-use Rattle.account.specs.Lists.{both, In, in-left, in-right, in-either, in-filter, filter-in, any-in}
-use Rattle.account.specs.Triangles.{Has as Corner, Shares, Distinct as Three, has-test, test-has}
-use Rattle.cells.specs.Rep.{Shape, slots, Has, here, there, Rep, TriIn}
+use Rattle.definition.specs.Cells.{Tri, Cell, tri, quad, Live, Mesh, live-tri, is-tri, in-slot, nodes, tri-nodes, tri-has, new-live}
+use Rattle.account.specs.Lists.{In, in-right, any-in}
+use Rattle.account.specs.Triangles.{Has as Corner, Distinct as Three, has-test}
+use Rattle.cells.specs.Rep.{Shape, slots, Has, here, there, CellAt, at-node, cell-corners, Rep, TriIn}
+use Rattle.cells.proofs.Corners.{corner-in}
 use Rattle.cells.proofs.Slots.{rep-held}
-use Rattle.cells.proofs.Edges.{tri-side}
 use Rattle.regions.specs.Listing.{Tris}
-use Rattle.components.specs.Flood.{cell-tri, body, tri-live, around}
+use Rattle.components.specs.Flood.{cell-tri, body, tri-live, At, Beside}
 
 -- ---- the two words for membership
 
@@ -84,66 +87,127 @@ pub body-three : (w : List ℕ) (s p : ℕ) (m : Mesh) → Rep w s p m → (x : 
 body-three w s p m r x i h =
     shape-three (length (m .points)) (body x) (subst (λ (c : Cell). Shape (length (m .points)) c) (tri-is x h) (rep-held w s p m r (in-has x (m .live) i) .shape))
 
--- ---- owners of a triangle's edges are the triangles that share one
+-- ---- corners
 
-owns-nodes : (x : Live) (u v : ℕ) → live-tri x ≡ true → owns (key u v) x ≡ (tri-has (body x) u && tri-has (body x) v)
-unfolding owns
-owns-nodes x u v h = ap (has-side (key u v)) (tri-is x h) ∙ tri-side (body x) u v
+has-corner : (t : Tri) (u c : ℕ) → Corner t u → at-node u c 0 (tri-nodes t) ≡ [] → ⊥
+unfolding tri-nodes
+has-corner t u c h q = elim h [
+  | inl e ↦ go 0 (omega arith) e
+  | inr (inl e) ↦ go 1 (omega arith) e
+  | inr (inr e) ↦ go 2 (omega arith) e
+]
+  where
+    go : (j : ℕ) → j < 3 → u ≡ getD (t .n0 ∷ t .n1 ∷ t .n2 ∷ []) j 0 → ⊥
+    go j l e =
+        let z : at-node (getD (tri-nodes t) j 0) c 0 (tri-nodes t) ≡ [] = subst (λ (v : ℕ). at-node v c 0 (tri-nodes t) ≡ []) e q in
+        corner-in c 0 (tri-nodes t) j l (subst (λ (k : List ℕ). Out (c + (0 + j)) k) (sym z) tt)
 
--- an owner with u and v
-owner-nodes : (m : Mesh) (u v : ℕ) (x : Live) → live-tri x ≡ true → In x (owners m (key u v)) → Corner (body x) u × Corner (body x) v
-unfolding owners
-owner-nodes m u v x h i =
-    let e = in-filter (owns (key u v)) (m .live) i .1 in
-    let g = both (tri-has (body x) u) (tri-has (body x) v) (sym (owns-nodes x u v h) ∙ e) in
-    (test-has (body x) u (g .0), test-has (body x) v (g .1))
+corner-has : (t : Tri) (u c x : ℕ) → at-node u c 0 (tri-nodes t) ≡ x ∷ [] → Corner t u
+unfolding at-node tri-nodes
+corner-has t u c x q = go (decide (t .n0) u) (decide (t .n1) u) (decide (t .n2) u)
+  where
+    none : t .n0 ≢ u → t .n1 ≢ u → t .n2 ≢ u → at-node u c 0 (tri-nodes t) ≡ []
+    none a b d = rw (ne-eqb (t .n0) u a, ne-eqb (t .n1) u b, ne-eqb (t .n2) u d)
 
-nodes-owner : (m : Mesh) (u v : ℕ) (x : Live) → live-tri x ≡ true → In x (m .live) → Corner (body x) u → Corner (body x) v → In x (owners m (key u v))
-unfolding owners
-nodes-owner m u v x h i a b =
-    filter-in (owns (key u v)) (m .live) i (owns-nodes x u v h ∙ rw (has-test (body x) u a, has-test (body x) v b) refl)
+    go : Same (t .n0) u → Same (t .n1) u → Same (t .n2) u → Corner t u
+    go (same e) b d = inl (sym e)
+    go (differ a) (same e) d = inr (inl (sym e))
+    go (differ a) (differ b) (same e) = inr (inr (sym e))
+    go (differ a) (differ b) (differ d) = let z : _≡_ {A = ℕ} 0 1 = ap length (sym (none a b d) ∙ q) in absurd (omega arith)
 
-pub around-live : (m : Mesh) (t : Tri) (x : Live) → In x (around m t) → In x (m .live)
-unfolding owners
-around-live m t x i = elim (in-either x (owners m (key (t .n0) (t .n1))) (owners m (key (t .n1) (t .n2)) ++ owners m (key (t .n2) (t .n0))) i) [
-  | inl j ↦ in-filter (owns (key (t .n0) (t .n1))) (m .live) j .0
-  | inr j ↦ elim (in-either x (owners m (key (t .n1) (t .n2))) (owners m (key (t .n2) (t .n0))) j) [
-    | inl k ↦ in-filter (owns (key (t .n1) (t .n2))) (m .live) k .0
-    | inr k ↦ in-filter (owns (key (t .n2) (t .n0))) (m .live) k .0
+-- a triangle has a corner at each of its nodes, and at no other
+module _ (u : ℕ) (x : Live) (h : live-tri x ≡ true) where
+  pub no-corner : cell-corners u (x .slot) (x .cell) ≡ [] → Corner (body x) u → ⊥
+  unfolding nodes
+  no-corner q k = has-corner (body x) u (4 * x .slot) k (subst (λ (c : Cell). cell-corners u (x .slot) c ≡ []) (tri-is x h) q)
+
+  pub its-corner : (c : ℕ) → cell-corners u (x .slot) (x .cell) ≡ c ∷ [] → Corner (body x) u
+  unfolding nodes
+  its-corner c q = corner-has (body x) u (4 * x .slot) c (subst (λ (y : Cell). cell-corners u (x .slot) y ≡ c ∷ []) (tri-is x h) q)
+
+-- ---- nodes that are read
+
+module _ (w : List ℕ) (s i v : ℕ) (t : Tri) (h : CellAt w s i (tri t)) where
+  first : getD w (s + 4 * i) 0 ≡ t .n0
+  unfolding nodes tri-nodes
+  first = let e : s + 4 * i ≡ s + 4 * i + 0 = omega arith in ap (λ (k : ℕ). getD w k 0) e ∙ h .node 0 (omega arith)
+
+  second : getD w (s + 4 * i + 1) 0 ≡ t .n1
+  unfolding nodes tri-nodes
+  second = h .node 1 (omega arith)
+
+  third : getD w (s + 4 * i + 2) 0 ≡ t .n2
+  unfolding nodes tri-nodes
+  third = h .node 2 (omega arith)
+
+  pub read-first : getD w (s + 4 * i) 0 ≡ v → true ≡ tri-has t v
+  read-first e = sym (has-test t v (inl (sym e ∙ first)))
+
+  pub read-second : getD w (s + 4 * i + 1) 0 ≡ v → true ≡ tri-has t v
+  read-second e = sym (has-test t v (inr (inl (sym e ∙ second))))
+
+  pub read-third : getD w (s + 4 * i) 0 ≢ v → getD w (s + 4 * i + 1) 0 ≢ v → eqb (getD w (s + 4 * i + 2) 0) v ≡ tri-has t v
+  unfolding tri-has
+  read-third a b = rw (ne-eqb (t .n0) v (λ e. a (first ∙ e)), ne-eqb (t .n1) v (λ e. b (second ∙ e)), third)
+
+-- the nodes of the triangle in a slot
+pub record Nodes (p x y z : ℕ) (t : Tri) : Type 0 where
+  pub n0 : x ≡ t .n0
+  pub n1 : y ≡ t .n1
+  pub n2 : z ≡ t .n2
+  pub in0 : x < p
+  pub in1 : y < p
+  pub three : Three t
+
+pub tri-read : (w : List ℕ) (s p i : ℕ) (m : Mesh) → Rep w s p m → (t : TriIn m i) → Nodes p (getD w (s + 4 * i) 0) (getD w (s + 4 * i + 1) 0) (getD w (s + 4 * i + 2) 0) (t .t)
+unfolding new-live nodes tri-nodes
+tri-read w s p i m r t =
+    let h = rep-held w s p m r (t .has) in
+    let a = first w s i 0 (t .t) (h .at) in
+    let b = second w s i 0 (t .t) (h .at) in
+    record {
+      n0 = a;
+      n1 = b;
+      n2 = third w s i 0 (t .t) (h .at);
+      in0 = omega (arith, a, h .shape .known .0, r .points);
+      in1 = omega (arith, b, h .shape .known .1 .0, r .points);
+      three = shape-three (length (m .points)) (t .t) (h .shape);
+    }
+
+-- ---- triangles that share an edge
+
+-- one at n0 that has n1 or n2, or one at n1 that has n2
+pub shares-at : (t : Tri) (e : Live) → Beside t e → At (t .n0) (t .n1) (t .n2) e ⊎ At (t .n1) (t .n2) (t .n2) e
+shares-at t e g = elim (g .sa) [
+  | inl a ↦ elim (g .sb) [
+    | inl b ↦ absurd (g .differ (a ∙ sym b))
+    | inr (inl b) ↦ inl (ta a, inl (tb b))
+    | inr (inr b) ↦ inl (ta a, inr (tb b))
+  ]
+  | inr (inl a) ↦ elim (g .sb) [
+    | inl b ↦ inl (tb b, inl (ta a))
+    | inr (inl b) ↦ absurd (g .differ (a ∙ sym b))
+    | inr (inr b) ↦ inr (ta a, inl (tb b))
+  ]
+  | inr (inr a) ↦ elim (g .sb) [
+    | inl b ↦ inl (tb b, inr (ta a))
+    | inr (inl b) ↦ inr (tb b, inl (ta a))
+    | inr (inr b) ↦ absurd (g .differ (a ∙ sym b))
   ]
 ]
+  where
+    ta : {v : ℕ} → g .a ≡ v → Corner (body e) v
+    ta q = subst (λ (v : ℕ). Corner (body e) v) q (g .ta)
 
-pub around-shares : (m : Mesh) (t : Tri) → Three t → (x : Live) → live-tri x ≡ true → In x (around m t) → Shares t (body x)
-around-shares m t d x h i = elim (in-either x (owners m (key (t .n0) (t .n1))) (owners m (key (t .n1) (t .n2)) ++ owners m (key (t .n2) (t .n0))) i) [
-  | inl j ↦ let g = owner-nodes m (t .n0) (t .n1) x h j in record { a = t .n0; b = t .n1; differ = d .d01; sa = inl refl; sb = inr (inl refl); ta = g .0; tb = g .1 }
-  | inr j ↦ elim (in-either x (owners m (key (t .n1) (t .n2))) (owners m (key (t .n2) (t .n0))) j) [
-    | inl k ↦ let g = owner-nodes m (t .n1) (t .n2) x h k in record { a = t .n1; b = t .n2; differ = d .d12; sa = inr (inl refl); sb = inr (inr refl); ta = g .0; tb = g .1 }
-    | inr k ↦ let g = owner-nodes m (t .n2) (t .n0) x h k in record { a = t .n2; b = t .n0; differ = d .d20; sa = inr (inr refl); sb = inl refl; ta = g .0; tb = g .1 }
+    tb : {v : ℕ} → g .b ≡ v → Corner (body e) v
+    tb q = subst (λ (v : ℕ). Corner (body e) v) q (g .tb)
+
+module _ (t : Tri) (d : Three t) (e : Live) where
+  pub first-shares : At (t .n0) (t .n1) (t .n2) e → Beside t e
+  first-shares h = elim (h .1) [
+    | inl k ↦ record { a = t .n0; b = t .n1; differ = d .d01; sa = inl refl; sb = inr (inl refl); ta = h .0; tb = k }
+    | inr k ↦ record { a = t .n2; b = t .n0; differ = d .d20; sa = inr (inr refl); sb = inl refl; ta = k; tb = h .0 }
   ]
-]
 
-pub shares-around : (m : Mesh) (t : Tri) (x : Live) → live-tri x ≡ true → In x (m .live) → Shares t (body x) → In x (around m t)
-shares-around m t x h i g =
-    let at : (u v : ℕ) → u ≡ g .a → v ≡ g .b → In x (owners m (key u v)) = λ u v e q. nodes-owner m u v x h i (subst (λ (z : ℕ). Corner (body x) z) (sym e) (g .ta)) (subst (λ (z : ℕ). Corner (body x) z) (sym q) (g .tb)) in
-    let back : (u v : ℕ) → v ≡ g .a → u ≡ g .b → In x (owners m (key u v)) = λ u v e q. nodes-owner m u v x h i (subst (λ (z : ℕ). Corner (body x) z) (sym q) (g .tb)) (subst (λ (z : ℕ). Corner (body x) z) (sym e) (g .ta)) in
-    let first : In x (owners m (key (t .n0) (t .n1))) → In x (around m t) = λ j. in-left x (owners m (key (t .n0) (t .n1))) (owners m (key (t .n1) (t .n2)) ++ owners m (key (t .n2) (t .n0))) j in
-    let later : In x (owners m (key (t .n1) (t .n2)) ++ owners m (key (t .n2) (t .n0))) → In x (around m t) = λ j. in-right x (owners m (key (t .n0) (t .n1))) (owners m (key (t .n1) (t .n2)) ++ owners m (key (t .n2) (t .n0))) j in
-    let second : In x (owners m (key (t .n1) (t .n2))) → In x (around m t) = λ j. later (in-left x (owners m (key (t .n1) (t .n2))) (owners m (key (t .n2) (t .n0))) j) in
-    let third : In x (owners m (key (t .n2) (t .n0))) → In x (around m t) = λ j. later (in-right x (owners m (key (t .n1) (t .n2))) (owners m (key (t .n2) (t .n0))) j) in
-    elim (g .sa) [
-      | inl e ↦ elim (g .sb) [
-        | inl q ↦ absurd (g .differ (e ∙ sym q))
-        | inr (inl q) ↦ first (at (t .n0) (t .n1) (sym e) (sym q))
-        | inr (inr q) ↦ third (back (t .n2) (t .n0) (sym e) (sym q))
-      ]
-      | inr (inl e) ↦ elim (g .sb) [
-        | inl q ↦ first (back (t .n0) (t .n1) (sym e) (sym q))
-        | inr (inl q) ↦ absurd (g .differ (e ∙ sym q))
-        | inr (inr q) ↦ second (at (t .n1) (t .n2) (sym e) (sym q))
-      ]
-      | inr (inr e) ↦ elim (g .sb) [
-        | inl q ↦ third (at (t .n2) (t .n0) (sym e) (sym q))
-        | inr (inl q) ↦ second (back (t .n1) (t .n2) (sym e) (sym q))
-        | inr (inr q) ↦ absurd (g .differ (e ∙ sym q))
-      ]
-    ]
+  pub second-shares : At (t .n1) (t .n2) (t .n2) e → Beside t e
+  second-shares h = record { a = t .n1; b = t .n2; differ = d .d12; sa = inr (inl refl); sb = inr (inr refl); ta = h .0; tb = elim (h .1) [ inl k ↦ k | inr k ↦ k ] }

@@ -1,14 +1,15 @@
 -- Triangles listed and marked, and what a flood over shared edges adds to them.
 use mathlib.Core.Path.{_≡_}
+use mathlib.Core.Logic.{_⊎_}
 use mathlib.Core.Bool.{Bool, true, cond}
 use mathlib.Core.List.{List, _++_}
 use Prim.Native.Nat.{ℕ, _+_, _<_}
 use lib.ListN.{length, getD}
 use Rattle.rings.specs.Rings.{Distinct}
 use Rattle.definition.specs.Lists.{any}
-use Rattle.definition.specs.Cells.{Tri, Cell, tri, quad, Live, Mesh, new-tri, new-live, live-tri, in-slot, key, owners}
+use Rattle.definition.specs.Cells.{Tri, Cell, tri, quad, Live, Mesh, new-tri, new-live, live-tri, in-slot}
 use Rattle.account.specs.Lists.{In}
-use Rattle.account.specs.Triangles.{Shares}
+use Rattle.account.specs.Triangles.{Has as Corner, Shares}
 use Rattle.cells.specs.Layout.{marks-at, others-at, list-at}
 use Rattle.cells.specs.Rep.{Rep, slots}
 use Rattle.cells.specs.Frames.{Under, Keeps}
@@ -29,9 +30,17 @@ body x = cell-tri (x .cell)
 abbrev pub tri-live : ℕ → Tri → Live
 tri-live i t = new-live i (tri t)
 
--- the owners of a triangle's edges, edge after edge
-abbrev pub around : Mesh → Tri → List Live
-around m t = owners m (key (t .n0) (t .n1)) ++ (owners m (key (t .n1) (t .n2)) ++ owners m (key (t .n2) (t .n0)))
+-- x, where it has y or z
+abbrev pub It : Live → ℕ → ℕ → Live → Type 0
+It x y z e = (e ≡ x) × (Corner (body e) y ⊎ Corner (body e) z)
+
+-- a triangle at u that has y or z too
+abbrev pub At : ℕ → ℕ → ℕ → Live → Type 0
+At u y z e = Corner (body e) u × (Corner (body e) y ⊎ Corner (body e) z)
+
+-- a triangle that shares an edge with t
+abbrev pub Beside : Tri → Live → Type 0
+Beside t e = Shares t (body e)
 
 -- ---- what is stored
 
@@ -64,13 +73,13 @@ pub record MarkedTo (w w' : List ℕ) (s p n : ℕ) (m : Mesh) (xs : List Live) 
   pub state : Marked w' s p n m xs
   pub aside : Aside w w' s p
 
--- the cells of l were met with xs listed: the triangles among them are listed
-pub record Met (w w' : List ℕ) (s p r : ℕ) (m : Mesh) (xs l : List Live) : Type 0 where
+-- the cells that P speaks of were met with xs listed: the triangles among them are listed
+pub record Met (w w' : List ℕ) (s p r : ℕ) (m : Mesh) (xs : List Live) (P : Live → Type 0) : Type 0 where
   pub new : List Live
   pub state : Marked w' s p r m (xs ++ new)
   pub aside : Aside w w' s p
-  pub from : (y : Live) → In y new → In y l
-  pub all : (y : Live) → In y l → live-tri y ≡ true → In y (xs ++ new)
+  pub from : (y : Live) → In y new → P y
+  pub all : (y : Live) → In y (m .live) → live-tri y ≡ true → P y → In y (xs ++ new)
 
 -- a set of triangles that no edge shared outside xs leaves
 abbrev pub Whole : (Tri → Bool) → Mesh → List Live → Type 0

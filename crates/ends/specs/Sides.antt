@@ -9,7 +9,7 @@ use Rattle.definition.specs.Counts.{of-points, of-slots}
 use Rattle.definition.specs.Plane.{Vec}
 use Rattle.definition.specs.Cells.{Mesh}
 use Rattle.definition.specs.Attempt.{Stance, Sides, found, missing, overfull}
-use Rattle.cells.specs.Layout.{refused-at, near-at, buckets-at}
+use Rattle.cells.specs.Layout.{refused-at, near-at, stack-at}
 use Rattle.cells.specs.declared.counters.Counters.{Counters}
 use Rattle.lending.specs.Ready.{Ready, Behind}
 use Rattle.ends.specs.declared.side.Found.{Found}
@@ -24,7 +24,7 @@ pub record CanSeek (w : List ℕ) (q : List Float) (s p : ℕ) (bucket : Float) 
   pub apart : a ≡ other → ⊥
   pub seeded : seed < s
   pub from : near-at s p ≤ at
-  pub to : at + p ≤ buckets-at s p
+  pub to : at + p ≤ stack-at s p
   pub few : inserted < 2 ^ 32
 
 -- what an attempt goes by

@@ -1,7 +1,7 @@
 -- Two triangles at an edge, and the edge flipped.
 use mathlib.Core.Path.{_≡_, refl, ap, sym, _∙_, subst}
 use mathlib.Core.Logic.{_≢_}
-use mathlib.Core.Bool.{Bool, true, false, not, _&&_, _||_, and-false, false≢true}
+use mathlib.Core.Bool.{Bool, true, false, not, _&&_, false≢true}
 use mathlib.Core.List.{List, [], _∷_}
 use mathlib.Core.Option.{none}
 use Prim.Native.Nat.{ℕ, _-_, _*_, _/_, _≤_, _<_}
@@ -9,7 +9,7 @@ use native.Mathlib.Omega.{arith}
 use lib.Dec.{eqb}
 use lib.ListN.{length, getD}
 use lib.Ieee.{Float}
-use borrow.Author.Tests.{eq-eqb, ne-eqb, eqb-true}
+use borrow.Author.Tests.{eq-eqb, ne-eqb}
 use Rattle.definition.specs.Floats.{_⊗_, _≼_, 0·0}
 use Rattle.definition.specs.Plane.{Edge, side}
 use Rattle.definition.specs.Cells.{Tri, Cell, tri, quad, Live, Mesh, nodes, tri-nodes, quad-nodes, new-tri, new-live, key, tri-has, has-side, owns, owners, set-cell, with-live}
@@ -22,7 +22,9 @@ use Rattle.meshes.specs.Changes.{CanSet, tri-of-nodes}
 use Rattle.cells.proofs.Edges.{key-up, tri-side}
 use Rattle.cells.proofs.Owners.{Here, at-here, at-end}
 use Rattle.cells.proofs.Slots.{has-filter, rep-held, ReadTri, read-tri}
-use Rattle.flips.specs.Nodes.{tri-read, Four}
+use Rattle.crossings.specs.Nodes.{Four}
+use Rattle.crossings.proofs.Tris.{TriOk, tri-ok, Which, is0, is1, is2, which, and-left, and-right, off-first, off-second, off-both}
+use Rattle.flips.specs.Nodes.{tri-read}
 use Rattle.flips.specs.Flip.{Kinds, TwinsAt, CanTurn, FlipTo}
 use Rattle.flips.specs.Twins.{OfKinds, IsTwins}
 use Rattle.flips.specs.declared.flip.Twins.{Twins}
@@ -107,39 +109,6 @@ answer w u v i j m Other h f g = g h
 
 -- ---- the third node
 
-off-first : (u v n : ℕ) → n ≡ u → off-edge (u, v) n ≡ false
-unfolding off-edge
-off-first u v n e = rw (eq-eqb n u e)
-
-off-second : (u v n : ℕ) → n ≡ v → off-edge (u, v) n ≡ false
-unfolding off-edge
-off-second u v n e = rw (eq-eqb n v e) (and-false (not (eqb n u)))
-
-off-both : (u v n : ℕ) → n ≢ u → n ≢ v → off-edge (u, v) n ≡ true
-unfolding off-edge
-off-both u v n d e = rw (ne-eqb n u d, ne-eqb n v e)
-
--- three nodes of a triangle
-pub record TriOk (n a b c : ℕ) : Type 0 where
-  pub a-known : a < n
-  pub b-known : b < n
-  pub c-known : c < n
-  pub ab : a ≡ b → ⊥
-  pub bc : b ≡ c → ⊥
-  pub ca : c ≡ a → ⊥
-
-pub tri-ok : (n : ℕ) (t : Tri) → Shape n (tri t) → TriOk n (t .n0) (t .n1) (t .n2)
-unfolding nodes tri-nodes
-tri-ok n t h =
-    record {
-      a-known = h .known .0;
-      b-known = h .known .1 .0;
-      c-known = h .known .1 .1 .0;
-      ab = λ e. h .distinct .0 .0 (sym e);
-      bc = λ e. h .distinct .1 .0 .0 (sym e);
-      ca = h .distinct .0 .1 .0;
-    }
-
 pub ok-shape : (n a b c : ℕ) → TriOk n a b c → Shape n (tri-of-nodes a b c)
 unfolding nodes tri-nodes new-tri
 ok-shape n a b c o =
@@ -155,30 +124,6 @@ pub record Third (n u v x : ℕ) : Type 0 where
   pub v-known : v < n
   pub xu : x ≡ u → ⊥
   pub xv : x ≡ v → ⊥
-
--- which of its nodes it is
-pub data Which (t : Tri) (n : ℕ) : Type 0 where
-  is0 : t .n0 ≡ n → Which t n
-  is1 : t .n1 ≡ n → Which t n
-  is2 : t .n2 ≡ n → Which t n
-
-pub which : (t : Tri) (n : ℕ) → tri-has t n ≡ true → Which t n
-unfolding tri-has
-which t n h = go (eqb (t .n0) n) refl (eqb (t .n1) n) refl (eqb (t .n2) n) refl h
-  where
-    go : (a : Bool) → eqb (t .n0) n ≡ a → (b : Bool) → eqb (t .n1) n ≡ b → (c : Bool) → eqb (t .n2) n ≡ c → (a || b || c) ≡ true → Which t n
-    go true e b f c g k = is0 (eqb-true (t .n0) n e)
-    go false e true f c g k = is1 (eqb-true (t .n1) n f)
-    go false e false f true g k = is2 (eqb-true (t .n2) n g)
-    go false e false f false g k = absurd (false≢true k)
-
-pub and-left : (x y : Bool) → (x && y) ≡ true → x ≡ true
-and-left true y h = refl
-and-left false y h = h
-
-pub and-right : (x y : Bool) → (x && y) ≡ true → y ≡ true
-and-right true y h = h
-and-right false y h = absurd (false≢true h)
 
 third-is : (n u v : ℕ) (t : Tri) → u ≢ v → Shape n (tri t) → has-side (key u v) (tri t) ≡ true → Third n u v (third t (u, v))
 unfolding third
@@ -308,13 +253,6 @@ module _ (q : List Float) (m : Mesh) (u v x y : ℕ) (f : Four q m u v x y) wher
   convex-same e = rw (eq-eqb x y e)
 
 -- ---- as the code goes about it
-
-pub off-same : (u v n : ℕ) → n ≡ u → false ≡ off-edge (u, v) n
-off-same u v n e = sym (off-first u v n e)
-
-pub off-rest : (u v n : ℕ) → n ≢ u → not (eqb n v) ≡ off-edge (u, v) n
-unfolding off-edge
-off-rest u v n e = rw (ne-eqb n u e)
 
 pub step-not : (a b u v : ℕ) → a ≢ u → false ≡ is-step (u, v) a b
 unfolding is-step

@@ -16,7 +16,7 @@ use Rattle.cells.proofs.Edges.{key-up}
 use Rattle.cells.proofs.Points.{pts-as}
 use Rattle.flips.specs.Flip.{FlipTo}
 use Rattle.flips.specs.Nodes.{Up}
-use Rattle.flips.specs.Cross.{Known, Segment, FirstAt}
+use Rattle.crossings.specs.Cross.{Known, Segment, FirstAt}
 use Rattle.flips.specs.Recover.{RecoverTo}
 
 -- ---- points, slots and bucket stay
@@ -134,6 +134,11 @@ pub going-start : (w : List ℕ) (q : List Float) (s p n used : ℕ) (bucket : F
 going-start w q s p n used bucket u v m k e =
     let z : used ≡ used - 0 = omega arith in
     record { mesh = m; known = k; given = e; same = ap (λ (i : ℕ). recover-in i m u v) z }
+
+-- other memory that stands for the same mesh
+abbrev pub going-as : (w w' : List ℕ) (q : List Float) (s p n used : ℕ) (bucket : Float) (u v k : ℕ) (m : Mesh) (g : Going w q s p n used bucket u v k m) → Known w' q s p n bucket (g .mesh)
+    → Going w' q s p n used bucket u v k m
+going-as w w' q s p n used bucket u v k m g h = record { mesh = g .mesh; known = h; given = g .given; same = g .same }
 
 one-less : (n k : ℕ) → k < n → n - k ≡ suc (n - (k + 1))
 one-less n k h = omega arith

@@ -8,7 +8,7 @@ use Rattle.definition.specs.Cells.{Mesh}
 use Rattle.definition.specs.Flips.{Recovered, recover}
 use Rattle.cells.specs.Layout.{mesh-end}
 use Rattle.cells.specs.Frames.{Keeps}
-use Rattle.flips.specs.Cross.{Known}
+use Rattle.crossings.specs.Cross.{Known}
 
 -- the answer, and the mesh afterwards, which has as many points and slots
 pub record RecoverTo (w : List ℕ) (q : List Float) (s p n used : ℕ) (bucket : Float) (x : Recovered) (r : Bool) : Type 0 where

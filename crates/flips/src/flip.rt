@@ -3,16 +3,18 @@ use cells::find::first_owner;
 use cells::find::next_owner;
 use cells::find::node;
 use cells::layout::CORNERS;
+use crossings::cross::off_edge;
 use meshes::store::set_tri;
 use plane::sides::apart;
 ghost use mathlib.Core.Path.{_≡_};
 ghost use Rattle.definition.specs.Cells.{Mesh};
-ghost use Rattle.definition.specs.Flips.{off-edge, is-step, third, runs, convex-pair, flipped};
+ghost use Rattle.definition.specs.Flips.{is-step, third, runs, convex-pair, flipped};
 ghost use Rattle.plane.specs.Points.{Within};
 ghost use Rattle.cells.specs.Rep.{Rep, Pts};
 ghost use Rattle.cells.specs.Walk.{CanSee, IsEdge};
+ghost use Rattle.crossings.specs.Nodes.{Four};
 ghost use Rattle.meshes.specs.Changes.{Turns};
-ghost use Rattle.flips.specs.Nodes.{tri-read, Up, Four};
+ghost use Rattle.flips.specs.Nodes.{tri-read, Up};
 ghost use Rattle.flips.specs.Flip.{CanTurn, Flips};
 ghost use Rattle.flips.specs.Twins.{OfKinds, IsTwins};
 
@@ -20,16 +22,6 @@ ghost use Rattle.flips.specs.Twins.{OfKinds, IsTwins};
 pub enum Twins {
     Two(usize, usize),
     Other,
-}
-
-// The node n is no end of the edge u-v.
-pub fn off_edge(n: usize, u: usize, v: usize) -> bool
-    ensures { λ r. ⌜ r ≡ off-edge (u, v) n ⌝ }
-{
-    if n == u {
-        return false;
-    }
-    n != v
 }
 
 // a and b are u and v.

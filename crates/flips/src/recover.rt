@@ -1,11 +1,11 @@
 // An edge recovered by flips.
-use crate::cross::Crossing;
-use crate::cross::first_crossing;
 use crate::flip::flip;
 use cells::find::has_edge;
+use crossings::cross::Crossing;
+use crossings::cross::first_crossing;
 ghost use mathlib.Core.Path.{_≡_};
 ghost use Rattle.definition.specs.Cells.{Mesh};
-ghost use Rattle.flips.specs.Cross.{Known, Segment};
+ghost use Rattle.crossings.specs.Cross.{Known, Segment};
 ghost use Rattle.flips.specs.Recover.{Recovers};
 
 // The edge u-v recovered by flips of edges that cross it, at most as many as slots were given out; the flips made stay.

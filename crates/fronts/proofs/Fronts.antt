@@ -16,12 +16,12 @@ use Rattle.account.specs.Fronts.{front-in}
 use Rattle.account.specs.Listed.{front-differ, front-number}
 use Rattle.cells.specs.Layout.{front-u-at, front-v-at}
 use Rattle.cells.specs.Rep.{Rep}
-use Rattle.cells.proofs.Frames.{rep-under}
 use Rattle.edges.specs.Stored.{Edges, edge-in}
-use Rattle.fronts.specs.Runs.{Stored, pairs, Run, Beyond, CanWalk, NodeTo}
+use Rattle.fronts.specs.Runs.{Stored, pairs, Run, CanWalk}
+use Rattle.fronts.specs.Noting.{Past, EdgesTo}
 use Rattle.fronts.specs.Front.{FrontTo}
 use Rattle.fronts.proofs.Members.{valid, front-ascending}
-use Rattle.fronts.proofs.Puts.{beyond-refl, beyond-trans, beyond-under}
+use Rattle.fronts.proofs.Noting.{pairs-length}
 
 -- ---- lists
 
@@ -98,12 +98,26 @@ data Part (i k : ℕ) : Type 0 where
 pub record Sofar (w₀ w : List ℕ) (s p u k : ℕ) (m : Mesh) : Type 0 where
   pub len : length (flat-map (front-at m) (below u)) ≡ k
   pub each : (i : ℕ) → i < k → edge-in w s p i ≡ getD (flat-map (front-at m) (below u)) i (0, 0)
-  pub beyond : Beyond w₀ w s p 0
+  pub past : Past w₀ w s p 0
+  pub rep : Rep w s p m
+
+past-refl : (w : List ℕ) (s p from : ℕ) → Past w w s p from
+past-refl w s p from = record { len = refl; below = λ i h. refl; firsts = λ i h k. refl; seconds = λ i h k. refl; behind = λ i h. refl }
+
+past-trans : (w w1 w2 : List ℕ) (s p a b : ℕ) → a ≤ b → Past w w1 s p a → Past w1 w2 s p b → Past w w2 s p a
+past-trans w w1 w2 s p a b o f g =
+    record {
+      len = g .len ∙ f .len;
+      below = λ i h. g .below i h ∙ f .below i h;
+      firsts = λ i h k. g .firsts i h (omega arith) ∙ f .firsts i h k;
+      seconds = λ i h k. g .seconds i h (omega arith) ∙ f .seconds i h k;
+      behind = λ i h. g .behind i h ∙ f .behind i h;
+    }
 
 module _ (w₀ : List ℕ) (s p : ℕ) (m : Mesh) (r : Rep w₀ s p m) where
   pub sofar-start : Sofar w₀ w₀ s p 0 0 m
   unfolding below numbers flat-map
-  sofar-start = record { len = refl; each = λ i h. absurd (omega arith); beyond = beyond-refl w₀ s p 0 }
+  sofar-start = record { len = refl; each = λ i h. absurd (omega arith); past = past-refl w₀ s p 0; rep = r }
 
   -- all of them have their places
   pub all-few : length (front m) ≤ 3 * s
@@ -113,33 +127,30 @@ module _ (w₀ : List ℕ) (s p : ℕ) (m : Mesh) (r : Rep w₀ s p m) where
   unfolding front
   can-walk w u k h l =
       record {
-        rep = rep-under w₀ w s p (beyond-under w₀ w s p 0 (h .beyond)) m r;
+        rep = h .rep;
         known = l;
         room = omega (arith, h .len, upto-room (front-at m) u (length (m .points)) l, all-few);
       }
 
-  pub sofar-more : (w w' : List ℕ) (u k j : ℕ) → Sofar w₀ w s p u k m → NodeTo w w' s p u k j m → Sofar w₀ w' s p (u + 1) j m
+  pub sofar-more : (w w' : List ℕ) (u k j : ℕ) → Sofar w₀ w s p u k m → EdgesTo w w' s p u k j m → Sofar w₀ w' s p (u + 1) j m
   sofar-more w w' u k j h g =
       record {
         len = omega (arith, upto-length (front-at m) u, h .len, long, g .run .len);
         each = λ i l. at i l (decide i);
-        beyond = beyond-trans w₀ w w' s p 0 k (omega arith) (h .beyond) (g .beyond);
+        past = past-trans w₀ w w' s p 0 k (omega arith) (h .past) (g .past);
+        rep = g .rep;
       }
     where
       long : length (g .vs) ≡ length (front-at m u)
-      long = pairs-length (g .vs) ∙ ap length (g .are)
-        where
-          pairs-length : (vs : List ℕ) → length vs ≡ length (pairs u vs)
-          pairs-length [] = refl
-          pairs-length (v ∷ vs) = ap suc (pairs-length vs)
+      long = sym (pairs-length u (g .vs)) ∙ ap length (g .are)
 
       decide : (i : ℕ) → Part i k
       decide i = elim (decLe k i) [ yes l ↦ upper (i - k) (omega arith) | no l ↦ lower (omega arith) ]
 
       old : (i : ℕ) → i < k → edge-in w' s p i ≡ edge-in w s p i
       old i l =
-          let a = g .beyond .firsts (front-u-at s p + i) (omega arith) in
-          let b = g .beyond .seconds (front-v-at s p + i) (omega arith) (omega arith) in
+          let a = g .past .firsts (front-u-at s p + i) (omega arith) (omega arith) in
+          let b = g .past .seconds (front-v-at s p + i) (omega arith) (omega arith) in
           λ t. (a t, b t)
 
       at : (i : ℕ) → i < j → Part i k → edge-in w' s p i ≡ getD (flat-map (front-at m) (below (u + 1))) i (0, 0)
@@ -179,7 +190,8 @@ module _ (w₀ : List ℕ) (s p : ℕ) (m : Mesh) (r : Rep w₀ s p m) where
         at = record { len = g .len; few = omega (arith, g .len, all-few); each = g .each };
         edges = subst (λ (i : ℕ). Edges i (front m)) (sym e) (edges-from (length (m .points)) (front m) (λ f i. front-in m f ok i) (front-differ m ok));
         ascending = front-ascending m ok;
-        len = g .beyond .len;
-        below = λ i l. g .beyond .firsts i (omega arith);
-        behind = g .beyond .behind;
+        len = g .past .len;
+        below = g .past .below;
+        between = λ i l j. g .past .firsts i l (omega arith);
+        behind = g .past .behind;
       }

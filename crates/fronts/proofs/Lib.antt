@@ -4,4 +4,7 @@ pub mod Members
 pub mod Puts
 pub mod Meets
 pub mod Corners
+pub mod Notes
+pub mod Noting
+pub mod Copies
 pub mod Fronts

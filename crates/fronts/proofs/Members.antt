@@ -120,7 +120,7 @@ module _ (m : Mesh) (ok : Valid m) (u : ℕ) where
   near : List Live
   near = cells-at m u
 
-  at-of : (e : Edge) → In e (front-at m u) → (e ≡ (u, e .1)) × Good m u (e .1)
+  pub at-of : (e : Edge) → In e (front-at m u) → (e ≡ (u, e .1)) × Good m u (e .1)
   unfolding front-at front-from near cells-at
   at-of e i =
       let all = flat-map tri-edges (tris-of near) in
@@ -136,7 +136,7 @@ module _ (m : Mesh) (ok : Valid m) (u : ℕ) where
       let same : key u (e .1) ≡ e = key-up u (e .1) up ∙ sym q in
       (q, record { up = up; front = sym (near-front m u (e .1)) ∙ ap (λ (d : Edge). front-owners (filter (owns d) near)) same ∙ f .1 })
 
-  at-in : (v : ℕ) → Good m u v → In (u, v) (front-at m u)
+  pub at-in : (v : ℕ) → Good m u v → In (u, v) (front-at m u)
   unfolding front-at front-from near front-owners live-tri
   at-in v g =
       let e : Edge = (u, v) in

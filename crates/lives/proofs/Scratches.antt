@@ -28,22 +28,22 @@ scratch-trans w w1 w2 s p h k =
       rest = λ i a b. k .rest i a b ∙ h .rest i a b;
     }
 
-pub scratch-mark : (w : List ℕ) (s p j v : ℕ) → j < s → Scratch w (set w (13 * s + 2 * p + j) v) s p
+pub scratch-mark : (w : List ℕ) (s p j v : ℕ) → j < s → Scratch w (set w (19 * s + 3 * p + j) v) s p
 scratch-mark w s p j v h =
     record {
-      len = length-set w (13 * s + 2 * p + j) v;
-      mesh = λ i a. off w (13 * s + 2 * p + j) v i (omega arith);
-      others = λ i a b. off w (13 * s + 2 * p + j) v i (omega arith);
-      rest = λ i a b. off w (13 * s + 2 * p + j) v i (omega arith);
+      len = length-set w (19 * s + 3 * p + j) v;
+      mesh = λ i a. off w (19 * s + 3 * p + j) v i (omega arith);
+      others = λ i a b. off w (19 * s + 3 * p + j) v i (omega arith);
+      rest = λ i a b. off w (19 * s + 3 * p + j) v i (omega arith);
     }
 
-pub scratch-list : (w : List ℕ) (s p j v : ℕ) → j < s → Scratch w (set w (15 * s + 2 * p + j) v) s p
+pub scratch-list : (w : List ℕ) (s p j v : ℕ) → j < s → Scratch w (set w (21 * s + 3 * p + j) v) s p
 scratch-list w s p j v h =
     record {
-      len = length-set w (15 * s + 2 * p + j) v;
-      mesh = λ i a. off w (15 * s + 2 * p + j) v i (omega arith);
-      others = λ i a b. off w (15 * s + 2 * p + j) v i (omega arith);
-      rest = λ i a b. off w (15 * s + 2 * p + j) v i (omega arith);
+      len = length-set w (21 * s + 3 * p + j) v;
+      mesh = λ i a. off w (21 * s + 3 * p + j) v i (omega arith);
+      others = λ i a b. off w (21 * s + 3 * p + j) v i (omega arith);
+      rest = λ i a b. off w (21 * s + 3 * p + j) v i (omega arith);
     }
 
 pub scratch-above : (w w' : List ℕ) (s p : ℕ) → length w' ≡ length w → ((i : ℕ) → i < stack-at s p → getD w' i 0 ≡ getD w i 0) → Scratch w w' s p

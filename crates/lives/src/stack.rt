@@ -23,7 +23,7 @@ fn clear_marks(w: &mut [u32], s: usize, p: usize, n: usize)
 {
     let mut i = 0;
     while i < n {
-        w[13 * s + 2 * p + i] = 0;
+        w[19 * s + 3 * p + i] = 0;
         i += 1;
     }
 }
@@ -35,8 +35,8 @@ pub fn empty(w: &mut [u32], s: usize, p: usize, n: usize)
     ensures { λ r. ⌜ ((m : Mesh) → Rep (now (w .entry)) s p m → n ≡ m .used → PushTo (now (w .entry)) (now (w .exit)) s p m [] [] []) ⌝ }
 {
     clear_marks(w, s, p, n);
-    w[52 * s + 8 * p + s] = s as u32;
-    w[52 * s + 8 * p + (s + 1) + s] = s as u32;
+    w[58 * s + 8 * p + s] = s as u32;
+    w[58 * s + 8 * p + (s + 1) + s] = s as u32;
 }
 
 // The cell in slot j comes to the top of the stack, unless it was seen or is no triangle; one that is on the stack moves there.
@@ -44,7 +44,7 @@ pub fn push_one(w: &mut [u32], s: usize, p: usize, j: usize)
     requires { ⌜ ((m : Mesh) × (out : List Live) × (seen : List Live) × (st : List Live) × (e : Live) × Met (now w) s p j m out seen st e) ⌝ }
     ensures { λ r. ⌜ ((m : Mesh) (out seen st : List Live) (e : Live) → Met (now (w .entry)) s p j m out seen st e → PushTo (now (w .entry)) (now (w .exit)) s p m out seen (on-top seen st e)) ⌝ }
 {
-    let m = w[13 * s + 2 * p + j];
+    let m = w[19 * s + 3 * p + j];
     if m == 2 {
         return;
     }
@@ -52,12 +52,12 @@ pub fn push_one(w: &mut [u32], s: usize, p: usize, j: usize)
         return;
     }
     if m == 1 {
-        unlink(w, 52 * s + 8 * p, s + 1, j);
-        link(w, 52 * s + 8 * p, s + 1, j, s);
+        unlink(w, 58 * s + 8 * p, s + 1, j);
+        link(w, 58 * s + 8 * p, s + 1, j, s);
         return;
     }
-    w[13 * s + 2 * p + j] = 1;
-    link(w, 52 * s + 8 * p, s + 1, j, s);
+    w[19 * s + 3 * p + j] = 1;
+    link(w, 58 * s + 8 * p, s + 1, j, s);
 }
 
 // The owners of u-v are pushed.
@@ -92,7 +92,7 @@ pub fn top(w: &[u32], s: usize, p: usize) -> usize
     requires { ⌜ all-end s p ≤ length (now w) ⌝ }
     ensures { λ r. ⌜ ((m : Mesh) (out seen st : List Live) → Hold (now (w .entry)) s p m out seen st → r ≡ top-or s st) ⌝ }
 {
-    wide(w[52 * s + 8 * p + (s + 1) + s])
+    wide(w[58 * s + 8 * p + (s + 1) + s])
 }
 
 // The slot i on top of the stack is taken: it is seen now.
@@ -100,8 +100,8 @@ pub fn take(w: &mut [u32], s: usize, p: usize, i: usize)
     requires { ⌜ ((m : Mesh) × (out : List Live) × (seen : List Live) × (st : List Live) × (x : Live) × OnTop (now w) s p i m out seen st x) ⌝ }
     ensures { λ r. ⌜ ((m : Mesh) (out seen st : List Live) (x : Live) → OnTop (now (w .entry)) s p i m out seen st x → PushTo (now (w .entry)) (now (w .exit)) s p m out (x ∷ seen) st) ⌝ }
 {
-    unlink(w, 52 * s + 8 * p, s + 1, i);
-    w[13 * s + 2 * p + i] = 2;
+    unlink(w, 58 * s + 8 * p, s + 1, i);
+    w[19 * s + 3 * p + i] = 2;
 }
 
 // The slot i comes to the end of the list of n.
@@ -109,5 +109,5 @@ pub fn list_one(w: &mut [u32], s: usize, p: usize, n: usize, i: usize)
     requires { ⌜ ((m : Mesh) × (out : List Live) × (seen : List Live) × (st : List Live) × (x : Live) × CanList (now w) s p n i m out seen st x) ⌝ }
     ensures { λ r. ⌜ ((m : Mesh) (out seen st : List Live) (x : Live) → CanList (now (w .entry)) s p n i m out seen st x → PushTo (now (w .entry)) (now (w .exit)) s p m (out ++ x ∷ []) seen st) ⌝ }
 {
-    w[15 * s + 2 * p + n] = i as u32;
+    w[21 * s + 3 * p + n] = i as u32;
 }

@@ -19,7 +19,7 @@ use Rattle.definition.specs.Call.{Asked, Lent, Returned, finished, point-at, fi
 use Rattle.definition.specs.Call as defined
 use Rattle.checks.specs.Refusals.{first-refusal, passed, call-runs, call-refused}
 use Rattle.mesher.specs.declared.Answer.{Answer}
-use Rattle.rounds.specs.declared.standing.Run.{Run}
+use Rattle.settling.specs.declared.standing.Run.{Run}
 use Rattle.rounds.specs.Loop.{LeftRun, RunTo, want-finish}
 use Rattle.mesher.specs.Promise.{lent-of, number-of, lengths-in, Returns}
 use Rattle.mesher.specs.Parts.{Refused, finish-number, bucket-of, progress-of, CanFinish, FinishTo}

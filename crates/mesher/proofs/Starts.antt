@@ -20,7 +20,7 @@ use Rattle.meshes.specs.Build.{Given, IsNew, Builds, CanBuild}
 use Rattle.checks.specs.Passed.{Apart}
 use Rattle.checks.specs.Refusals.{first-refusal, passed, none-holds}
 use Rattle.lending.specs.Ready.{lent, Small}
-use Rattle.rounds.specs.declared.standing.Run.{Run}
+use Rattle.settling.specs.declared.standing.Run.{Run}
 use Rattle.rounds.specs.Loop.{CanRun, LeftRun, RunTo}
 use Rattle.mesher.specs.Parts.{bucket-of, progress-of, CanMesh}
 

@@ -16,10 +16,10 @@ use Rattle.definition.specs.Call.{Asked, Lent, given-points, given-tris, onto, 
 use Rattle.cells.specs.Rep.{Rep}
 use Rattle.checks.specs.Refusals.{first-refusal}
 use Rattle.mesher.specs.declared.Answer.{Answer}
-use Rattle.rounds.specs.declared.standing.Standing.{Standing}
-use Rattle.rounds.specs.declared.standing.Finish.{Finish}
-use Rattle.rounds.specs.declared.standing.Finish.the-variants as finishes
-use Rattle.rounds.specs.Standings.{counts-of}
+use Rattle.settling.specs.declared.standing.Standing.{Standing}
+use Rattle.settling.specs.declared.standing.Finish.{Finish}
+use Rattle.settling.specs.declared.standing.Finish.the-variants as finishes
+use Rattle.settling.specs.Standings.{counts-of}
 use Rattle.mesher.specs.Promise.{counts-in, lengths-in}
 
 -- a refusal's answer: its number, and nothing counted or listed

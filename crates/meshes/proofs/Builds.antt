@@ -16,19 +16,20 @@ use Rattle.definition.specs.Plane.{Node}
 use Rattle.definition.specs.Cells.{Tri, Cell, tri, Live, Mesh, new-live, new-tri, with-live, push-cell}
 use Rattle.definition.specs.Call.{tri-at, first-tris, first-points}
 use Rattle.definition.specs.Front.{in-slots, new-mesh}
-use Rattle.cells.specs.Layout.{rings-at, codes, mesh-end}
+use Rattle.cells.specs.Layout.{rings-at, codes, notes-at, mesh-end}
 use Rattle.cells.specs.Rep.{Shape, Cells, slots, corners, Room, Rep}
 use Rattle.meshes.specs.Changes.{CanPush, Turns, tri-of-nodes}
 use Rattle.meshes.specs.Build.{Given, IsNew, Builds, CanBuild, Empties}
 use Rattle.cells.specs.Frames.{Keeps, Zeros}
 use Rattle.cells.proofs.Points.{numbers-snoc, table-snoc}
 use Rattle.cells.proofs.Frames.{rep-as, keeps-trans, keeps-more, keeps-kept}
+use Rattle.cells.proofs.Notes.{note-none, grown-same}
 
 -- ---- empty
 
-pub empty-done : (w w1 w2 : List ℕ) (s p : ℕ) → Room w s p → Zeros w w1 s → OpenedFrom w1 w2 (rings-at s) (codes s p) (4 * s) → Empties w w2 s p
+pub empty-done : (w w1 w2 : List ℕ) (s p b : ℕ) → b ≡ mesh-end s p → Room w s p → Zeros w w1 b → OpenedFrom w1 w2 (rings-at s) (codes s p) (4 * s) → Empties w w2 s p
 unfolding corners
-empty-done w w1 w2 s p r z o =
+empty-done w w1 w2 s p b eb r z o =
     let l : length w1 ≡ length w = z .keeps .len in
     let l2 : length w2 ≡ length w1 = o .kept .len in
     record {
@@ -40,9 +41,10 @@ empty-done w w1 w2 s p r z o =
             distinct = rw e tt;
             cells = rw e tt;
             rings = rw e (opened w1 w2 (rings-at s) (codes s p) (4 * s) (record { fits = omega (arith, r .fits); small = r .small; first = omega arith }) o);
-            dead = λ i h out. o .kept .before i (omega arith) ∙ z .zero i h;
+            dead = λ i h out. o .kept .before i (omega arith) ∙ z .zero i (omega arith);
+            notes = λ v h. note-none w2 s p m v (o .kept .after (notes-at s p + v) (omega arith) ∙ z .zero (notes-at s p + v) (omega arith));
           };
-      keeps = keeps-trans w w1 w2 (mesh-end s p) (keeps-more w w1 s (mesh-end s p) (omega arith) (z .keeps)) (keeps-kept w1 w2 (rings-at s) (codes s p) (mesh-end s p) (omega arith) (o .kept));
+      keeps = keeps-trans w w1 w2 (mesh-end s p) (keeps-more w w1 b (mesh-end s p) (omega arith) (z .keeps)) (keeps-kept w1 w2 (rings-at s) (codes s p) (mesh-end s p) (omega arith) (o .kept));
     }
 
 -- ---- the lists
@@ -119,7 +121,7 @@ module _ (w : List ℕ) (s p : ℕ) (xs : List ℕ) (n g i a b c : ℕ) (can : C
       let u : m .used ≡ i + 1 = k .used in
       let e : in-slots 0 (first-tris i xs) ++ new-live i (tri-of-nodes a b c) ∷ [] ≡ m .live =
       ap (λ (x : Cell). in-slots 0 (first-tris i xs) ++ new-live i x ∷ []) cell-is ∙ sym (live-snoc i xs) ∙ ap (λ (j : ℕ). in-slots 0 (first-tris j xs)) (sym (add-one i)) ∙ sym (k .live) in
-      rep-as w2 s p (push-cell (before m xs i) (tri-of-nodes a b c)) m r (omega arith) (omega (arith, can .slots)) (omega arith) (omega (arith, can .points, k .points)) e
+      rep-as w2 s p (push-cell (before m xs i) (tri-of-nodes a b c)) m r (omega arith) (omega (arith, can .slots)) (grown-same (push-cell (before m xs i) (tri-of-nodes a b c)) m refl) (omega (arith, can .points, k .points)) e
 
 -- the given mesh of the definition is such a mesh
 pub new-is : (st : Settings) (xs : List ℕ) (q : List Float) (n g : ℕ) → IsNew (new-mesh st (first-tris n xs) (first-points g q)) xs n g

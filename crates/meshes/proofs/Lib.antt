@@ -1,3 +1,4 @@
+pub mod Notes
 pub mod Puts
 pub mod Removes
 pub mod Builds

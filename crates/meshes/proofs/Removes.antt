@@ -1,4 +1,4 @@
--- A cell goes from its slot: corner after corner, then its kind.
+-- A cell goes from its slot: corner after corner, and what is noted of the corner's node, then its kind.
 use mathlib.Core.Path.{_≡_, refl, ap, sym, _∙_, subst}
 use mathlib.Core.Logic.{_≢_}
 use mathlib.Core.Bool.{Bool, true, false, not, cond}
@@ -14,13 +14,15 @@ use Rattle.rings.proofs.Rings.{on, off}
 use Rattle.rings.proofs.Families.{family-kept, same-rings, can-unlink, unlinked}
 use Rattle.definition.specs.Lists.{filter}
 use Rattle.definition.specs.Cells.{Cell, Live, Mesh, nodes, new-live, with-live, in-slot, remove-cell, set-cell, without as without-slot}
-use Rattle.cells.specs.Layout.{nodes-at, rings-at, codes, mesh-end}
+use Rattle.cells.specs.Layout.{nodes-at, rings-at, codes, notes-at, fronts-at}
+use Rattle.cells.specs.Notes.{note, NoteAt}
 use Rattle.cells.specs.Rep.{Shape, CellAt, Held, Cells, slots, Has, here, there, at-node, cell-corners, corners, Room, Rep}
-use Rattle.meshes.specs.Changes.{CanSet, CanPut, put}
+use Rattle.meshes.specs.Changes.{CanSet, CanPut, put, CanForget, Forgets}
 use Rattle.cells.specs.Frames.{Under, Keeps}
 use Rattle.cells.proofs.Members.{Lookup, absent, present, lookup, has-held}
 use Rattle.cells.proofs.Corners.{node-count, at-node-out, out-left, out-right, corner-in, cell-out, below-at}
-use Rattle.cells.proofs.Frames.{Elsewhere, cells-else, under-trans, under-kept, under-refl, keeps-trans, keeps-set, keeps-kept, keeps-refl}
+use Rattle.cells.proofs.Frames.{Elsewhere, cells-else, under-trans, under-kept, under-less, under-refl, keeps-trans, keeps-set}
+use Rattle.meshes.proofs.Notes.{note-kept, note-turned, without-of, remove-same, forget-else, forget-same}
 
 -- ---- lists of numbers
 
@@ -154,15 +156,26 @@ has-corner c v (there {y = y} {l = l} k) n h = has-corner c v k n (out-right c (
 
 -- ---- the stages of a removal
 
--- the first k corners of slot i were taken out
+-- a note that is not 0 is as before, and its node u is none of the first k of slot i
+pub record Left (w₀ w : List ℕ) (s p i k u : ℕ) : Type 0 where
+  pub same : note w s p u ≡ note w₀ s p u
+  pub other : (j : ℕ) → j < k → getD w₀ (nodes-at s + 4 * i + j) 0 ≢ u
+
+-- the first k corners of slot i were taken out, and nothing is noted of their nodes
 pub record Lifting (w₀ w : List ℕ) (s p i k : ℕ) (l : List Live) : Type 0 where
   pub under : Under w₀ w (5 * s)
+  pub notes : (u : ℕ) → 0 < note w s p u → Left w₀ w s p i k u
   pub rings : Family w (rings-at s) (codes s p) (4 * s) (λ v. stripped i k (corners l v))
 
 module _ (w₀ : List ℕ) (s p i : ℕ) (m : Mesh) (r : Rep w₀ s p m) (is : i < s) where
   pub lift-start : Lifting w₀ w₀ s p i 0 (m .live)
   unfolding stripped
-  lift-start = record { under = under-refl w₀ (5 * s); rings = r .rings }
+  lift-start =
+      record {
+        under = under-refl w₀ (5 * s);
+        notes = λ u h. record { same = refl; other = λ j q. absurd (omega (arith, q)) };
+        rings = r .rings;
+      }
 
   pub kind-most : getD w₀ i 0 ≤ 4
   kind-most = go (lookup i (m .live))
@@ -173,35 +186,75 @@ module _ (w₀ : List ℕ) (s p i : ℕ) (m : Mesh) (r : Rep w₀ s p m) (is : i
           let k : getD w₀ (x .slot) 0 ≡ length (nodes (x .cell)) = has-held w₀ s (m .used) (length (m .points)) h (r .cells) .at .kind in
           rw (← e, k) (node-count (x .cell) .1)
 
+  -- node k of the slot is a point
+  pub node-known : (k : ℕ) → k < getD w₀ i 0 → getD w₀ (nodes-at s + 4 * i + k) 0 < p
+  node-known k kn = go (lookup i (m .live))
+    where
+      go : Lookup i (m .live) → getD w₀ (nodes-at s + 4 * i + k) 0 < p
+      go (absent o) = absurd (omega (arith, r .dead i is o))
+      go (present x e h) =
+          let d = has-held w₀ s (m .used) (length (m .points)) h (r .cells) in
+          let ns = nodes (x .cell) in
+          let q : getD w₀ i 0 ≡ length ns = ap (λ (j : ℕ). getD w₀ j 0) (sym e) ∙ d .at .kind in
+          let z : getD w₀ (nodes-at s + 4 * i + k) 0 ≡ getD ns k 0 = ap (λ (j : ℕ). getD w₀ (nodes-at s + 4 * j + k) 0) (sym e) ∙ d .at .node k (omega arith) in
+          omega (arith, below-at (length (m .points)) ns k (d .shape .known) (omega arith), r .points)
+
   module _ (w : List ℕ) (k : ℕ) (f : Lifting w₀ w s p i k (m .live)) (kn : k < getD w₀ i 0) where
-    pub lift-can : CanUnlink w (rings-at s) (codes s p) (4 * i + k)
-    lift-can = go (lookup i (m .live))
-      where
-        go : Lookup i (m .live) → CanUnlink w (rings-at s) (codes s p) (4 * i + k)
-        go (absent o) = absurd (omega (arith, r .dead i is o))
-        go (present x e h) =
-            let d = has-held w₀ s (m .used) (length (m .points)) h (r .cells) in
-            let q : getD w₀ i 0 ≡ length (nodes (x .cell)) = ap (λ (j : ℕ). getD w₀ j 0) (sym e) ∙ d .at .kind in
-            let ns = nodes (x .cell) in
-            let a = getD ns k 0 in
-            let an : a < length (m .points) = below-at (length (m .points)) ns k (d .shape .known) (omega arith) in
-            let z : 4 * x .slot + (0 + k) ≡ 4 * i + k = omega arith in
-            can-unlink w (rings-at s) (codes s p) (4 * s) (λ v. stripped i k (corners (m .live) v)) (f .rings) (4 * i + k) a (omega (arith, kind-most)) (omega (arith, r .points))
-            (λ o. has-corner (4 * i + k) a h (λ y. corner-in (4 * x .slot) 0 ns k (omega arith) (rw z y))
-            (out-stripped i k (4 * i + k) (corners (m .live) a) (λ j g. omega arith) o))
+    -- the node in place k, as the loop reads it
+    pub lift-node : getD w (nodes-at s + 4 * i + k) 0 ≡ getD w₀ (nodes-at s + 4 * i + k) 0
+    lift-node = f .under .low (nodes-at s + 4 * i + k) (omega (arith, kind-most))
 
-    pub lift-more : (w' : List ℕ) → UnlinkedFrom w w' (rings-at s) (codes s p) (4 * i + k) → Lifting w₀ w' s p i (k + 1) (m .live)
-    unfolding stripped
-    lift-more w' t =
-        let e : k + 1 ≡ suc k = omega arith in
-        rw e (record {
-          under = under-trans w₀ w w' (5 * s) (f .under) (under-kept w w' (5 * s) (rings-at s) (codes s p) (omega arith) (t .kept));
-          rings = unlinked w (rings-at s) (codes s p) (4 * s) (λ v. stripped i k (corners (m .live) v)) (f .rings) w' (4 * i + k) (omega (arith, kind-most)) t;
-        })
+    pub lift-can-forget : (a : ℕ) → a ≡ getD w (nodes-at s + 4 * i + k) 0 → CanForget w s p a
+    lift-can-forget a e =
+        record { room = record { fits = omega (arith, f .under .len, r .room .fits); small = r .room .small }; node = omega (arith, lift-node, node-known k kn) }
 
-  pub lift-done : (w : List ℕ) (n : ℕ) → getD w₀ i 0 ≡ n → Lifting w₀ w s p i n (m .live) → Rep (set w i 0) s p (remove-cell m i)
+    module _ (w1 : List ℕ) (a : ℕ) (ea : a ≡ getD w (nodes-at s + 4 * i + k) 0) (g : Forgets w w1 s p a) where
+      -- a note that is still there
+      left : (u : ℕ) → 0 < note w1 s p u → Left w₀ w1 s p i (suc k) u
+      left u h =
+          let e : note w1 s p u ≡ note w s p u = forget-same w w1 s p a g u h in
+          let n = f .notes u (omega arith) in
+          record { same = e ∙ n .same; other = λ j q. other j q (decide j k) n }
+        where
+          other : (j : ℕ) → j < suc k → Same j k → Left w₀ w s p i k u → getD w₀ (nodes-at s + 4 * i + j) 0 ≢ u
+          other j q (same z) n y = forget-else w w1 s p a g u h (sym y ∙ ap (λ (x : ℕ). getD w₀ (nodes-at s + 4 * i + x) 0) z ∙ sym lift-node ∙ sym ea)
+          other j q (differ z) n y = n .other j (omega arith) y
+
+      lift-rings : Family w1 (rings-at s) (codes s p) (4 * s) (λ v. stripped i k (corners (m .live) v))
+      lift-rings =
+          family-kept w w1 (rings-at s) (codes s p) (4 * s) (λ v. stripped i k (corners (m .live) v)) (g .under .len) (λ x h q. g .under .low x (omega arith)) (f .rings)
+
+      pub lift-can : CanUnlink w1 (rings-at s) (codes s p) (4 * i + k)
+      lift-can = go (lookup i (m .live))
+        where
+          go : Lookup i (m .live) → CanUnlink w1 (rings-at s) (codes s p) (4 * i + k)
+          go (absent o) = absurd (omega (arith, r .dead i is o))
+          go (present x e h) =
+              let d = has-held w₀ s (m .used) (length (m .points)) h (r .cells) in
+              let q : getD w₀ i 0 ≡ length (nodes (x .cell)) = ap (λ (j : ℕ). getD w₀ j 0) (sym e) ∙ d .at .kind in
+              let ns = nodes (x .cell) in
+              let b = getD ns k 0 in
+              let bn : b < length (m .points) = below-at (length (m .points)) ns k (d .shape .known) (omega arith) in
+              let z : 4 * x .slot + (0 + k) ≡ 4 * i + k = omega arith in
+              can-unlink w1 (rings-at s) (codes s p) (4 * s) (λ v. stripped i k (corners (m .live) v)) lift-rings (4 * i + k) b (omega (arith, kind-most)) (omega (arith, r .points))
+              (λ o. has-corner (4 * i + k) b h (λ y. corner-in (4 * x .slot) 0 ns k (omega arith) (rw z y))
+              (out-stripped i k (4 * i + k) (corners (m .live) b) (λ j l. omega arith) o))
+
+      pub lift-more : (w' : List ℕ) → UnlinkedFrom w1 w' (rings-at s) (codes s p) (4 * i + k) → Lifting w₀ w' s p i (k + 1) (m .live)
+      unfolding stripped
+      lift-more w' t =
+          let e : k + 1 ≡ suc k = omega arith in
+          let after : (u : ℕ) → note w' s p u ≡ note w1 s p u = λ u. t .kept .after (notes-at s p + u) (omega arith) in
+          rw e (record {
+            under = under-trans w₀ w w' (5 * s) (f .under)
+                (under-trans w w1 w' (5 * s) (under-less w w1 (5 * s) (notes-at s p) (omega arith) (g .under)) (under-kept w1 w' (5 * s) (rings-at s) (codes s p) (omega arith) (t .kept)));
+            notes = λ u h. let n = left u (rw (← after u) h) in record { same = after u ∙ n .same; other = n .other };
+            rings = unlinked w1 (rings-at s) (codes s p) (4 * s) (λ v. stripped i k (corners (m .live) v)) lift-rings w' (4 * i + k) (omega (arith, kind-most)) t;
+          })
+
+  pub lift-done : (w : List ℕ) (n : ℕ) → getD w₀ i 0 ≡ n → Keeps w₀ w (fronts-at s p) → Lifting w₀ w s p i n (m .live) → Rep (set w i 0) s p (remove-cell m i)
   unfolding remove-cell with-live
-  lift-done w n z f =
+  lift-done w n z k f =
       let l = m .live in
       let w' = set w i 0 in
       let g : length w' ≡ length w = simp length-set in
@@ -220,8 +273,17 @@ module _ (w₀ : List ℕ) (s p i : ℕ) (m : Mesh) (r : Rep w₀ s p m) (is : i
             (λ v. corners-stripped i n v l (omega (arith, kind-most)) (kinds-of w₀ s (m .used) (length (m .points)) i n l (r .cells) z))
             (family-kept w w' (rings-at s) (codes s p) (4 * s) (λ v. stripped i n (corners l v)) g (λ x h q. off w i 0 x (omega arith)) (f .rings));
         dead = λ j js o. dead j js (decide j i) (rw (slots-without i l) at o) e;
+        notes = λ u h. notes u h;
       }
     where
+      notes : (u : ℕ) → u < p → NoteAt (set w i 0) s p (remove-cell m i) u
+      notes u h =
+          let w' = set w i 0 in
+          let x : note w' s p u ≡ note w s p u = off w i 0 (notes-at s p + u) (omega arith) in
+          note-turned w' s p u m (remove-cell m i) refl
+          (λ q. remove-same m i u (without-of w₀ s (m .used) (length (m .points)) i n u (m .live) (r .cells) z (f .notes u (rw (← x) q) .other)))
+          (note-kept w₀ w' s p u m (keeps-trans w₀ w w' (fronts-at s p) k (keeps-set w (fronts-at s p) i 0 (omega arith))) (λ q. x ∙ f .notes u (rw (← x) q) .same) (r .notes u h))
+
       dead : (j : ℕ) → j < s → Same j i → Out j (without i (slots (m .live))) → Elsewhere w₀ (set w i 0) s i → getD (set w i 0) j 0 ≡ 0
       dead j js (same q) o e = rw q (on w i 0 (omega (arith, f .under .len, r .room .fits)))
       dead j js (differ q) o e = e .kinds j js q ∙ r .dead j js (out-before i j (slots (m .live)) q o)

@@ -5,9 +5,10 @@ use Prim.Native.Nat.{ℕ, suc, _+_, _*_, _<_, _≤_}
 use lib.ListN.{length, getD}
 use Rattle.rings.specs.Rings.{Out, Distinct, Below, Family}
 use Rattle.definition.specs.Cells.{Cell, Live, Mesh, nodes, tri, new-tri, quad, new-quad, new-live, with-live}
-use Rattle.cells.specs.Layout.{nodes-at, rings-at, codes, mesh-end}
+use Rattle.cells.specs.Layout.{nodes-at, rings-at, codes, notes-at, fronts-at, mesh-end}
+use Rattle.cells.specs.Notes.{note, NoteAt}
 use Rattle.cells.specs.Rep.{Shape, Cells, slots, corners, at-node, Room, Rep}
-use Rattle.cells.specs.Frames.{Keeps}
+use Rattle.cells.specs.Frames.{Under, Keeps}
 
 -- the memory of each mesh that `may` be changed becomes that of the changed mesh; beyond the mesh's own areas nothing changed
 pub record Turns (w w' : List ℕ) (s p : ℕ) (may : Mesh → Type 0) (to : Mesh → Mesh) : Type 0 where
@@ -54,32 +55,48 @@ pub record Puts (w w' : List ℕ) (s p i : ℕ) (t : Cell) : Type 0 where
   pub rep : (m : Mesh) (n : ℕ) → Rep w s p m → CanPut m s i n t → Rep w' s p (put m i n t)
   pub keeps : Keeps w w' (mesh-end s p)
 
--- the live cells l are stored, and slot i, which is none of theirs, has kind n and so far the nodes ns, linked
-pub record Filling (w : List ℕ) (s p k m n i : ℕ) (l : List Live) (ns : List ℕ) : Type 0 where
+-- node a has a note
+pub record CanForget (w : List ℕ) (s p a : ℕ) : Type 0 where
+  pub room : Room w s p
+  pub node : a < p
+
+-- nothing is noted of it any more, and nothing else changed
+pub record Forgets (w w' : List ℕ) (s p a : ℕ) : Type 0 where
+  pub none : note w' s p a ≡ 0
+  pub other : (u : ℕ) → (u ≡ a → ⊥) → note w' s p u ≡ note w s p u
+  pub under : Under w w' (notes-at s p)
+  pub keeps : Keeps w w' (fronts-at s p)
+
+-- the note of u is true of the mesh, and u is none of the nodes ns if something is noted
+pub record Apart (w : List ℕ) (s p : ℕ) (m : Mesh) (ns : List ℕ) (u : ℕ) : Type 0 where
+  pub is : NoteAt w s p m u
+  pub out : 0 < note w s p u → Out u ns
+
+-- the live cells of the mesh m are stored, and slot i, which is none of theirs, has kind n and so far the nodes ns, linked; the notes are true of m
+pub record Filling (w : List ℕ) (s p n i : ℕ) (m : Mesh) (ns : List ℕ) : Type 0 where
   pub room : Room w s p
   pub inside : i < s
-  pub fresh : Out i (slots l)
-  pub below : k ≤ s
-  pub few : m ≤ p
+  pub fresh : Out i (slots (m .live))
+  pub below : m .used ≤ s
+  pub few : length (m .points) ≤ p
   pub kind : getD w i 0 ≡ n
-  pub cells : Cells w s k m l
-  pub dead : (j : ℕ) → j < s → (j ≡ i → ⊥) → Out j (slots l) → getD w j 0 ≡ 0
+  pub cells : Cells w s (m .used) (length (m .points)) (m .live)
+  pub dead : (j : ℕ) → j < s → (j ≡ i → ⊥) → Out j (slots (m .live)) → getD w j 0 ≡ 0
   pub node : (j : ℕ) → j < length ns → getD w (nodes-at s + 4 * i + j) 0 ≡ getD ns j 0
-  pub rings : Family w (rings-at s) (codes s p) (4 * s) (λ v. corners l v ++ at-node v (4 * i) 0 ns)
+  pub rings : Family w (rings-at s) (codes s p) (4 * s) (λ v. corners (m .live) v ++ at-node v (4 * i) 0 ns)
+  pub notes : (u : ℕ) → u < p → Apart w s p m ns u
 
--- some cells and nodes for which the memory stands so, with j nodes
+-- some mesh and nodes for which the memory stands so, with j nodes
 pub record Fills (w : List ℕ) (s p i j a : ℕ) : Type 0 where
-  pub k : ℕ
-  pub m : ℕ
   pub n : ℕ
-  pub l : List Live
+  pub m : Mesh
   pub ns : List ℕ
-  pub is : Filling w s p k m n i l ns
+  pub is : Filling w s p n i m ns
   pub many : length ns ≡ j
   pub few : j < 4
   pub node : a < p
 
 -- node a was placed
 pub record Placed (w w' : List ℕ) (s p i j a : ℕ) : Type 0 where
-  pub is : (k m n : ℕ) (l : List Live) (ns : List ℕ) → Filling w s p k m n i l ns → length ns ≡ j → Filling w' s p k m n i l (ns ++ a ∷ [])
+  pub is : (n : ℕ) (m : Mesh) (ns : List ℕ) → Filling w s p n i m ns → length ns ≡ j → Filling w' s p n i m (ns ++ a ∷ [])
   pub keeps : Keeps w w' (mesh-end s p)

@@ -3,6 +3,7 @@ use crate::store::push_tri;
 use cells::clear::clear_first;
 use cells::layout::BEFORE;
 use cells::layout::CORNERS;
+use cells::layout::mesh_end;
 use rings::open;
 use rings::wide;
 ghost use Rattle.cells.specs.Rep.{Room};
@@ -13,7 +14,7 @@ fn empty(w: &mut [u32], s: usize, p: usize)
     requires { ⌜ Room (now w) s p ⌝ }
     ensures { λ r. ⌜ Empties (now (w .entry)) (now (w .exit)) s p ⌝ }
 {
-    clear_first(w, s);
+    clear_first(w, mesh_end(s, p));
     open(w, BEFORE * s, CORNERS * s + p, CORNERS * s);
 }
 

@@ -1,19 +1,29 @@
 // Cells come into slots and go.
 use cells::layout::BEFORE;
 use cells::layout::CORNERS;
+use cells::layout::notes_at;
 use rings::link;
 use rings::unlink;
 use rings::wide;
 ghost use Prim.Native.Nat.{ℕ, _<_};
 ghost use Rattle.definition.specs.Cells.{Mesh, push-cell, set-cell, remove-cell};
 ghost use Rattle.cells.specs.Rep.{Rep};
-ghost use Rattle.meshes.specs.Changes.{Turns, tri-of-nodes, quad-of-nodes, CanPush, CanSet, CanPut, Puts, Fills, Placed, Anything};
+ghost use Rattle.meshes.specs.Changes.{Turns, tri-of-nodes, quad-of-nodes, CanPush, CanSet, CanPut, Puts, CanForget, Forgets, Fills, Placed, Anything};
 
-// Node a comes into place k of slot i, and its corner to the end of the ring of a.
+// Nothing is noted of node a any more.
+fn forget(w: &mut [u32], s: usize, p: usize, a: usize)
+    requires { ⌜ CanForget (now w) s p a ⌝ }
+    ensures { λ r. ⌜ Forgets (now (w .entry)) (now (w .exit)) s p a ⌝ }
+{
+    w[notes_at(s, p) + a] = 0;
+}
+
+// Node a comes into place k of slot i, and its corner to the end of the ring of a; what was noted of a is forgotten.
 fn place(w: &mut [u32], s: usize, p: usize, i: usize, k: usize, a: usize)
     requires { ⌜ Fills (now w) s p i k a ⌝ }
     ensures { λ r. ⌜ Placed (now (w .entry)) (now (w .exit)) s p i k a ⌝ }
 {
+    forget(w, s, p, a);
     w[s + CORNERS * i + k] = a as u32;
     link(
         w,
@@ -72,7 +82,7 @@ pub fn push_quad(
     put_quad(w, s, p, i, a, b, c, d);
 }
 
-// The cell in slot i goes, if there is one; the slot is not used again.
+// The cell in slot i goes, if there is one, and what was noted of its nodes; the slot is not used again.
 pub fn remove_cell(w: &mut [u32], s: usize, p: usize, i: usize)
     requires { ⌜ ((m : Mesh) × Rep (now w) s p m) ⌝ }
     requires { ⌜ i < s ⌝ }
@@ -81,6 +91,8 @@ pub fn remove_cell(w: &mut [u32], s: usize, p: usize, i: usize)
     let n = wide(w[i]);
     let mut k = 0;
     while k < n {
+        let a = wide(w[s + CORNERS * i + k]);
+        forget(w, s, p, a);
         unlink(w, BEFORE * s, CORNERS * s + p, CORNERS * i + k);
         k += 1;
     }

@@ -18,7 +18,7 @@ use Rattle.cells.specs.declared.counters.Counters.{Counters}
 use Rattle.cells.proofs.Edges.{key-up}
 use Rattle.cells.proofs.Frames.{keeps-refl, keeps-trans, keeps-more}
 use Rattle.cells.proofs.Slots.{owner-found, owner-none, Found}
-use Rattle.flips.specs.Cross.{Known}
+use Rattle.crossings.specs.Cross.{Known}
 use Rattle.flips.specs.Recover.{RecoverTo}
 use Rattle.lending.specs.Ready.{lent, Ready}
 use Rattle.lending.specs.Ends.{end-of}

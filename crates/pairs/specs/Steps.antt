@@ -15,7 +15,7 @@ use Rattle.cells.specs.Rep.{TriIn}
 use Rattle.cells.specs.Frames.{Keeps}
 use Rattle.cells.specs.declared.counters.Counters.{Counters}
 use Rattle.regions.specs.Listing.{Listed, Aside}
-use Rattle.flips.specs.Cross.{Known}
+use Rattle.crossings.specs.Cross.{Known}
 use Rattle.flips.specs.Recover.{RecoverTo}
 use Rattle.lending.specs.Ready.{Ready}
 use Rattle.lending.specs.Ends.{end-of, quad-of}

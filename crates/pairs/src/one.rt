@@ -14,7 +14,7 @@ ghost use Rattle.definition.specs.Numbers.{base};
 ghost use Rattle.definition.specs.Cells.{Live, Mesh, new-quad, tri-owner};
 ghost use Rattle.definition.specs.Region.{region};
 ghost use Rattle.definition.specs.Attempt.{try-region, try-pair};
-ghost use Rattle.flips.specs.Cross.{Known};
+ghost use Rattle.crossings.specs.Cross.{Known};
 ghost use Rattle.regions.specs.Listing.{Listed};
 ghost use Rattle.lending.specs.Ready.{lent};
 ghost use Rattle.pairs.specs.Steps.{Corners, CanTry, CanFill, CanGive, RecoversAll, OddIf, Tries};

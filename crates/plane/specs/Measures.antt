@@ -1,9 +1,10 @@
--- The metrics enum by its cases, and the products of side lengths at a quad's corners.
+-- The metrics enum by its cases, a quad's side lengths, and their products at its corners.
 use mathlib.Core.Path.{_≡_}
 use lib.Ieee.{Float}
-use Rattle.definition.specs.Plane.{Node}
+use Rattle.definition.specs.Plane.{Node, dist}
 use Rattle.definition.specs.Metrics as metrics
 use Rattle.definition.specs.Metrics.{absent, measured, corner-of, angle-of}
+use Rattle.plane.specs.declared.lengths.Lengths.{Lengths}
 use Rattle.plane.specs.declared.metrics.Metrics.{Metrics}
 use Rattle.plane.specs.declared.metrics.Metrics.the-variants.{Absent, Measured}
 use Rattle.plane.specs.declared.metrics.Sides.{Sides}
@@ -12,6 +13,13 @@ use Rattle.plane.specs.declared.metrics.Sides.{Sides}
 unfoldable pub metrics-of-enum : Metrics → metrics.Metrics
 metrics-of-enum Absent = absent
 metrics-of-enum (Measured sj k) = measured sj k
+
+-- the lengths of the sides of the quad a b c d, each the same from either end
+pub record LengthsOf (l : Lengths) (a b c d : Node) : Type 0 where
+  pub ab : (l .«ab» ≡ dist a b) × (l .«ab» ≡ dist b a)
+  pub bc : (l .«bc» ≡ dist b c) × (l .«bc» ≡ dist c b)
+  pub cd : (l .«cd» ≡ dist c d) × (l .«cd» ≡ dist d c)
+  pub da : (l .«da» ≡ dist d a) × (l .«da» ≡ dist a d)
 
 -- at each corner of the quad a b c d the product of the lengths of its two sides
 pub record SidesOf (s : Sides) (a b c d : Node) : Type 0 where

@@ -7,13 +7,17 @@ ghost use Rattle.definition.specs.Floats.{_⊕_, _⊗_, lesser, 0·25, 1·0};
 ghost use Rattle.definition.specs.Plane.{norm};
 ghost use Rattle.definition.specs.Metrics.{corner, d0, d1, weights, weighted, scaled, min-scaled-jacobian};
 ghost use Rattle.plane.specs.Columns.{column};
+ghost use Rattle.plane.specs.Measures.{LengthsOf};
 ghost use Rattle.plane.specs.Points.{Within, node};
 ghost use Rattle.plane.specs.Vectors.{vec};
 use crate::floats::lesser;
+use crate::lengths::Lengths;
+use crate::lengths::lengths_of;
+use crate::lengths::norm_by;
 use crate::points::Spot;
 use crate::points::at;
 use crate::vectors::Vec;
-use crate::vectors::norm;
+use crate::vectors::between;
 
 // The derivative of the shape function of the node whose reference corner has l along the direction and m across it, at t across.
 fn weight(l: f64, m: f64, t: f64) -> f64
@@ -82,24 +86,31 @@ fn least(a: f64, b: f64, c: f64, d: f64) -> f64
     lesser(lesser(lesser(lesser(1.0 / 0.0, a), b), c), d)
 }
 
-// The least scaled Jacobian of the quad a b c d. Two corners share each column.
-pub fn min_scaled_jacobian_of(a: Spot, b: Spot, c: Spot, d: Spot) -> f64
-    ensures { λ r. ⌜ r ≡ min-scaled-jacobian (node a) (node b) (node c) (node d) ⌝ }
+// The least scaled Jacobian of the quad a b c d, whose sides' lengths are handed in. Two corners share each column, and a column is half of a side.
+pub fn least_jacobian(a: Spot, b: Spot, c: Spot, d: Spot, sides: Lengths) -> f64
+    ensures { λ r. ⌜ (LengthsOf sides (node a) (node b) (node c) (node d) → r ≡ min-scaled-jacobian (node a) (node b) (node c) (node d)) ⌝ }
 {
     let low = first_column(-1.0, a, b, c, d);
     let high = first_column(1.0, a, b, c, d);
     let left = second_column(-1.0, a, b, c, d);
     let right = second_column(1.0, a, b, c, d);
-    let low_long = norm(low);
-    let high_long = norm(high);
-    let left_long = norm(left);
-    let right_long = norm(right);
+    let low_long = norm_by(low, between(a, b), sides.ab);
+    let high_long = norm_by(high, between(d, c), sides.cd);
+    let left_long = norm_by(left, between(a, d), sides.da);
+    let right_long = norm_by(right, between(b, c), sides.bc);
     least(
         scaled(low, left, low_long, left_long),
         scaled(low, right, low_long, right_long),
         scaled(high, right, high_long, right_long),
         scaled(high, left, high_long, left_long),
     )
+}
+
+// The least scaled Jacobian of the quad a b c d.
+pub fn min_scaled_jacobian_of(a: Spot, b: Spot, c: Spot, d: Spot) -> f64
+    ensures { λ r. ⌜ r ≡ min-scaled-jacobian (node a) (node b) (node c) (node d) ⌝ }
+{
+    least_jacobian(a, b, c, d, lengths_of(a, b, c, d))
 }
 
 // The least scaled Jacobian of the quad of four nodes.

@@ -2,6 +2,7 @@
 pub mod area;
 pub mod floats;
 pub mod jacobian;
+pub mod lengths;
 pub mod limits;
 pub mod metrics;
 pub mod points;

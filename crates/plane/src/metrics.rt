@@ -7,15 +7,18 @@ ghost use Rattle.definition.specs.Call.{point-at};
 ghost use Rattle.definition.specs.Floats.{_≺_, _≼_, finite, greater, 0·0};
 ghost use Rattle.definition.specs.Lists.{any};
 ghost use Rattle.definition.specs.Numbers.{Numbers, base};
+ghost use Rattle.definition.specs.Plane.{Node};
 ghost use Rattle.definition.specs.Metrics.{corners, corner-of, angle-of, not-convex, clamp, cosine, largest-cosine, quad-metrics, passes, score};
 ghost use Rattle.plane.specs.Limits.{Fixed};
-ghost use Rattle.plane.specs.Measures.{SidesOf, metrics-of-enum};
+ghost use Rattle.plane.specs.Measures.{LengthsOf, SidesOf, metrics-of-enum};
 ghost use Rattle.plane.specs.Points.{Within, node};
 use crate::area::twice_area;
 use crate::floats::finite;
 use crate::floats::greater;
 use crate::floats::lesser;
-use crate::jacobian::min_scaled_jacobian_of;
+use crate::jacobian::least_jacobian;
+use crate::lengths::Lengths;
+use crate::lengths::lengths_of;
 use crate::limits::LARGEST_COSINE;
 use crate::limits::LEAST_JACOBIAN;
 use crate::points::Spot;
@@ -24,7 +27,6 @@ use crate::sides::any_of;
 use crate::sides::cross_of;
 use crate::sides::tiny;
 use crate::vectors::between;
-use crate::vectors::dist_of;
 use crate::vectors::dot;
 
 // Absent, or the least scaled Jacobian and the largest cosine of the corners.
@@ -63,18 +65,14 @@ fn bent(a: Spot, b: Spot, c: Spot, d: Spot) -> bool
 }
 
 // Four lengths, each with its neighbour's.
-fn sides_of(a: Spot, b: Spot, c: Spot, d: Spot) -> Sides
-    ensures { λ r. ⌜ SidesOf r (node a) (node b) (node c) (node d) ⌝ }
+fn sides_of(l: Lengths) -> Sides
+    ensures { λ r. ⌜ ((a b c d : Node) → LengthsOf l a b c d → SidesOf r a b c d) ⌝ }
 {
-    let ab = dist_of(a, b);
-    let bc = dist_of(b, c);
-    let cd = dist_of(c, d);
-    let da = dist_of(d, a);
     Sides {
-        at_a: da * ab,
-        at_b: ab * bc,
-        at_c: bc * cd,
-        at_d: cd * da,
+        at_a: l.da * l.ab,
+        at_b: l.ab * l.bc,
+        at_c: l.bc * l.cd,
+        at_d: l.cd * l.da,
     }
 }
 
@@ -138,14 +136,12 @@ pub fn quad_metrics_of(a: Spot, b: Spot, c: Spot, d: Spot) -> Metrics
     if bent(a, b, c, d) {
         return Metrics::Absent;
     }
-    let s = sides_of(a, b, c, d);
+    let l = lengths_of(a, b, c, d);
+    let s = sides_of(l);
     if flat_side(s) {
         return Metrics::Absent;
     }
-    Metrics::Measured(
-        min_scaled_jacobian_of(a, b, c, d),
-        largest_cosine(a, b, c, d, s),
-    )
+    Metrics::Measured(least_jacobian(a, b, c, d, l), largest_cosine(a, b, c, d, s))
 }
 
 // Of the quad of four nodes: absent where the area, a corner or a side is zero or negative.

@@ -66,7 +66,7 @@ module _ (w₀ w : List ℕ) (s p i : ℕ) (l : i < s) (r : CanMark w₀ s p) (h
       w' : List ℕ
       w' = set w1 (list-at s p + 0) i
 
-      fits : 16 * s + 2 * p ≤ length w
+      fits : 22 * s + 3 * p ≤ length w
       fits = omega (arith, r .fits, h .aside .under .len)
 
       len : length w' ≡ length w

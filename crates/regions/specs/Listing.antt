@@ -43,13 +43,13 @@ pub record State (w : List ℕ) (s p n : ℕ) (m : Mesh) (xs : List Live) : Type
 
 -- place i of the list, or the mark of slot i
 pub record CanList (w : List ℕ) (s p i : ℕ) : Type 0 where
-  pub fits : 16 * s + 2 * p ≤ length w
+  pub fits : 22 * s + 3 * p ≤ length w
   pub small : 4 * s + p ≤ 2 ^ 32
   pub inside : i < s
 
 -- the marks are there
 pub record CanMark (w : List ℕ) (s p : ℕ) : Type 0 where
-  pub fits : 16 * s + 2 * p ≤ length w
+  pub fits : 22 * s + 3 * p ≤ length w
   pub small : 4 * s + p ≤ 2 ^ 32
 
 -- the live cell x of slot j is met with xs listed

@@ -41,6 +41,10 @@ toBits-of (inf s) a h = absurd h
 toBits-of (fin true m e) a h = absurd (true≢false (h .0))
 toBits-of (fin false m e) a h = toBits-plus m e ∙ ap layout (ap (λ (x : ℕ). x / down e) (h .1) ∙ mul-div-cancel a (down-pos e))
 
+-- two doubles that are a / 2 ^ 1074 are the same
+pub same-value : (x y : Float) (a : ℕ) → T (fits binary64 x) → T (fits binary64 y) → HasValue x false a (2 ^ 1074) → HasValue y false a (2 ^ 1074) → x ≡ y
+same-value x y a p q v w = sym (ofBits-toBits binary64 x p) ∙ ap (ofBits binary64) (toBits-of x a v ∙ sym (toBits-of y a w)) ∙ ofBits-toBits binary64 y q
+
 pub units-bits : (q k : ℕ) → 2 ^ 52 ≤ q → q < 2 ^ 53 → k ≤ 2000 → toBits binary64 (units binary64 false q k) ≡ k * 2 ^ 52 + q
 units-bits q k lo hi K =
     let a = q * 2 ^ k in

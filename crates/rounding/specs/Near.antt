@@ -31,7 +31,7 @@ ulps-of (inf s) a h = absurd h
 ulps-of (fin s m e) a h = ap (λ (y : ℕ). y / down e) (h .1) ∙ mul-div-cancel a (down-pos e)
 
 -- ---- a finite double above zero, taken apart: it is m * 2 ^ d units
-digits-of : (m : ℕ) (e : ℤ) → T (fits binary64 (fin false (suc m) e))
+pub digits-of : (m : ℕ) (e : ℤ) → T (fits binary64 (fin false (suc m) e))
     → (n : ℕ) × (d : ℕ) × (0 < n) × (n < 2 ^ 53) × (d ≤ 2045) × HasValue (fin false (suc m) e) false (n * 2 ^ d) (2 ^ 1074)
 digits-of m e f =
     let x = fin false (suc m) e in
@@ -47,20 +47,20 @@ even-of n g l = go (g % 2) refl
     go zero e = (n, record { even = λ _. refl; odd = λ k. omega arith; least = omega arith; most = omega arith })
     go (suc r) e = (n * 2, record { even = λ k. omega arith; odd = λ _. refl; least = omega arith; most = omega arith })
 
-record Parts (x : Float) : Type 0 where
-  a : ℕ
-  R : ℕ
-  s : ℕ
-  h : ℕ
-  a-pos : 0 < a
-  value : HasValue x false a (2 ^ 1074)
-  lo : 2 ^ 52 ≤ R
-  hi : R ≤ 2 ^ 54 - 2
-  H : h ≤ 1048
-  root : IsRoot (R * 2 ^ 54) s
-  scaled : a * 2 ^ 52 ≡ R * (2 ^ h * 2 ^ h)
+pub record Parts (x : Float) : Type 0 where
+  pub a : ℕ
+  pub R : ℕ
+  pub s : ℕ
+  pub h : ℕ
+  pub a-pos : 0 < a
+  pub value : HasValue x false a (2 ^ 1074)
+  pub lo : 2 ^ 52 ≤ R
+  pub hi : R ≤ 2 ^ 54 - 2
+  pub H : h ≤ 1048
+  pub root : IsRoot (R * 2 ^ 54) s
+  pub scaled : a * 2 ^ 52 ≡ R * (2 ^ h * 2 ^ h)
 
-parts : (m : ℕ) (e : ℤ) → T (fits binary64 (fin false (suc m) e)) → Parts (fin false (suc m) e)
+pub parts : (m : ℕ) (e : ℤ) → T (fits binary64 (fin false (suc m) e)) → Parts (fin false (suc m) e)
 parts m e f =
     let p = digits-of m e f in
     let n = p .0 in
@@ -137,7 +137,7 @@ record Within (x r : Float) : Type 0 where
   half : HalfUnit x r
   at-edge : half .q ≡ 2 ^ 52 → 2 * half .q * 2 ^ (half .k) * (2 * half .q * 2 ^ (half .k)) ≤ 4 * ulps x * 2 ^ 1074
 
-small-enough : (q k : ℕ) → q < 2 ^ 53 → k ≤ 2000 → q * 2 ^ k < 2 ^ 2098
+pub small-enough : (q k : ℕ) → q < 2 ^ 53 → k ≤ 2000 → q * 2 ^ k < 2 ^ 2098
 small-enough q k h l =
     let r : 53 + k ≤ 2098 = omega arith in
     lt-of-lt-of-le (mul-lt-mul-of-pos-right h (pow-pos k)) (le-trans (le-of-eq (sym (pow-add 2 53 k))) (pow-mono r))

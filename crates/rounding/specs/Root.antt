@@ -133,7 +133,7 @@ rounded R s t h k n lo hi j e i =
     let v = bounds s T r (left-over n r) (root-ge R s lo i) (root-lt R s hi i) (scaled-root (R * 2 ^ 54) s T n r (pow-pos t) e i is) (left-over-le (ltb (r * r) n)) in
     round-root (2 * r + left-over n r) t h k ((s + 1) / 2) j (v .0) (v .1) (half-up R s T n r (pow-pos t) e i is)
 
-no-value : (e : ℤ) (a : ℕ) → 0 < a → 0 * up e * 2 ^ 1074 ≡ a * down e → ⊥
+pub no-value : (e : ℤ) (a : ℕ) → 0 < a → 0 * up e * 2 ^ 1074 ≡ a * down e → ⊥
 no-value e a p h =
     let z : 0 < a * down e = mul-pos p (down-pos e) in
     let g : a * down e ≡ 0 = sym h ∙ ap (λ (x : ℕ). x * 2 ^ 1074) (zero-mul (up e)) in

@@ -1,8 +1,3 @@
-pub mod Tallies
-pub mod Texts
-pub mod Settling
-pub mod Reaching
-pub mod Attempting
 pub mod Places
 pub mod Trying
 pub mod Looping

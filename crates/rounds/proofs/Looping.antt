@@ -25,14 +25,14 @@ use Rattle.cells.specs.Rep.{Room}
 use Rattle.edges.specs.Stored.{Edges, edge-on, edges-on, LoopsAt, LoopList, pending}
 use Rattle.picks.specs.Pick.{CanTurn, TurnedAt, Turned}
 use Rattle.picks.proofs.Turns.{loops-few}
-use Rattle.rounds.specs.declared.standing.Standing.{Standing}
-use Rattle.rounds.specs.declared.standing.Step.{Step}
-use Rattle.rounds.specs.declared.standing.Going.the-variants as goings
-use Rattle.rounds.specs.Standings.{is-stuck}
-use Rattle.rounds.specs.Runs.{Setup, settings-of, Goes, Stepped}
+use Rattle.settling.specs.declared.standing.Standing.{Standing}
+use Rattle.settling.specs.declared.standing.Step.{Step}
+use Rattle.settling.specs.declared.standing.Going.the-variants as goings
+use Rattle.settling.specs.Standings.{is-stuck}
+use Rattle.steps.specs.Runs.{Setup, settings-of, Goes, Stepped}
 use Rattle.rounds.specs.Turns.{OnPlaces, LoopsKept, TryTo, CanTake}
 use Rattle.rounds.specs.Rounds.{CanStart, LoopEnd, CanLoops, ClearTo}
-use Rattle.rounds.proofs.Reaching.{Fine, Q, P, R, fine-rule, sound, reach-within}
+use Rattle.steps.proofs.Reaching.{Fine, Q, P, R, fine-rule, sound, reach-within}
 use Rattle.rounds.proofs.Places.{SameEdges, number-same, edges-on-same, edges-more, zeros, zeros-same, zeros-less}
 use Rattle.rounds.proofs.Trying.{goes-kept, stuck-case}
 

@@ -21,15 +21,15 @@ use Rattle.loops.specs.Loop.{CanLoop, LoopsTo, CanMeasure}
 use Rattle.picks.specs.Pick.{CanTurn}
 use Rattle.picks.proofs.Turns.{loops-few}
 use Rattle.lending.specs.Ready.{Ready}
-use Rattle.rounds.specs.declared.standing.Standing.{Standing}
-use Rattle.rounds.specs.declared.standing.Step.{Step}
-use Rattle.rounds.specs.declared.standing.Going.the-variants as goings
-use Rattle.rounds.specs.Standings.{counts-of, FewTally, CountsMore}
-use Rattle.rounds.specs.Runs.{Setup, settings-of, Leaves, Goes, Stepped}
+use Rattle.settling.specs.declared.standing.Standing.{Standing}
+use Rattle.settling.specs.declared.standing.Step.{Step}
+use Rattle.settling.specs.declared.standing.Going.the-variants as goings
+use Rattle.settling.specs.Standings.{counts-of, FewTally, CountsMore}
+use Rattle.steps.specs.Runs.{Setup, settings-of, Leaves, Goes, Stepped}
 use Rattle.rounds.specs.Rounds.{CanLoops, ClearTo, Rounded}
-use Rattle.rounds.proofs.Attempting.{few-tally}
+use Rattle.steps.proofs.Attempting.{few-tally}
 use Rattle.rounds.proofs.Places.{SameEdges}
-use Rattle.rounds.proofs.Trying.{goes-kept, points-within}
+use Rattle.rounds.proofs.Trying.{goes-kept, goes-noted, points-within}
 use Rattle.rounds.proofs.Looping.{can-turn-kept, pending-all, loops-left}
 
 -- the memory stands for the state
@@ -71,16 +71,16 @@ module _ (w : List ℕ) (q : List Float) (quads : List ℕ) (x : Setup) (g : Sta
   pub few-now : FewTally (g .tally)
   few-now = few-tally x st (z .reaches .old) [] (z .reaches .fixed) (z .holds .ready .small .points) (z .reaches .reach) g (z .holds .counts)
 
-  module _ (w₁ : List ℕ) (k : ℕ) (to : FrontTo w w₁ (x .s) (x .p) (g .counters .points) k (front (st .mesh))) where
+  module _ (w₁ : List ℕ) (k : ℕ) (to : FrontTo w w₁ (x .s) (x .p) (g .counters .points) k (front (st .mesh)) × Rep w₁ (x .s) (x .p) (st .mesh)) where
     goes₁ : Goes w₁ q quads x g st []
-    goes₁ = goes-kept w w₁ q quads x g st [] (to .len) (to .below) z
+    goes₁ = goes-noted w w₁ q quads x g st [] (to .0 .len) (to .0 .between) (to .1) z
 
     -- the front is empty
     pub empty-rounded : k ≡ 0 → (h : Standing) → CountsMore g emptied h → Rounded w₁ q quads x (round (settings-of x) (x .given) st (front (st .mesh))) (record { kind = goings.Stuck; standing = h })
     unfolding counting
     empty-rounded e h more =
         let l = leaves-of w₁ q quads x g st [] goes₁ in
-        subst (λ p. Rounded w₁ q quads x p (record { kind = goings.Stuck; standing = h })) (sym (empty-round x (x .given) st es (no-edges es (to .at .len ∙ e)))) (
+        subst (λ p. Rounded w₁ q quads x p (record { kind = goings.Stuck; standing = h })) (sym (empty-round x (x .given) st es (no-edges es (to .0 .at .len ∙ e)))) (
           refl,
           record {
             ready = subst (λ (c : Counters). Ready w₁ q (x .s) (x .p) (x .bucket) c (st .mesh)) (sym (more .counters)) (l .ready);
@@ -92,7 +92,7 @@ module _ (w : List ℕ) (q : List Float) (quads : List ℕ) (x : Setup) (g : Sta
         )
 
     pub can-loop : CanLoop w₁ (x .s) (x .p) (g .counters .points) k es
-    can-loop = record { room = goes₁ .holds .ready .rep .room; at = to .at; edges = to .edges; nodes = omega (arith, points-number, rep-now .points) }
+    can-loop = record { room = goes₁ .holds .ready .rep .room; at = to .0 .at; edges = to .0 .edges; nodes = omega (arith, points-number, rep-now .points) }
 
     module _ (w₂ : List ℕ) (r : ℕ) (lo : LoopsTo w₁ w₂ (x .s) (x .p) (g .counters .points) k r (front (st .mesh))) where
       abbrev ls : List (List Edge)
@@ -134,5 +134,5 @@ module _ (w : List ℕ) (q : List Float) (quads : List ℕ) (x : Setup) (g : Sta
             → Rounded w₄ q₄ quads₄ x (round (settings-of x) (x .given) st (front (st .mesh))) s₄
         full-rounded e w₄ q₄ quads₄ s₄ h =
             let same : round (settings-of x) (x .given) st es ≡ try-loops (settings-of x) (x .given) st (loops-left w₃ x (st .mesh .points) ls) =
-            full-round x (x .given) st es (λ n. e (sym (to .at .len) ∙ n)) ∙ ap (λ (l : List (List Edge)). try-loops (settings-of x) (x .given) st (in-order (flat-map (ranked-loop (st .mesh .points)) l))) (sym all-pending) in
+            full-round x (x .given) st es (λ n. e (sym (to .0 .at .len) ∙ n)) ∙ ap (λ (l : List (List Edge)). try-loops (settings-of x) (x .given) st (in-order (flat-map (ranked-loop (st .mesh .points)) l))) (sym all-pending) in
             subst (λ p. Rounded w₄ q₄ quads₄ x p s₄) (sym same) (rounded w₄ q₄ quads₄ x (try-loops (settings-of x) (x .given) st (loops-left w₃ x (st .mesh .points) ls)) s₄ h)

@@ -22,19 +22,19 @@ use Rattle.cells.specs.declared.counters.Counters.{Counters}
 use Rattle.blocks.specs.Records as Records
 use Rattle.blocks.specs.Blocks.{Blocks, OpenTo}
 use Rattle.lending.specs.Ready.{lent, Ready, Behind}
-use Rattle.rounds.specs.declared.standing.Standing.{Standing}
-use Rattle.rounds.specs.declared.standing.Step.{Step}
-use Rattle.rounds.specs.declared.standing.Going.{Going}
-use Rattle.rounds.specs.declared.standing.Going.the-variants as goings
-use Rattle.rounds.specs.declared.standing.Run.{Run}
-use Rattle.rounds.specs.Standings.{counts-of}
-use Rattle.rounds.specs.Settles.{want-kind}
-use Rattle.rounds.specs.Runs.{Begun, Setup, setup, settings-of, Fixed, Leaves, Goes}
+use Rattle.settling.specs.declared.standing.Standing.{Standing}
+use Rattle.settling.specs.declared.standing.Step.{Step}
+use Rattle.settling.specs.declared.standing.Going.{Going}
+use Rattle.settling.specs.declared.standing.Going.the-variants as goings
+use Rattle.settling.specs.declared.standing.Run.{Run}
+use Rattle.settling.specs.Standings.{counts-of}
+use Rattle.settling.specs.Settles.{want-kind}
+use Rattle.steps.specs.Runs.{Begun, Setup, setup, settings-of, Fixed, Leaves, Goes}
 use Rattle.rounds.specs.Rounds.{Rounded}
 use Rattle.rounds.specs.Loop.{is-progressed, finish-of, want-finish, Finished, Begins, CanRun, LeftRun, RunTo}
-use Rattle.rounds.proofs.Tallies.{same-counts}
-use Rattle.rounds.proofs.Reaching.{sound}
-use Rattle.rounds.proofs.Attempting.{ready-under}
+use Rattle.settling.proofs.Tallies.{same-counts}
+use Rattle.steps.proofs.Reaching.{sound}
+use Rattle.steps.proofs.Attempting.{ready-under}
 use Rattle.rounds.proofs.Rounding.{leaves-of}
 
 -- ---- one round more

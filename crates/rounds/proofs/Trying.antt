@@ -19,22 +19,22 @@ use Rattle.account.specs.Run.{Progress-ok, Ordered, open-front}
 use Rattle.account.specs.Reach.{opened}
 use Rattle.exact.specs.Theorems.{Within}
 use Rattle.cells.specs.Layout.{mesh-end, refused-at, front-u-at, order-at, tried-at, near-at}
-use Rattle.cells.specs.Rep.{Room}
+use Rattle.cells.specs.Rep.{Room, Rep}
 use Rattle.blocks.proofs.Framing.{framed}
 use Rattle.edges.specs.Stored.{Edges, edge-on, edges-on, waiting}
 use Rattle.picks.specs.Pick.{Place, Known, CanPick, PickedAt, Picked}
 use Rattle.picks.specs.Lengths.{by-length-behind}
 use Rattle.lending.specs.Ready.{Ready}
-use Rattle.rounds.specs.declared.standing.Standing.{Standing}
-use Rattle.rounds.specs.declared.standing.Step.{Step}
-use Rattle.rounds.specs.declared.standing.Going.{Going}
-use Rattle.rounds.specs.declared.standing.Going.the-variants as goings
-use Rattle.rounds.specs.Standings.{is-stuck}
-use Rattle.rounds.specs.Settles.{want-kind}
-use Rattle.rounds.specs.Runs.{Setup, settings-of, Holds, Reaches, Goes, FrontKept, Stepped, StepTo}
+use Rattle.settling.specs.declared.standing.Standing.{Standing}
+use Rattle.settling.specs.declared.standing.Step.{Step}
+use Rattle.settling.specs.declared.standing.Going.{Going}
+use Rattle.settling.specs.declared.standing.Going.the-variants as goings
+use Rattle.settling.specs.Standings.{is-stuck}
+use Rattle.settling.specs.Settles.{want-kind}
+use Rattle.steps.specs.Runs.{Setup, settings-of, Holds, Reaches, Goes, FrontKept, Stepped, StepTo}
 use Rattle.rounds.specs.Turns.{OnPlaces, Shows, opens, MarksOnly, OpenTo, CanTry, LoopsKept, TryTo, CanTake}
-use Rattle.rounds.proofs.Reaching.{Fine, Q, R, sound, reach-within, attempt-fine}
-use Rattle.rounds.proofs.Attempting.{ready-under}
+use Rattle.steps.proofs.Reaching.{Fine, Q, R, sound, reach-within, attempt-fine}
+use Rattle.steps.proofs.Attempting.{ready-under}
 use Rattle.rounds.proofs.Places.{SameEdges, edge-on-same, waiting-same, places-kept, on-known, on-place, waiting-known, marks-refl, marks-same, marks-set, zeros, zeros-same, zeros-less}
 
 -- ---- frames
@@ -52,6 +52,27 @@ goes-kept w w' q quads x g st es e h k =
         behind = o .behind;
         so-far = record {
           blocks = framed w w' (refused-at (x .s) (x .p)) (3 * x .s) (x .p) (length (st .quads)) (k .ever) (st .blocked) (record { len = e; inside = λ i a b. h i (omega arith) }) (o .so-far .blocks);
+          records = o .so-far .records;
+          number = o .so-far .number;
+          text = o .so-far .text;
+        };
+      };
+      reaches = k .reaches;
+    }
+
+-- so where notes change too, and the memory still stands for the mesh
+pub goes-noted : (w w' : List ℕ) (q : List Float) (quads : List ℕ) (x : Setup) (g : Standing) (st : State) (es : List Edge) → length w' ≡ length w
+    → ((i : ℕ) → mesh-end (x .s) (x .p) ≤ i → i < front-u-at (x .s) (x .p) → getD w' i 0 ≡ getD w i 0) → Rep w' (x .s) (x .p) (st .mesh) → Goes w q quads x g st es → Goes w' q quads x g st es
+goes-noted w w' q quads x g st es e h r k =
+    let o = k .holds in
+    record {
+      ever = k .ever;
+      holds = record {
+        ready = let d = o .ready in record { rep = r; pts = d .pts; side = d .side; counted = d .counted; live = d .live; attempts = d .attempts; small = d .small };
+        counts = o .counts;
+        behind = o .behind;
+        so-far = record {
+          blocks = framed w w' (refused-at (x .s) (x .p)) (3 * x .s) (x .p) (length (st .quads)) (k .ever) (st .blocked) (record { len = e; inside = λ i a b. h i (omega arith) (omega arith) }) (o .so-far .blocks);
           records = o .so-far .records;
           number = o .so-far .number;
           text = o .so-far .text;

@@ -16,15 +16,15 @@ use Rattle.account.specs.Start.{Proper}
 use Rattle.exact.specs.Theorems.{Within}
 use Rattle.cells.specs.declared.counters.Counters.{Counters}
 use Rattle.lending.specs.Ready.{lent, Ready, Behind}
-use Rattle.rounds.specs.declared.standing.Tally.{Tally}
-use Rattle.rounds.specs.declared.standing.Standing.{Standing}
-use Rattle.rounds.specs.declared.standing.Going.{Going}
-use Rattle.rounds.specs.declared.standing.Going.the-variants as goings
-use Rattle.rounds.specs.declared.standing.Finish.{Finish}
-use Rattle.rounds.specs.declared.standing.Finish.the-variants as finishes
-use Rattle.rounds.specs.declared.standing.Run.{Run}
-use Rattle.rounds.specs.Standings.{counts-of}
-use Rattle.rounds.specs.Runs.{Setup, Sized, Leaves}
+use Rattle.settling.specs.declared.standing.Tally.{Tally}
+use Rattle.settling.specs.declared.standing.Standing.{Standing}
+use Rattle.settling.specs.declared.standing.Going.{Going}
+use Rattle.settling.specs.declared.standing.Going.the-variants as goings
+use Rattle.settling.specs.declared.standing.Finish.{Finish}
+use Rattle.settling.specs.declared.standing.Finish.the-variants as finishes
+use Rattle.settling.specs.declared.standing.Run.{Run}
+use Rattle.settling.specs.Standings.{counts-of}
+use Rattle.steps.specs.Runs.{Setup, Sized, Leaves}
 
 -- ---- how it ends
 

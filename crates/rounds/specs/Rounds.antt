@@ -9,11 +9,11 @@ use Rattle.definition.specs.Front.{State, Progress, stuck, progressed, limited,
 use Rattle.cells.specs.Layout.{starts-at, done-at, tried-at}
 use Rattle.cells.specs.Rep.{Room}
 use Rattle.picks.specs.Pick.{CanTurn}
-use Rattle.rounds.specs.declared.standing.Standing.{Standing}
-use Rattle.rounds.specs.declared.standing.Step.{Step}
-use Rattle.rounds.specs.declared.standing.Going.the-variants as goings
-use Rattle.rounds.specs.Settles.{want-kind}
-use Rattle.rounds.specs.Runs.{Setup, Leaves, Goes, Stepped}
+use Rattle.settling.specs.declared.standing.Standing.{Standing}
+use Rattle.settling.specs.declared.standing.Step.{Step}
+use Rattle.settling.specs.declared.standing.Going.the-variants as goings
+use Rattle.settling.specs.Settles.{want-kind}
+use Rattle.steps.specs.Runs.{Setup, Leaves, Goes, Stepped}
 
 -- the word of loop j can be read
 pub record CanStart (w : List ℕ) (s p j : ℕ) : Type 0 where

@@ -14,9 +14,9 @@ use Rattle.cells.specs.Layout.{refused-at, front-u-at, order-at, tried-at, head
 use Rattle.cells.specs.Rep.{Rep}
 use Rattle.blocks.specs.Blocks.{Blocks}
 use Rattle.edges.specs.Stored.{Edges, edges-on, waiting}
-use Rattle.rounds.specs.declared.standing.Standing.{Standing}
-use Rattle.rounds.specs.declared.standing.Step.{Step}
-use Rattle.rounds.specs.Runs.{Setup, Goes, Stepped}
+use Rattle.settling.specs.declared.standing.Standing.{Standing}
+use Rattle.settling.specs.declared.standing.Step.{Step}
+use Rattle.steps.specs.Runs.{Setup, Goes, Stepped}
 
 -- the edges l of n nodes stand at the places from b to e
 pub record OnPlaces (w : List ℕ) (s p b e n : ℕ) (l : List Edge) : Type 0 where

@@ -1,15 +1,15 @@
 // The front loop: rounds, until one places no quad.
 use crate::rounds::round;
-use crate::settle::RECORDS;
-use crate::standing::Finish;
-use crate::standing::Going;
-use crate::standing::Run;
-use crate::standing::Standing;
-use crate::standing::Step;
-use crate::standing::Tally;
 use blocks::open;
 use cells::counters::Counters;
 use cells::layout::refused_at;
+use settling::settle::RECORDS;
+use settling::standing::Finish;
+use settling::standing::Going;
+use settling::standing::Run;
+use settling::standing::Standing;
+use settling::standing::Step;
+use settling::standing::Tally;
 ghost use mathlib.Core.Path.{_≡_};
 ghost use mathlib.Core.List.{List, []};
 ghost use Prim.Native.Nat.{ℕ, _+_, _*_, _<_, _≤_};
@@ -19,7 +19,7 @@ ghost use Rattle.definition.specs.Plane.{Node};
 ghost use Rattle.definition.specs.Cells.{Tri};
 ghost use Rattle.definition.specs.Front.{State, start, front-loop};
 ghost use Rattle.lending.specs.Ready.{lent};
-ghost use Rattle.rounds.specs.Runs.{Begun, setup, Goes};
+ghost use Rattle.steps.specs.Runs.{Begun, setup, Goes};
 ghost use Rattle.rounds.specs.Loop.{is-progressed, finish-of, Finished, Begins, CanRun, RunTo};
 
 // A quad was placed.

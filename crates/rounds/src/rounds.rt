@@ -1,9 +1,4 @@
 // A round: the loops of the front as the round finds it, by perimeter, until one gives a quad.
-use crate::standing::Going;
-use crate::standing::Standing;
-use crate::standing::Step;
-use crate::standing::emptied;
-use crate::standing::is_stuck;
 use crate::turns::take_turn;
 use cells::layout::done_at;
 use cells::layout::starts_at;
@@ -12,6 +7,11 @@ use loops::front::front_loops;
 use loops::measure::perimeters;
 use picks::pick_loop;
 use rings::wide;
+use settling::standing::Going;
+use settling::standing::Standing;
+use settling::standing::Step;
+use settling::standing::emptied;
+use settling::standing::is_stuck;
 ghost use mathlib.Core.Path.{_≡_};
 ghost use mathlib.Core.List.{List, []};
 ghost use Prim.Native.Nat.{ℕ, _+_, _*_, _≤_};
@@ -25,7 +25,7 @@ ghost use Rattle.cells.specs.Layout.{starts-at};
 ghost use Rattle.cells.specs.Rep.{Room};
 ghost use Rattle.edges.specs.Stored.{pending};
 ghost use Rattle.lending.specs.Ready.{lent};
-ghost use Rattle.rounds.specs.Runs.{Begun, setup, Goes, Stepped};
+ghost use Rattle.steps.specs.Runs.{Begun, setup, Goes, Stepped};
 ghost use Rattle.rounds.specs.Rounds.{CanStart, LoopEnd, CanLoops, ClearTo, Rounded};
 
 // The place where loop j starts.

@@ -1,10 +1,4 @@
 // A loop's turn: its open edges by length, one attempt each, until one gives a quad.
-use crate::settle::RECORDS;
-use crate::standing::Going;
-use crate::standing::Standing;
-use crate::standing::Step;
-use crate::standing::is_stuck;
-use crate::steps::attempt_one;
 use blocks::is_blocked;
 use cells::find::is_front;
 use cells::layout::refused_at;
@@ -12,6 +6,12 @@ use cells::layout::tried_at;
 use picks::order::first_on;
 use picks::order::second_on;
 use picks::pick_edge;
+use settling::settle::RECORDS;
+use settling::standing::Going;
+use settling::standing::Standing;
+use settling::standing::Step;
+use settling::standing::is_stuck;
+use steps::attempt::attempt_one;
 ghost use mathlib.Core.Path.{_≡_};
 ghost use mathlib.Core.List.{List};
 ghost use Prim.Native.Nat.{ℕ};
@@ -24,7 +24,7 @@ ghost use Rattle.definition.specs.Front.{State, try-edges, open-edges};
 ghost use Rattle.blocks.specs.Records.{IsEdge};
 ghost use Rattle.edges.specs.Stored.{waiting};
 ghost use Rattle.lending.specs.Ready.{lent};
-ghost use Rattle.rounds.specs.Runs.{Begun, setup};
+ghost use Rattle.steps.specs.Runs.{Begun, setup};
 ghost use Rattle.rounds.specs.Turns.{OnPlaces, Shows, opens, OpenTo, CanTry, CanTake, TryTo};
 
 // 0: the edge u-v is on the front and not blocked; else 1.

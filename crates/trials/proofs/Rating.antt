@@ -16,7 +16,7 @@ use Rattle.definition.specs.Trials.{Trial, rated, metrics-of, trial, trial-befo
 use Rattle.plane.specs.Points.{node-of}
 use Rattle.trials.specs.declared.kept.Trials.{Trials}
 use Rattle.trials.specs.Kept.{Keeps, listed, trial-of, most, onto}
-use Rattle.trials.specs.Pairs.{metrics-at, trial-at}
+use Rattle.trials.specs.Ranked.{metrics-at, trial-at}
 
 -- in a mesh whose points are the slice's first
 pub trial-mesh : (m : Mesh) (n : ℕ) (q : List Float) → m .points ≡ first-points n q → (a b c d : ℕ) → a < n → b < n → c < n → d < n

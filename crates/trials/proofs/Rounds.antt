@@ -14,7 +14,7 @@ use Rattle.definition.specs.Numbers.{base}
 use Rattle.definition.specs.Trials.{Trial, trial, trial-before, trials}
 use Rattle.trials.specs.declared.kept.Trials.{Trials}
 use Rattle.trials.specs.Kept.{Keeps, listed, most, onto}
-use Rattle.trials.specs.Pairs.{Named, part, trial-at, part-below}
+use Rattle.trials.specs.Ranked.{Named, part, trial-at, part-below}
 use Rattle.trials.proofs.Insertion.{one-more, sort-onto}
 use Rattle.trials.proofs.Rating.{trial-mesh}
 

@@ -1,3 +1,3 @@
 pub mod Kept
-pub mod Pairs
+pub mod Ranked
 pub mod Nodes

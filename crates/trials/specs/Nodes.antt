@@ -15,7 +15,7 @@ use Rattle.definition.specs.Metrics.{passes, score}
 use Rattle.definition.specs.Numbers.{Numbers, base}
 use Rattle.definition.specs.Trials.{Trial, rated, metrics-of, trial, trial-before, trials}
 use Rattle.trials.specs.Kept.{Stands}
-use Rattle.trials.specs.Pairs.{Named, part, part-below}
+use Rattle.trials.specs.Ranked.{Named, part, part-below}
 
 -- the quad is a, b and two nodes below n, no two the same but for a and b
 pub record Sound (n a b : ℕ) (t : Trial) : Type 0 where

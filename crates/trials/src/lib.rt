@@ -1,3 +1,3 @@
 // The best eight pairs of side nodes of an attempt.
 pub mod kept;
-pub mod pairs;
+pub mod ranked;

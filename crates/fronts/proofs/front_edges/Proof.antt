@@ -11,7 +11,7 @@ use Rattle.fronts.proofs.front_edges.Statement.{statement}
 use Rattle.fronts.proofs.front_edges.Tie as tie
 use Rattle.fronts.proofs.front_edges.Reads as reads
 use Rattle.fronts.proofs.front_edges.Lts as lts
-use Rattle.fronts.proofs.front_at.Reads as front-at-reads
+use Rattle.fronts.proofs.node_fronts.Reads as node-fronts-reads
 
 abbrev Inv-loop : tie.InvT-loop
 Inv-loop w₀ s p n k₀ u₀ w k u = (u ≤ n) × ((m : Mesh) → Rep w₀ s p m → n ≡ length (m .points) → Sofar w₀ w s p u k m)
@@ -22,8 +22,8 @@ abbrev μ-loop : tie.MeasureT-loop
 loop-holds : tie.Need-loop-holds Inv-loop μ-loop
 loop-holds c = let a = c .before .args in (omega arith, λ m r e. sofar-start (a .w .now) (a .s) (a .p) m r)
 
-front-at-requires : tie.Need-front-at-requires Inv-loop μ-loop
-front-at-requires c κs =
+node-fronts-requires : tie.Need-node-fronts-requires Inv-loop μ-loop
+node-fronts-requires c κs =
     let l = c .before .before in
     let t = l .before .before in
     let a = t .args in
@@ -47,18 +47,19 @@ loop-again c =
       omega (arith, i .loop-test .taken),
       λ m r e.
           let h = l .loop .inv .1 m r e in
-          sofar-more (a .w .now) (a .s) (a .p) m r (l .loop .w) (o .front-at .last .0) (l .loop .u) (l .loop .k) (o .front-at .result) h
-          (o .front-at .ensures m (can-walk (a .w .now) (a .s) (a .p) m r (l .loop .w) (l .loop .u) (l .loop .k) h (omega (arith, e, i .loop-test .taken)))),
+          sofar-more (a .w .now) (a .s) (a .p) m r (l .loop .w) (o .node-fronts .last .0) (l .loop .u) (l .loop .k) (o .node-fronts .result) h
+          (o .node-fronts .ensures m (can-walk (a .w .now) (a .s) (a .p) m r (l .loop .w) (l .loop .u) (l .loop .k) h (omega (arith, e, i .loop-test .taken)))),
     )
 
 same-length : tie.Need-same-length Inv-loop μ-loop
-same-length c = let l = c .before in let t = l .before .before in l .loop .inv .1 (t .pre .0) (t .pre .1) (t .pre .2) .beyond .len
+same-length c = let l = c .before in let t = l .before .before in l .loop .inv .1 (t .pre .0) (t .pre .1) (t .pre .2) .past .len
 
 returns : tie.Need-returns Inv-loop μ-loop
 returns c = λ m r e.
     let l = c .before in
     let a = l .before .before .args in
-    sofar-end (a .w .now) (a .s) (a .p) m r (l .loop .w) (a .n) (l .loop .k) (l .loop .u) e (l .loop .inv .0) (c .loop-test .left) (l .loop .inv .1 m r e)
+    let h = l .loop .inv .1 m r e in
+    (sofar-end (a .w .now) (a .s) (a .p) m r (l .loop .w) (a .n) (l .loop .k) (l .loop .u) e (l .loop .inv .0) (c .loop-test .left) h, h .rep)
 
 pub front-edges-spec : {M : Type 1} → statement M
 front-edges-spec =
@@ -67,7 +68,7 @@ front-edges-spec =
     Inv-loop
     μ-loop
     loop-holds
-    front-at-requires
+    node-fronts-requires
     add-u
     loop-less
     loop-again

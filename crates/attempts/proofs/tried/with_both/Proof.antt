@@ -12,7 +12,7 @@ use Rattle.pairs.proofs.try_pairs.Reads as try-pairs-reads
 use Rattle.cells.proofs.layout.far_at.Reads as far-at-reads
 use Rattle.cells.proofs.layout.near_at.Reads as near-at-reads
 use Rattle.lending.proofs.without_quad.Reads as without-quad-reads
-use Rattle.trials.proofs.pairs.best.Reads as best-reads
+use Rattle.trials.proofs.ranked.best.Reads as best-reads
 
 enum-told : tie.Need-enum-told
 enum-told c = search needs

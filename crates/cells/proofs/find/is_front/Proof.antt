@@ -1,114 +1,32 @@
--- The loop's invariant: so many owners and triangles among them were passed, at most two. The measure is how many more may be.
+-- The edge is the same from both ends.
 use mathlib.Core.Path.{_≡_, refl, ap, sym, _∙_, subst}
-use mathlib.Core.List.{List, [], _∷_, _++_}
-use Prim.Native.Nat.{ℕ, suc, _+_, _-_, _*_, _/_, _<_, _≤_}
-use native.Mathlib.Omega.{arith}
-use borrow.Author.Needs.{needs}
-use lib.ListN.{length, getD, set, length-set}
 use Rattle.cells.specs.Rep.{Rep}
-use Rattle.definition.specs.Cells.{Mesh, Live}
-use Rattle.cells.proofs.Fronts.{Counted, counted-start, counted-more, front-many, front-end}
+use Rattle.definition.specs.Cells.{Mesh, key, is-front}
+use Rattle.cells.proofs.Edges.{key-swap}
+use borrow.Author.Needs.{needs}
 use Rattle.cells.proofs.find.is_front.Statement.{statement}
 use Rattle.cells.proofs.find.is_front.Tie as tie
 use Rattle.cells.proofs.find.is_front.Reads as reads
 use Rattle.cells.proofs.find.is_front.Lts as lts
-use Rattle.cells.proofs.find.first_owner.Reads as first-owner-reads
-use Rattle.cells.proofs.find.next_owner.Reads as next-owner-reads
-use Rattle.cells.proofs.find.tri_count.Reads as tri-count-reads
+use Rattle.cells.proofs.find.front_from.Reads as front-from-reads
 
-abbrev Inv-loop : tie.InvT-loop
-Inv-loop w s p u v all₀ tri₀ c₀ all tri c = (all ≤ 2) × (tri ≤ all) × ((m : Mesh) → Rep w s p m → Counted w s p u v all tri c m)
+-- src/find.rt:214:9
+front-from-requires : tie.Need-front-from-requires
+front-from-requires c κs = search needs
 
-abbrev μ-loop : tie.MeasureT-loop
-μ-loop w s p u v all₀ tri₀ c₀ all tri c = 3 - all
+-- src/find.rt:214:9
+returns : tie.Need-returns
+returns c = search needs
 
--- src/find.rt:146:9
-first-owner-requires : tie.Need-first-owner-requires Inv-loop μ-loop
-first-owner-requires c κs = search needs
+-- src/find.rt:216:5
+front-from-requires-2 : tie.Need-front-from-requires-2
+front-from-requires-2 c κs = search needs
 
--- src/find.rt:147:5
-loop-holds : tie.Need-loop-holds Inv-loop μ-loop
-loop-holds c =
-    let t = c .before .before in
-    let a = t .args in
-    (omega arith, omega arith, λ m r. counted-start (a .w .now) (a .s) (a .p) (a .u) (a .v) (c .first-owner .result) m (c .first-owner .ensures m r))
-
--- src/find.rt:147:15
-mul-loop : tie.Need-mul-loop Inv-loop μ-loop
-mul-loop c = search needs
-
--- src/find.rt:149:13
-returns : tie.Need-returns Inv-loop μ-loop
-returns c =
-    let t = c .before .before .before .before .before in
-    let a = t .args in
-    let x = c .before .before .loop in
-    λ m r. front-many (a .w .now) (a .s) (a .p) (a .u) (a .v) (x .c) m (x .tri) (x .all) (c .if1 .taken) (c .before .loop-test .taken) (x .inv .2 m r)
-
--- src/find.rt:151:9
-add-all : tie.Need-add-all Inv-loop μ-loop
-add-all c = search needs
-
--- src/find.rt:152:16
-tri-count-requires : tie.Need-tri-count-requires Inv-loop μ-loop
-tri-count-requires c κs =
-    let t = c .before .before .before .before .before in
-    let a = t .args in
-    let x = c .before .before .loop in
-    record { fits = omega (arith, t .pre .0 .1 .room .fits); inside = omega (arith, c .before .loop-test .taken) }
-
--- src/find.rt:152:9
-add-tri : tie.Need-add-tri Inv-loop μ-loop
-add-tri c = search needs
-
--- src/find.rt:153:9
-next-owner-requires : tie.Need-next-owner-requires Inv-loop μ-loop
-next-owner-requires c κs =
-    let t = c .before .before .before .before .before .before in
-    let a = t .args in
-    let x = c .before .before .before .loop in
-    let k = x .inv .2 (t .pre .0 .0) (t .pre .0 .1) in
-    ((k .xs, k .at), (t .pre .1, c .before .before .loop-test .taken))
-
--- src/find.rt:147:5
-loop-less : tie.Need-loop-less Inv-loop μ-loop
-loop-less c = search needs
-
--- src/find.rt:147:5
-loop-again : tie.Need-loop-again Inv-loop μ-loop
-loop-again c =
-    let t = c .before .before .before .before .before .before .before in
-    let a = t .args in
-    let x = c .before .before .before .before .loop in (
-      omega (arith, x .inv .0, c .before .before .if1 .left),
-      omega (arith, x .inv .1, c .before .tri-count .ensures .1),
-      λ m r.
-          counted-more (a .w .now) (a .s) (a .p) (a .u) (a .v) (x .c) m (x .all) (x .tri) (c .next-owner .result) (c .before .tri-count .result)
-          (c .before .before .before .loop-test .taken) (c .before .tri-count .ensures .0) (x .inv .2 m r) (c .next-owner .ensures),
-    )
-
--- src/find.rt:139:1
-returns-2 : tie.Need-returns-2 Inv-loop μ-loop
+-- src/find.rt:208:1
+returns-2 : tie.Need-returns-2
 returns-2 c =
-    let t = c .before .before .before .before in
-    let a = t .args in
-    let x = c .before .loop in
-    λ m r. front-end (a .w .now) (a .s) (a .p) (a .u) (a .v) (x .c) m (x .all) (x .tri) (x .inv .0) (c .loop-test .left) (x .inv .2 m r)
+    let a = c .before .before .before .args in
+    λ m r. c .front-from2 .ensures m r ∙ ap (is-front m) (key-swap (a .v) (a .u))
 
 pub is-front-spec : {M : Type 1} → statement M
-is-front-spec =
-    tie.close
-    (tie.spec
-    Inv-loop
-    μ-loop
-    first-owner-requires
-    loop-holds
-    mul-loop
-    returns
-    add-all
-    tri-count-requires
-    add-tri
-    next-owner-requires
-    loop-less
-    loop-again
-    returns-2)
+is-front-spec = tie.close (tie.spec front-from-requires returns front-from-requires-2 returns-2)

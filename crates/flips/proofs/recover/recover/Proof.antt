@@ -8,9 +8,9 @@ use Rattle.definition.specs.Cells.{Mesh}
 use Rattle.cells.specs.Layout.{mesh-end}
 use Rattle.cells.specs.Frames.{Keeps}
 use Rattle.cells.proofs.Frames.{keeps-refl, keeps-trans}
-use Rattle.flips.specs.Cross.{Known, FirstAt}
-use Rattle.flips.specs.Crossings.{IsFirst}
-use Rattle.flips.proofs.Recovers.{is-edge, is-up, Going, going-start, going-there, going-none, going-stuck, going-on, going-end}
+use Rattle.crossings.specs.Cross.{Known, FirstAt}
+use Rattle.crossings.specs.Crossings.{IsFirst}
+use Rattle.flips.proofs.Recovers.{is-edge, is-up, Going, going-start, going-as, going-there, going-none, going-stuck, going-on, going-end}
 use Rattle.flips.proofs.recover.recover.Statement.{statement}
 use Rattle.flips.proofs.recover.recover.Tie as tie
 
@@ -65,62 +65,73 @@ enum-told : tie.Need-enum-told Inv-loop μ-loop
 enum-told c = search needs
 
 same-length-2 : tie.Need-same-length-2 Inv-loop μ-loop
-same-length-2 c = c .before .before .before .before .before .before .before .before .loop .inv .1 .len
+same-length-2 c =
+    let f = c .before .before .before .before in
+    f .first-crossing .kept .0 ∙ f .before .before .before .before .before .before .loop .inv .1 .len
 
 returns-2 : tie.Need-returns-2 Inv-loop μ-loop
 returns-2 c =
-    let f = c .before .before in
+    let f = c .before .before .before .before in
     let e1 = f .before .before in
     let h = e1 .before in
     let i = h .before .before in
     let l = i .before in
     let a = l .before .before .before .args in
+    let w' = f .first-crossing .last .0 in
     record {
       is = λ m k e.
           let g = l .loop .inv .2 m k e in
-          going-none (l .loop .w) (a .q .now) (a .s) (a .p) (a .n) (a .used) (a .bucket) (a .u) (a .v) (l .loop .k) m e g (i .loop-test .taken)
+          let z = f .first-crossing .ensures .1 (g .mesh) (g .known) in
+          let g' = going-as (l .loop .w) w' (a .q .now) (a .s) (a .p) (a .n) (a .used) (a .bucket) (a .u) (a .v) (l .loop .k) m g (z .0) in
+          going-none w' (a .q .now) (a .s) (a .p) (a .n) (a .used) (a .bucket) (a .u) (a .v) (l .loop .k) m e g' (i .loop-test .taken)
           (h .has-edge .result) (h .has-edge .ensures (g .mesh) (g .known .rep)) (e1 .if1 .left)
-          (subst (λ x. IsFirst (g .mesh) (a .n) (a .u) (a .v) x) (c .enum-told .given .1) (f .first-crossing .ensures (g .mesh) (g .known)));
-      keeps = l .loop .inv .1;
+          (subst (λ x. IsFirst (g .mesh) (a .n) (a .u) (a .v) x) (c .enum-told .given .1) (z .1));
+      keeps = keeps-trans (a .w .now) (l .loop .w) w' (mesh-end (a .s) (a .p)) (l .loop .inv .1) (f .first-crossing .ensures .0);
     }
 
 flip-requires : tie.Need-flip-requires Inv-loop μ-loop
 flip-requires c κs =
     let k = c .before in
-    let f = k .before .before .before in
+    let f = k .before .before .before .before .before in
     let l = f .before .before .before .before .before .before in
     let t = l .before .before .before in
     let a = t .args in
     let g = l .loop .inv .2 (t .pre .0 .0) (t .pre .0 .1) (t .pre .0 .2) in
+    let y = f .first-crossing .ensures .1 (g .mesh) (g .known) in
     let z : FirstAt (g .mesh) (a .n) (a .u) (a .v) (k .before .e .given .0 .0) (k .before .e .given .0 .1 .0) =
-    subst (λ x. IsFirst (g .mesh) (a .n) (a .u) (a .v) x) (k .before .e .given .1) (f .first-crossing .ensures (g .mesh) (g .known)) in (
-      (g .mesh, g .known .rep, g .known .pts),
+    subst (λ x. IsFirst (g .mesh) (a .n) (a .u) (a .v) x) (k .before .e .given .1) (y .1) in (
+      (g .mesh, y .0 .rep, y .0 .pts),
       is-up (l .loop .w) (a .q .now) (a .s) (a .p) (a .n) (a .bucket) (g .mesh) (g .known) (a .u) (a .v) (k .before .e .given .0 .0) (k .before .e .given .0 .1 .0) z,
     )
 
 same-length-3 : tie.Need-same-length-3 Inv-loop μ-loop
 same-length-3 c =
     let q = c .before .before .before in
-    q .flip .kept .0 ∙ q .before .before .before .before .before .before .before .before .before .before .before .loop .inv .1 .len
+    let f = q .before .before .before .before .before .before .before in
+    q .flip .kept .0 ∙ (f .first-crossing .kept .0 ∙ f .before .before .before .before .before .before .loop .inv .1 .len)
 
 returns-3 : tie.Need-returns-3 Inv-loop μ-loop
 returns-3 c =
     let q = c .before .before .before in
     let k = q .before .before in
-    let f = k .before .before .before in
+    let f = k .before .before .before .before .before in
     let e1 = f .before .before in
     let h = e1 .before in
     let i = h .before .before in
     let l = i .before in
     let a = l .before .before .before .args in
+    let w' = f .first-crossing .last .0 in
     record {
       is = λ m j e.
           let g = l .loop .inv .2 m j e in
-          going-stuck (l .loop .w) (a .q .now) (a .s) (a .p) (a .n) (a .used) (a .bucket) (a .u) (a .v) (l .loop .k) m e g (i .loop-test .taken)
+          let z = f .first-crossing .ensures .1 (g .mesh) (g .known) in
+          let g' = going-as (l .loop .w) w' (a .q .now) (a .s) (a .p) (a .n) (a .used) (a .bucket) (a .u) (a .v) (l .loop .k) m g (z .0) in
+          going-stuck w' (a .q .now) (a .s) (a .p) (a .n) (a .used) (a .bucket) (a .u) (a .v) (l .loop .k) m e g' (i .loop-test .taken)
           (h .has-edge .result) (h .has-edge .ensures (g .mesh) (g .known .rep)) (e1 .if1 .left) (k .before .e .given .0 .0) (k .before .e .given .0 .1 .0)
-          (subst (λ x. IsFirst (g .mesh) (a .n) (a .u) (a .v) x) (k .before .e .given .1) (f .first-crossing .ensures (g .mesh) (g .known)))
-          (q .flip .last .0) (q .flip .result) (q .flip .ensures .is (g .mesh) (g .known .rep) (g .known .pts)) (not-true (q .flip .result) (c .if2 .taken));
-      keeps = keeps-trans (a .w .now) (l .loop .w) (q .flip .last .0) (mesh-end (a .s) (a .p)) (l .loop .inv .1) (q .flip .ensures .keeps);
+          (subst (λ x. IsFirst (g .mesh) (a .n) (a .u) (a .v) x) (k .before .e .given .1) (z .1))
+          (q .flip .last .0) (q .flip .result) (q .flip .ensures .is (g .mesh) (z .0 .rep) (z .0 .pts)) (not-true (q .flip .result) (c .if2 .taken));
+      keeps = keeps-trans (a .w .now) w' (q .flip .last .0) (mesh-end (a .s) (a .p)) (keeps-trans (a .w .now) (l .loop .w) w' (mesh-end (a .s) (a .p)) (l .loop .inv .1) (f .first-crossing .ensures .0))
+          (q .flip .ensures .keeps);
     }
 
 add-k : tie.Need-add-k Inv-loop μ-loop
@@ -133,20 +144,24 @@ loop-again : tie.Need-loop-again Inv-loop μ-loop
 loop-again c =
     let q = c .before .before .before in
     let k = q .before .before in
-    let f = k .before .before .before in
+    let f = k .before .before .before .before .before in
     let e1 = f .before .before in
     let h = e1 .before in
     let i = h .before .before in
     let l = i .before in
-    let a = l .before .before .before .args in (
+    let a = l .before .before .before .args in
+    let w' = f .first-crossing .last .0 in (
       omega (arith, i .loop-test .taken),
-      keeps-trans (a .w .now) (l .loop .w) (q .flip .last .0) (mesh-end (a .s) (a .p)) (l .loop .inv .1) (q .flip .ensures .keeps),
+      keeps-trans (a .w .now) w' (q .flip .last .0) (mesh-end (a .s) (a .p)) (keeps-trans (a .w .now) (l .loop .w) w' (mesh-end (a .s) (a .p)) (l .loop .inv .1) (f .first-crossing .ensures .0))
+          (q .flip .ensures .keeps),
       λ m j e.
           let g = l .loop .inv .2 m j e in
-          going-on (l .loop .w) (a .q .now) (a .s) (a .p) (a .n) (a .used) (a .bucket) (a .u) (a .v) (l .loop .k) m e g (i .loop-test .taken)
+          let z = f .first-crossing .ensures .1 (g .mesh) (g .known) in
+          let g' = going-as (l .loop .w) w' (a .q .now) (a .s) (a .p) (a .n) (a .used) (a .bucket) (a .u) (a .v) (l .loop .k) m g (z .0) in
+          going-on w' (a .q .now) (a .s) (a .p) (a .n) (a .used) (a .bucket) (a .u) (a .v) (l .loop .k) m e g' (i .loop-test .taken)
           (h .has-edge .result) (h .has-edge .ensures (g .mesh) (g .known .rep)) (e1 .if1 .left) (k .before .e .given .0 .0) (k .before .e .given .0 .1 .0)
-          (subst (λ x. IsFirst (g .mesh) (a .n) (a .u) (a .v) x) (k .before .e .given .1) (f .first-crossing .ensures (g .mesh) (g .known)))
-          (q .flip .last .0) (q .flip .result) (q .flip .ensures .is (g .mesh) (g .known .rep) (g .known .pts)) (not-false (q .flip .result) (c .if2 .left)),
+          (subst (λ x. IsFirst (g .mesh) (a .n) (a .u) (a .v) x) (k .before .e .given .1) (z .1))
+          (q .flip .last .0) (q .flip .result) (q .flip .ensures .is (g .mesh) (z .0 .rep) (z .0 .pts)) (not-false (q .flip .result) (c .if2 .left)),
     )
 
 has-edge-requires-2 : tie.Need-has-edge-requires-2 Inv-loop μ-loop

@@ -36,7 +36,7 @@ place-requires c κs =
     let o = t .pre .3 in
     let cell = quad-of-nodes (a .a) (a .b) (a .c) (a .d) in
     let f0 = put-start (a .w .now) (a .s) (a .p) (a .i) n m cell r o 4 in
-    record { k = m .used; m = length (m .points); n = 4; l = m .live; ns = []; is = f0; many = refl; few = omega arith; node = known-at r o 0 (omega arith) }
+    record { n = 4; m = m; ns = []; is = f0; many = refl; few = omega arith; node = known-at r o 0 (omega arith) }
 
 -- src/store.rt:37:5
 place-requires-2 : tie.Need-place-requires-2
@@ -50,8 +50,8 @@ place-requires-2 c κs =
     let o = t .pre .3 in
     let cell = quad-of-nodes (a .a) (a .b) (a .c) (a .d) in
     let f0 = put-start (a .w .now) (a .s) (a .p) (a .i) n m cell r o 4 in
-    let f1 = c .before .before .before .place .ensures .is (m .used) (length (m .points)) 4 (m .live) ([]) f0 refl in
-    record { k = m .used; m = length (m .points); n = 4; l = m .live; ns = a .a ∷ []; is = f1; many = refl; few = omega arith; node = known-at r o 1 (omega arith) }
+    let f1 = c .before .before .before .place .ensures .is 4 m [] f0 refl in
+    record { n = 4; m = m; ns = a .a ∷ []; is = f1; many = refl; few = omega arith; node = known-at r o 1 (omega arith) }
 
 -- src/store.rt:38:5
 place-requires-3 : tie.Need-place-requires-3
@@ -65,9 +65,9 @@ place-requires-3 c κs =
     let o = t .pre .3 in
     let cell = quad-of-nodes (a .a) (a .b) (a .c) (a .d) in
     let f0 = put-start (a .w .now) (a .s) (a .p) (a .i) n m cell r o 4 in
-    let f1 = c .before .before .before .before .before .before .before .place .ensures .is (m .used) (length (m .points)) 4 (m .live) ([]) f0 refl in
-    let f2 = c .before .before .before .place2 .ensures .is (m .used) (length (m .points)) 4 (m .live) (a .a ∷ []) f1 refl in
-    record { k = m .used; m = length (m .points); n = 4; l = m .live; ns = a .a ∷ a .b ∷ []; is = f2; many = refl; few = omega arith; node = known-at r o 2 (omega arith) }
+    let f1 = c .before .before .before .before .before .before .before .place .ensures .is 4 m [] f0 refl in
+    let f2 = c .before .before .before .place2 .ensures .is 4 m (a .a ∷ []) f1 refl in
+    record { n = 4; m = m; ns = a .a ∷ a .b ∷ []; is = f2; many = refl; few = omega arith; node = known-at r o 2 (omega arith) }
 
 -- src/store.rt:39:5
 place-requires-4 : tie.Need-place-requires-4
@@ -81,10 +81,10 @@ place-requires-4 c κs =
     let o = t .pre .3 in
     let cell = quad-of-nodes (a .a) (a .b) (a .c) (a .d) in
     let f0 = put-start (a .w .now) (a .s) (a .p) (a .i) n m cell r o 4 in
-    let f1 = c .before .before .before .before .before .before .before .before .before .before .before .place .ensures .is (m .used) (length (m .points)) 4 (m .live) ([]) f0 refl in
-    let f2 = c .before .before .before .before .before .before .before .place2 .ensures .is (m .used) (length (m .points)) 4 (m .live) (a .a ∷ []) f1 refl in
-    let f3 = c .before .before .before .place3 .ensures .is (m .used) (length (m .points)) 4 (m .live) (a .a ∷ a .b ∷ []) f2 refl in
-    record { k = m .used; m = length (m .points); n = 4; l = m .live; ns = a .a ∷ a .b ∷ a .c ∷ []; is = f3; many = refl; few = omega arith; node = known-at r o 3 (omega arith) }
+    let f1 = c .before .before .before .before .before .before .before .before .before .before .before .place .ensures .is 4 m [] f0 refl in
+    let f2 = c .before .before .before .before .before .before .before .place2 .ensures .is 4 m (a .a ∷ []) f1 refl in
+    let f3 = c .before .before .before .place3 .ensures .is 4 m (a .a ∷ a .b ∷ []) f2 refl in
+    record { n = 4; m = m; ns = a .a ∷ a .b ∷ a .c ∷ []; is = f3; many = refl; few = omega arith; node = known-at r o 3 (omega arith) }
 
 -- src/store.rt:31:1
 same-length : tie.Need-same-length
@@ -102,10 +102,10 @@ returns c =
     record {
       rep = λ m n r o.
           let f0 = put-start (a .w .now) (a .s) (a .p) (a .i) n m cell r o 4 in
-          let f1 = c .before .before .before .before .before .before .before .before .before .before .before .before .before .before .place .ensures .is (m .used) (length (m .points)) 4 (m .live) ([]) f0 refl in
-          let f2 = c .before .before .before .before .before .before .before .before .before .before .place2 .ensures .is (m .used) (length (m .points)) 4 (m .live) (a .a ∷ []) f1 refl in
-          let f3 = c .before .before .before .before .before .before .place3 .ensures .is (m .used) (length (m .points)) 4 (m .live) (a .a ∷ a .b ∷ []) f2 refl in
-          let f4 = c .before .before .place4 .ensures .is (m .used) (length (m .points)) 4 (m .live) (a .a ∷ a .b ∷ a .c ∷ []) f3 refl in
+          let f1 = c .before .before .before .before .before .before .before .before .before .before .before .before .before .before .place .ensures .is 4 m [] f0 refl in
+          let f2 = c .before .before .before .before .before .before .before .before .before .before .place2 .ensures .is 4 m (a .a ∷ []) f1 refl in
+          let f3 = c .before .before .before .before .before .before .place3 .ensures .is 4 m (a .a ∷ a .b ∷ []) f2 refl in
+          let f4 = c .before .before .place4 .ensures .is 4 m (a .a ∷ a .b ∷ a .c ∷ []) f3 refl in
           put-done (a .w .now) (a .s) (a .p) (a .i) n m cell r o (c .before .before .place4 .last .0) f4;
       keeps = keeps-trans (a .w .now) (c .before .before .before .before .before .before .place3 .last .0) (c .before .before .place4 .last .0) e (keeps-trans (a .w .now) (c .before .before .before .before .before .before .before .before .before .before .place2 .last .0) (c .before .before .before .before .before .before .place3 .last .0) e (keeps-trans (a .w .now) (c .before .before .before .before .before .before .before .before .before .before .before .before .before .before .place .last .0) (c .before .before .before .before .before .before .before .before .before .before .place2 .last .0) e (keeps-trans (a .w .now) (set (a .w .now) (a .i) 4) (c .before .before .before .before .before .before .before .before .before .before .before .before .before .before .place .last .0) e (keeps-set (a .w .now) e (a .i) 4 (omega (arith, t .pre .3 .given, t .pre .3 .fits))) (c .before .before .before .before .before .before .before .before .before .before .before .before .before .before .place .ensures .keeps)) (c .before .before .before .before .before .before .before .before .before .before .place2 .ensures .keeps)) (c .before .before .before .before .before .before .place3 .ensures .keeps)) (c .before .before .place4 .ensures .keeps);
     }

@@ -1,10 +1,11 @@
-use mathlib.Core.Path.{_≡_, refl, sym, ap₂, _∙_}
-use mathlib.Core.Bool.{true, false}
+use mathlib.Core.Path.{_≡_, refl, sym, _∙_}
+use mathlib.Core.Bool.{Bool, true, false, cond}
+use mathlib.Core.List.{map}
 use Rattle.definition.specs.Floats.{_≼_}
-use Rattle.definition.specs.Metrics.{measured}
+use Rattle.definition.specs.Metrics.{absent, measured, corners, angle-of, largest-cosine, min-scaled-jacobian, quad-metrics}
 use Rattle.definition.specs.Plane.{twice-area}
 use Rattle.plane.specs.Points.{node}
-use Rattle.plane.specs.Measures.{metrics-of-enum}
+use Rattle.plane.specs.Measures.{SidesOf, metrics-of-enum}
 use Rattle.plane.proofs.Measured.{flat-by, metrics-by}
 use Rattle.definition.specs.Numbers.{Numbers}
 use Rattle.plane.specs.Limits.{Fixed}
@@ -40,24 +41,42 @@ returns-2 c =
     let k = c .before in
     sym (metrics-by _ _ _ _ num false true _ (area-of (k .before .before) num fixed ∙ k .before .if1 .left) (sym (k .bent .ensures num fixed) ∙ c .if2 .taken) refl)
 
+lengths-of-requires : tie.Need-lengths-of-requires
+lengths-of-requires c κs = search needs
+
 sides-of-requires : tie.Need-sides-of-requires
 sides-of-requires c κs = search needs
+
+-- the products are those of the quad
+sides : (c : tie.After-sides-of)
+    → (let args = c .before .before .before .before .before .before .before .args in SidesOf (c .sides-of .result) (node (args .a)) (node (args .b)) (node (args .c)) (node (args .d)))
+sides c = c .sides-of .ensures _ _ _ _ (c .before .lengths-of .ensures)
 
 flat-side-requires : tie.Need-flat-side-requires
 flat-side-requires c κs = search needs
 
+-- the metrics by the third test, where the first two are passed
+third : (c : tie.After-flat-side) (t : Bool) (num : Numbers)
+    → c .flat-side .result ≡ t
+    → Fixed num
+    → (let args = c .before .before .before .before .before .before .before .before .args in
+    let o = node (args .a) in
+    let p = node (args .b) in
+    let q = node (args .c) in
+    let r = node (args .d) in
+    quad-metrics num o p q r ≡ cond t absent (measured (min-scaled-jacobian o p q r) (largest-cosine (map angle-of (corners o p q r)))))
+third c t num e fixed =
+    let sharp = c .before .before .before in
+    let b = sharp .before in
+    metrics-by _ _ _ _ num false false _ (area-of (b .before .before) num fixed ∙ b .before .if1 .left) (sym (b .bent .ensures num fixed) ∙ sharp .if2 .left)
+    (sym (flat-by _ _ _ _ _ (sides (c .before))) ∙ sym (c .flat-side .ensures) ∙ e)
+
 returns-3 : tie.Need-returns-3
 unfolding metrics-of-enum
-returns-3 c =
-    λ num fixed.
-    let k = c .before in
-    let h = k .before in
-    let b = h .before .before in
-    sym (metrics-by _ _ _ _ num false false true (area-of (b .before .before) num fixed ∙ b .before .if1 .left) (sym (b .bent .ensures num fixed) ∙ h .before .if2 .left)
-    (sym (flat-by _ _ _ _ _ (h .sides-of .ensures)) ∙ sym (k .flat-side .ensures) ∙ c .if3 .taken))
+returns-3 c = λ num fixed. sym (third (c .before) true num (c .if3 .taken) fixed)
 
-min-scaled-jacobian-of-requires : tie.Need-min-scaled-jacobian-of-requires
-min-scaled-jacobian-of-requires c κs = search needs
+least-jacobian-requires : tie.Need-least-jacobian-requires
+least-jacobian-requires c κs = search needs
 
 largest-cosine-requires : tie.Need-largest-cosine-requires
 largest-cosine-requires c κs = search needs
@@ -66,13 +85,9 @@ returns-4 : tie.Need-returns-4
 unfolding metrics-of-enum
 returns-4 c =
     λ num fixed.
-    let e = c .before .before in
-    let k = e .before in
-    let h = k .before in
-    let b = h .before .before in
-    ap₂ measured (c .before .min-scaled-jacobian-of .ensures) (c .largest-cosine .ensures (h .sides-of .ensures))
-    ∙ sym (metrics-by _ _ _ _ num false false false (area-of (b .before .before) num fixed ∙ b .before .if1 .left) (sym (b .bent .ensures num fixed) ∙ h .before .if2 .left)
-    (sym (flat-by _ _ _ _ _ (h .sides-of .ensures)) ∙ sym (k .flat-side .ensures) ∙ e .if3 .left))
+    let k = c .before .before in
+    let h = k .before .before in
+    rw (c .before .least-jacobian .ensures (h .before .lengths-of .ensures), c .largest-cosine .ensures (sides h)) (sym (third (k .before) false num (k .if3 .left) fixed))
 
 pub quad-metrics-of-spec : {M : Type 1} → statement M
 quad-metrics-of-spec =
@@ -83,9 +98,10 @@ quad-metrics-of-spec =
     returns
     bent-requires
     returns-2
+    lengths-of-requires
     sides-of-requires
     flat-side-requires
     returns-3
-    min-scaled-jacobian-of-requires
+    least-jacobian-requires
     largest-cosine-requires
     returns-4)

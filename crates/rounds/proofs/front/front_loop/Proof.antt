@@ -1,5 +1,5 @@
 use Rattle.cells.specs.Layout.{refused-at}
-use Rattle.rounds.specs.Runs.{Begun}
+use Rattle.steps.specs.Runs.{Begun}
 use mathlib.Core.Path.{_≡_, refl, ap, sym, _∙_, subst}
 use mathlib.Core.List.{List, [], _∷_, _++_}
 use Prim.Native.Nat.{ℕ, suc, _+_, _-_, _*_, _/_, _^_, _<_, _≤_}

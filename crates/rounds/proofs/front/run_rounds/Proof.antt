@@ -6,8 +6,8 @@ use lib.ListN.{length, getD, set, length-set, length-append}
 use Rattle.definition.specs.Numbers.{base, max-attempts}
 use Rattle.definition.specs.Front.{State, front-loop}
 use Rattle.lending.specs.Ready.{lent}
-use Rattle.rounds.specs.Runs.{Begun, setup, Goes}
-use Rattle.rounds.proofs.Attempting.{not-true, not-false}
+use Rattle.steps.specs.Runs.{Begun, setup, Goes}
+use Rattle.steps.proofs.Attempting.{not-true, not-false}
 use Rattle.rounds.proofs.Running.{Running, ends-there, goes-on, fewer}
 use Rattle.rounds.proofs.front.run_rounds.Statement.{statement}
 use Rattle.rounds.proofs.front.run_rounds.Tie as tie

@@ -5,7 +5,7 @@ use native.Mathlib.Omega.{arith}
 use lib.ListN.{length, getD, set, length-set, length-append}
 use Rattle.definition.specs.Cells.{front}
 use Rattle.definition.specs.Loops.{loops-of}
-use Rattle.rounds.specs.Runs.{setup}
+use Rattle.steps.specs.Runs.{setup}
 use Rattle.rounds.proofs.Rounding.{points-number, rep-now, few-now, empty-rounded, can-loop, room₂, loops-few₂, can-measure, can-loops, full-rounded}
 use borrow.Author.Needs.{needs}
 use Rattle.rounds.proofs.rounds.round.Statement.{statement}
@@ -17,7 +17,7 @@ use Rattle.loops.proofs.front.front_loops.Reads as front-loops-reads
 use Rattle.loops.proofs.measure.perimeters.Reads as perimeters-reads
 use Rattle.rounds.proofs.rounds.clear_done.Reads as clear-done-reads
 use Rattle.rounds.proofs.rounds.try_loops.Reads as try-loops-reads
-use Rattle.rounds.proofs.standing.emptied.Reads as emptied-reads
+use Rattle.settling.proofs.standing.emptied.Reads as emptied-reads
 
 -- src/rounds.rt:141:9
 front-edges-requires : tie.Need-front-edges-requires

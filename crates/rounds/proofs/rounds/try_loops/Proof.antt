@@ -6,9 +6,9 @@ use lib.ListN.{length, getD, set, length-set, length-append}
 use Rattle.definition.specs.Plane.{Node, Edge}
 use Rattle.definition.specs.Front.{State}
 use Rattle.cells.specs.Layout.{done-at}
-use Rattle.rounds.specs.Runs.{Begun, setup}
+use Rattle.steps.specs.Runs.{Begun, setup}
 use Rattle.rounds.specs.Rounds.{CanLoops}
-use Rattle.rounds.proofs.Attempting.{not-true, not-false}
+use Rattle.steps.proofs.Attempting.{not-true, not-false}
 use Rattle.rounds.proofs.Places.{zeros}
 use Rattle.rounds.proofs.Looping.{Looping, loops-left, looping-start, loops-number, none-left, can-start, can-take, ends-there, goes-on, fewer, turned-none, turned-one}
 use Rattle.rounds.proofs.rounds.try_loops.Statement.{statement}
@@ -18,7 +18,7 @@ use Rattle.rounds.proofs.rounds.try_loops.Lts as lts
 use Rattle.picks.proofs.pick_loop.Reads as pick-loop-reads
 use Rattle.rounds.proofs.rounds.loop_end.Reads as loop-end-reads
 use Rattle.rounds.proofs.rounds.loop_start.Reads as loop-start-reads
-use Rattle.rounds.proofs.standing.is_stuck.Reads as is-stuck-reads
+use Rattle.settling.proofs.standing.is_stuck.Reads as is-stuck-reads
 use Rattle.rounds.proofs.turns.take_turn.Reads as take-turn-reads
 
 abbrev Inv-loop : tie.InvT-loop

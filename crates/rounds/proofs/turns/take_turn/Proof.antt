@@ -3,7 +3,7 @@ use mathlib.Core.List.{List, [], _∷_, _++_}
 use Prim.Native.Nat.{ℕ, suc, _+_, _-_, _*_, _/_, _^_, _<_, _≤_}
 use native.Mathlib.Omega.{arith}
 use lib.ListN.{length, getD, set, length-set, length-append}
-use Rattle.rounds.specs.Runs.{setup}
+use Rattle.steps.specs.Runs.{setup}
 use Rattle.rounds.proofs.Trying.{turn-shows, can-try, turn-to}
 use borrow.Author.Needs.{needs}
 use Rattle.rounds.proofs.turns.take_turn.Statement.{statement}

@@ -8,9 +8,9 @@ use Rattle.definition.specs.Loops.{by-length}
 use Rattle.definition.specs.Front.{State}
 use Rattle.cells.specs.Layout.{tried-at}
 use Rattle.edges.specs.Stored.{waiting}
-use Rattle.rounds.specs.Runs.{Begun, setup}
+use Rattle.steps.specs.Runs.{Begun, setup}
 use Rattle.rounds.specs.Turns.{CanTry}
-use Rattle.rounds.proofs.Attempting.{not-true, not-false}
+use Rattle.steps.proofs.Attempting.{not-true, not-false}
 use Rattle.rounds.proofs.Places.{zeros}
 use Rattle.rounds.proofs.Trying.{Trying, trying-start, can-pick, none-left, place₁, goes-next, ends-there, goes-on, fewer, picked-none, picked-one}
 use Rattle.rounds.proofs.turns.try_edges.Statement.{statement}
@@ -20,8 +20,8 @@ use Rattle.rounds.proofs.turns.try_edges.Lts as lts
 use Rattle.picks.proofs.order.first_on.Reads as first-on-reads
 use Rattle.picks.proofs.order.second_on.Reads as second-on-reads
 use Rattle.picks.proofs.pick_edge.Reads as pick-edge-reads
-use Rattle.rounds.proofs.standing.is_stuck.Reads as is-stuck-reads
-use Rattle.rounds.proofs.steps.attempt_one.Reads as attempt-one-reads
+use Rattle.settling.proofs.standing.is_stuck.Reads as is-stuck-reads
+use Rattle.steps.proofs.attempt.attempt_one.Reads as attempt-one-reads
 
 abbrev Inv-loop : tie.InvT-loop
 Inv-loop w₀ q₀ quads₀ s p given bucket size even b e g₀ w q quads g =

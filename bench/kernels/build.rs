@@ -1,0 +1,35 @@
+//! Links the static library that `rt staticlib kernels` writes, and takes the patched Rust's metrics, which are private there, out of its text.
+
+use std::path::Path;
+use std::{env, fs};
+
+/// The text of a function of the patched Rust, up to the brace that closes it.
+fn function<'a>(text: &'a str, name: &str) -> &'a str {
+    let start = text
+        .find(&format!("\nfn {name}("))
+        .unwrap_or_else(|| panic!("no function {name}"));
+    let length = text[start..].find("\n}\n").expect("the function's end");
+    &text[start..start + length + 3]
+}
+
+fn main() {
+    let here = Path::new(env!("CARGO_MANIFEST_DIR"));
+    let source = here.join("../../reference/src/patched.rs");
+    println!("cargo:rerun-if-changed={}", source.display());
+    let text = fs::read_to_string(&source).expect("the patched Rust");
+    let parts = ["cross", "quad_metrics", "min_scaled_jacobian"].map(|name| function(&text, name));
+    let out = env::var_os("OUT_DIR").expect("a folder for what is made");
+    fs::write(Path::new(&out).join("metrics.rs"), parts.concat()).expect("a file there");
+
+    let folder = here.join("../../target/staticlib");
+    let archive = folder.join("libkernels.a");
+    println!("cargo:rerun-if-changed={}", archive.display());
+    if !archive.is_file() {
+        println!(
+            "cargo:warning=no {}: write it by `rt staticlib kernels`",
+            archive.display()
+        );
+    }
+    println!("cargo:rustc-link-search=native={}", folder.display());
+    println!("cargo:rustc-link-lib=static=kernels");
+}

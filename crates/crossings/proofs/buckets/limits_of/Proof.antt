@@ -1,0 +1,54 @@
+use Rattle.definition.specs.Call.{point-at}
+use Rattle.plane.specs.Points.{spot-x, spot-y}
+use borrow.Author.Needs.{needs}
+use Rattle.crossings.proofs.buckets.limits_of.Statement.{statement}
+use Rattle.crossings.proofs.buckets.limits_of.Tie as tie
+
+at-requires : tie.Need-at-requires
+at-requires c κs = search needs
+
+at-requires-2 : tie.Need-at-requires-2
+at-requires-2 c κs = search needs
+
+below-requires : tie.Need-below-requires
+below-requires c κs = search needs
+
+above-requires : tie.Need-above-requires
+above-requires c κs = search needs
+
+below-requires-2 : tie.Need-below-requires-2
+below-requires-2 c κs = search needs
+
+above-requires-2 : tie.Need-above-requires-2
+above-requires-2 c κs = search needs
+
+returns : tie.Need-returns
+returns c =
+    let k3 = c .before in
+    let k2 = k3 .before in
+    let k1 = k2 .before in
+    let t2 = k1 .before in
+    let t1 = t2 .before in
+    let a = t1 .before .before .args in
+    let ux = spot-x (t1 .at .result) (point-at (a .q .now) (a .u)) (t1 .at .ensures) in
+    let uy = spot-y (t1 .at .result) (point-at (a .q .now) (a .u)) (t1 .at .ensures) in
+    let vx = spot-x (t2 .at2 .result) (point-at (a .q .now) (a .v)) (t2 .at2 .ensures) in
+    let vy = spot-y (t2 .at2 .result) (point-at (a .q .now) (a .v)) (t2 .at2 .ensures) in
+    record {
+      left = rw (← ux, ← vx) (k1 .below .ensures);
+      right = rw (← ux, ← vx) (k2 .above .ensures);
+      low = rw (← uy, ← vy) (k3 .below2 .ensures);
+      high = rw (← uy, ← vy) (c .above2 .ensures);
+    }
+
+pub limits-of-spec : {M : Type 1} → statement M
+limits-of-spec =
+    tie.close
+    (tie.spec
+    at-requires
+    at-requires-2
+    below-requires
+    above-requires
+    below-requires-2
+    above-requires-2
+    returns)

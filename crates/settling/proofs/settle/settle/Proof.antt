@@ -1,0 +1,151 @@
+use mathlib.Core.Path.{_≡_, refl, ap, sym, _∙_, subst}
+use mathlib.Core.List.{List, [], _∷_, _++_}
+use Prim.Native.Nat.{ℕ, suc, _+_, _-_, _*_, _/_, _^_, _<_, _≤_}
+use native.Mathlib.Omega.{arith}
+use lib.ListN.{length, getD, set, length-set, length-append}
+use Rattle.definition.specs.Counts.{of-points, of-slots}
+use Rattle.settling.specs.Standings.{sort-of}
+use Rattle.settling.proofs.Settling.{can-put, put-settles, can-record, record-settles, end-settles, sort-last}
+use borrow.Author.Needs.{needs}
+use Rattle.settling.proofs.settle.settle.Statement.{statement}
+use Rattle.settling.proofs.settle.settle.Tie as tie
+use Rattle.settling.proofs.settle.settle.Reads as reads
+use Rattle.settling.proofs.settle.settle.Lts as lts
+use Rattle.settling.proofs.settle.put_quad.Reads as put-quad-reads
+use Rattle.settling.proofs.settle.put_record.Reads as put-record-reads
+use Rattle.settling.proofs.standing.refused.Reads as refused-reads
+use Rattle.settling.proofs.standing.sort_of.Reads as sort-of-reads
+use Rattle.settling.proofs.standing.tried.Reads as tried-reads
+
+-- src/settle.rt:97:9
+tried-requires : tie.Need-tried-requires
+tried-requires c κs = search needs
+
+-- src/settle.rt:98:9
+sort-of-requires : tie.Need-sort-of-requires
+sort-of-requires c κs = search needs
+
+-- src/settle.rt:100:9
+put-quad-requires : tie.Need-put-quad-requires
+put-quad-requires c κs =
+    let at-if1 = c .before .before in
+    let at-sort-of = at-if1 .before in
+    let at-tried = at-sort-of .before in
+    let at-c = at-tried .before in
+    let t = at-c .before .before .before in
+    let a = t .args in
+    let h = t .pre in
+    (h .0, h .1, h .2, h .3, can-put (a .w .now) (a .quads .now) (a .s) (a .p) (a .g) (a .t) (a .u) (a .v) (h .0) (h .1) (h .2) (h .3) (h .4) (at-tried .tried .result) (at-tried .tried .ensures) (sym (at-sort-of .sort-of .ensures) ∙ at-if1 .if1 .taken))
+
+-- src/settle.rt:100:9
+same-length : tie.Need-same-length
+same-length c = search needs
+
+-- src/settle.rt:100:9
+same-length-2 : tie.Need-same-length-2
+same-length-2 c = search needs
+
+-- src/settle.rt:100:9
+returns : tie.Need-returns
+returns c =
+    let at-quads = c .before in
+    let at-w = at-quads .before .before in
+    let at-put-quad = at-w .before in
+    let at-if1 = at-put-quad .before .before .before in
+    let at-sort-of = at-if1 .before in
+    let at-tried = at-sort-of .before in
+    let at-c = at-tried .before in
+    let t = at-c .before .before .before in
+    let a = t .args in
+    λ ever bl qs old h. put-settles (a .w .now) (a .quads .now) (a .s) (a .p) (a .g) (a .t) (a .u) (a .v) ever bl qs old h (at-tried .tried .result) (at-tried .tried .ensures) (at-put-quad .put-quad .last .0) (at-put-quad .put-quad .last .1 .0) (at-put-quad .put-quad .result) (sym (at-sort-of .sort-of .ensures) ∙ at-if1 .if1 .taken)
+    (at-put-quad .put-quad .ensures ever bl qs old (can-put (a .w .now) (a .quads .now) (a .s) (a .p) (a .g) (a .t) (a .u) (a .v) ever bl qs old h (at-tried .tried .result) (at-tried .tried .ensures) (sym (at-sort-of .sort-of .ensures) ∙ at-if1 .if1 .taken)))
+
+-- src/settle.rt:103:13
+refused-requires : tie.Need-refused-requires
+refused-requires c κs =
+    let at-if2 = c in
+    let at-if1 = at-if2 .before in
+    let at-sort-of = at-if1 .before in
+    let at-tried = at-sort-of .before in
+    let at-c = at-tried .before in
+    let t = at-c .before .before .before in
+    let a = t .args in
+    at-tried .tried .ensures .few
+
+-- src/settle.rt:104:9
+put-record-requires : tie.Need-put-record-requires
+put-record-requires c κs =
+    let at-refused = c .before in
+    let at-if2 = at-refused .before in
+    let at-if1 = at-if2 .before in
+    let at-sort-of = at-if1 .before in
+    let at-tried = at-sort-of .before in
+    let at-c = at-tried .before in
+    let t = at-c .before .before .before in
+    let a = t .args in
+    let h = t .pre in
+    (h .0, h .1, can-record (a .w .now) (a .quads .now) (a .s) (a .p) (a .g) (a .t) (a .u) (a .v) (h .0) (h .1) (h .2) (h .3) (h .4) (at-tried .tried .result) (at-tried .tried .ensures) (at-refused .refused .result) (at-refused .refused .ensures) (sym (at-sort-of .sort-of .ensures) ∙ at-if2 .if2 .taken))
+
+-- src/settle.rt:104:9
+same-length-3 : tie.Need-same-length-3
+same-length-3 c = search needs
+
+-- src/settle.rt:104:9
+returns-2 : tie.Need-returns-2
+returns-2 c =
+    let at-w2 = c .before in
+    let at-put-record = at-w2 .before in
+    let at-refused = at-put-record .before .before in
+    let at-if2 = at-refused .before in
+    let at-if1 = at-if2 .before in
+    let at-sort-of = at-if1 .before in
+    let at-tried = at-sort-of .before in
+    let at-c = at-tried .before in
+    let t = at-c .before .before .before in
+    let a = t .args in
+    λ ever bl qs old h. record-settles (a .w .now) (a .quads .now) (a .s) (a .p) (a .g) (a .t) (a .u) (a .v) ever bl qs old h (at-tried .tried .result) (at-tried .tried .ensures) (at-refused .refused .result) (at-refused .refused .ensures) (sym (at-sort-of .sort-of .ensures) ∙ at-if2 .if2 .taken) (at-put-record .put-record .last .0) (at-put-record .put-record .result)
+    (at-put-record .put-record .ensures ever bl (can-record (a .w .now) (a .quads .now) (a .s) (a .p) (a .g) (a .t) (a .u) (a .v) ever bl qs old h (at-tried .tried .result) (at-tried .tried .ensures) (at-refused .refused .result) (at-refused .refused .ensures) (sym (at-sort-of .sort-of .ensures) ∙ at-if2 .if2 .taken)))
+
+-- src/settle.rt:107:9
+returns-3 : tie.Need-returns-3
+returns-3 c =
+    let at-if3 = c in
+    let at-if2 = at-if3 .before in
+    let at-if1 = at-if2 .before in
+    let at-sort-of = at-if1 .before in
+    let at-tried = at-sort-of .before in
+    let at-c = at-tried .before in
+    let t = at-c .before .before .before in
+    let a = t .args in
+    λ ever bl qs old h. end-settles (a .w .now) (a .quads .now) (a .s) (a .p) (a .g) (a .t) (a .u) (a .v) ever bl qs old h (at-tried .tried .result) (at-tried .tried .ensures) of-points _ (sym (at-sort-of .sort-of .ensures) ∙ at-if3 .if3 .taken) refl refl
+
+-- src/settle.rt:82:1
+returns-4 : tie.Need-returns-4
+returns-4 c =
+    let at-if3 = c in
+    let at-if2 = at-if3 .before in
+    let at-if1 = at-if2 .before in
+    let at-sort-of = at-if1 .before in
+    let at-tried = at-sort-of .before in
+    let at-c = at-tried .before in
+    let t = at-c .before .before .before in
+    let a = t .args in
+    let e = at-sort-of .sort-of .ensures in
+    λ ever bl qs old h. end-settles (a .w .now) (a .quads .now) (a .s) (a .p) (a .g) (a .t) (a .u) (a .v) ever bl qs old h (at-tried .tried .result) (at-tried .tried .ensures) of-slots _ (sort-last (a .t .end) (λ z. at-if1 .if1 .left (e ∙ z)) (λ z. at-if2 .if2 .left (e ∙ z)) (λ z. at-if3 .if3 .left (e ∙ z))) refl refl
+
+pub settle-spec : {M : Type 1} → statement M
+settle-spec =
+    tie.close
+    (tie.spec
+    tried-requires
+    sort-of-requires
+    put-quad-requires
+    same-length
+    same-length-2
+    returns
+    refused-requires
+    put-record-requires
+    same-length-3
+    returns-2
+    returns-3
+    returns-4)

@@ -1,0 +1,109 @@
+-- A run's standing: what it counted, in the definition's counts.
+use mathlib.Core.Path.{_≡_}
+use mathlib.Core.Bool.{Bool, true, false}
+use Prim.Native.Nat.{ℕ, _+_, _^_, _<_, _≤_}
+use Rattle.definition.specs.Counts.{Counts, _⊞_, one-attempt, insertions}
+use Rattle.cells.specs.Counting.{Attempted}
+use Rattle.cells.specs.declared.counters.Counters.{Counters}
+use Rattle.lending.specs.declared.End.{End}
+use Rattle.lending.specs.declared.End.the-variants as ends
+use Rattle.settling.specs.declared.standing.Tally.{Tally}
+use Rattle.settling.specs.declared.standing.Standing.{Standing}
+use Rattle.settling.specs.declared.standing.Going.{Going}
+use Rattle.settling.specs.declared.standing.Going.the-variants as goings
+
+-- the definition's counts: the tally, and the attempts of the counters
+abbrev pub counts-of : Standing → Counts
+counts-of g =
+    record {
+      front-empty = g .tally .«front_empty»;
+      attempts = g .counters .attempts;
+      placement = g .tally .placement;
+      invalid-quad = g .tally .«invalid_quad»;
+      recovery = g .tally .recovery;
+      region = g .tally .region;
+      odd-region = g .tally .«odd_region»;
+      mismatch-insertions = g .tally .«mismatch_insertions»;
+      limit = g .tally .limit;
+    }
+
+-- 0: a quad was placed; 1: refused; 2: no point is left; 3: too few slots are
+abbrev pub sort-of : End → ℕ
+sort-of ends.Placed = 0
+sort-of ends.Placement = 1
+sort-of ends.Shape = 1
+sort-of ends.Recovery = 1
+sort-of ends.Region = 1
+sort-of ends.OddRegion = 1
+sort-of ends.NoPoint = 2
+sort-of ends.NoSlots = 3
+
+-- the step ended without a quad, and the run goes on
+abbrev pub is-stuck : Going → Bool
+is-stuck goings.Stuck = true
+is-stuck goings.Progressed = false
+is-stuck goings.Limited = false
+is-stuck goings.NoPoint = false
+is-stuck goings.NoSlots = false
+
+-- every count is far from its type's end
+pub record FewTally (t : Tally) : Type 0 where
+  pub front : t .«front_empty» < 2 ^ 32
+  pub placement : t .placement < 2 ^ 32
+  pub invalid : t .«invalid_quad» < 2 ^ 32
+  pub recovery : t .recovery < 2 ^ 32
+  pub region : t .region < 2 ^ 32
+  pub odd : t .«odd_region» < 2 ^ 32
+  pub insertions : t .«mismatch_insertions» < 2 ^ 32
+  pub limit : t .limit < 2 ^ 32
+
+-- so for a standing
+abbrev pub FewCounts : Standing → Type 0
+FewCounts g = FewTally (g .tally)
+
+-- one more refusal of the kind of the end
+abbrev pub tally-refused : End → Tally → Tally
+tally-refused ends.Placed t = t
+tally-refused ends.Placement t = record { «front_empty» = t .«front_empty»; placement = t .placement + 1; «invalid_quad» = t .«invalid_quad»; recovery = t .recovery; region = t .region; «odd_region» = t .«odd_region»; «mismatch_insertions» = t .«mismatch_insertions»; limit = t .limit }
+tally-refused ends.Shape t = record { «front_empty» = t .«front_empty»; placement = t .placement; «invalid_quad» = t .«invalid_quad» + 1; recovery = t .recovery; region = t .region; «odd_region» = t .«odd_region»; «mismatch_insertions» = t .«mismatch_insertions»; limit = t .limit }
+tally-refused ends.Recovery t = record { «front_empty» = t .«front_empty»; placement = t .placement; «invalid_quad» = t .«invalid_quad»; recovery = t .recovery + 1; region = t .region; «odd_region» = t .«odd_region»; «mismatch_insertions» = t .«mismatch_insertions»; limit = t .limit }
+tally-refused ends.Region t = record { «front_empty» = t .«front_empty»; placement = t .placement; «invalid_quad» = t .«invalid_quad»; recovery = t .recovery; region = t .region + 1; «odd_region» = t .«odd_region»; «mismatch_insertions» = t .«mismatch_insertions»; limit = t .limit }
+tally-refused ends.OddRegion t = record { «front_empty» = t .«front_empty»; placement = t .placement; «invalid_quad» = t .«invalid_quad»; recovery = t .recovery; region = t .region; «odd_region» = t .«odd_region» + 1; «mismatch_insertions» = t .«mismatch_insertions»; limit = t .limit }
+tally-refused ends.NoPoint t = t
+tally-refused ends.NoSlots t = t
+
+-- an attempt more is counted
+pub record CountedOne (g r : Standing) : Type 0 where
+  pub counters : Attempted (g .counters) (r .counters)
+  pub counts : counts-of r ≡ counts-of g ⊞ one-attempt
+  pub quads : r .quads ≡ g .quads
+  pub records : r .records ≡ g .records
+
+-- so much more is counted
+pub record CountsMore (g : Standing) (c : Counts) (r : Standing) : Type 0 where
+  pub counters : r .counters ≡ g .counters
+  pub counts : counts-of r ≡ counts-of g ⊞ c
+  pub quads : r .quads ≡ g .quads
+  pub records : r .records ≡ g .records
+
+-- n insertions more, and the counters are c; attempts stay where c has those of g
+pub record TriedMore (g : Standing) (c : Counters) (n : ℕ) (r : Standing) : Type 0 where
+  pub counters : r .counters ≡ c
+  pub counts : c .attempts ≡ g .counters .attempts → counts-of r ≡ counts-of g ⊞ insertions n
+  pub few : FewTally (r .tally)
+  pub quads : r .quads ≡ g .quads
+  pub records : r .records ≡ g .records
+
+-- a quad more
+pub record Quadded (g r : Standing) : Type 0 where
+  pub counters : r .counters ≡ g .counters
+  pub counts : counts-of r ≡ counts-of g
+  pub quads : r .quads ≡ g .quads + 1
+  pub records : r .records ≡ g .records
+
+-- n edges have a record
+pub record Recorded (g : Standing) (n : ℕ) (r : Standing) : Type 0 where
+  pub counters : r .counters ≡ g .counters
+  pub counts : counts-of r ≡ counts-of g
+  pub quads : r .quads ≡ g .quads
+  pub records : r .records ≡ n

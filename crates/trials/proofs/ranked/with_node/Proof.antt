@@ -1,0 +1,75 @@
+-- The loop's invariant: the trials of c and the nodes from j on are inserted, the last one first. The measure is j.
+use mathlib.Core.Path.{_≡_, refl}
+use mathlib.Core.List.{[]}
+use Prim.Native.Nat.{suc, _+_, _-_, _<_}
+use native.Mathlib.Omega.{arith}
+use borrow.Author.Needs.{needs}
+use Rattle.trials.specs.Kept.{listed, onto}
+use Rattle.trials.specs.Ranked.{part, trial-at, length-part, part-at}
+use Rattle.trials.proofs.Rating.{kept-same}
+use Rattle.trials.proofs.Rounds.{Gone, gone-none, gone-more, gone-all}
+use Rattle.trials.proofs.ranked.with_node.Statement.{statement}
+use Rattle.trials.proofs.ranked.with_node.Tie as tie
+
+abbrev Inv-loop : tie.InvT-loop
+Inv-loop w q far-at fars a b c kept₀ j₀ kept j = Gone (trial-at q a b c) (part w far-at fars) (listed kept₀) fars kept j
+
+abbrev μ-loop : tie.MeasureT-loop
+μ-loop w q far-at fars a b c kept₀ j₀ kept j = j
+
+loop-holds : tie.Need-loop-holds Inv-loop μ-loop
+unfolding onto
+loop-holds c = let k = c .before .before in gone-none _ _ _ _ (length-part _ _ _ (k .pre .1 .stands)) _ (kept-same _ [] (k .pre .0) refl)
+
+sub-j : tie.Need-sub-j Inv-loop μ-loop
+sub-j c = search needs
+
+add-d : tie.Need-add-d Inv-loop μ-loop
+add-d c = search needs
+
+mul-d : tie.Need-mul-d Inv-loop μ-loop
+mul-d c = search needs
+
+shared-slice-read-d : tie.Need-shared-slice-read-d Inv-loop μ-loop
+shared-slice-read-d c = search needs
+
+cast-d : tie.Need-cast-d Inv-loop μ-loop
+cast-d c = search (needs, c .shared-slice-known3 .given (c .before .before .before .before .before .args .far-at + (c .before .before .loop .j - 1)))
+
+with-pair-requires : tie.Need-with-pair-requires Inv-loop μ-loop
+with-pair-requires c κs =
+    let k = c .before .before .before .before .before in
+    let h : c .before .before .loop .j - 1 < k .args .fars = omega (arith, c .before .before .loop .inv .within, c .before .loop-test .taken) in
+    let p = k .pre .1 in
+    (c .before .before .loop .inv .so-far .few, p .a-within, p .b-within, p .c-within, p .within _ h)
+
+loop-less : tie.Need-loop-less Inv-loop μ-loop
+loop-less c = search needs
+
+loop-again : tie.Need-loop-again Inv-loop μ-loop
+loop-again c =
+    let k = c .before .before .before .before .before .before in
+    let l = c .before .before .before in
+    let h : l .loop .j - 1 < k .args .fars = omega (arith, l .loop .inv .within, c .before .before .loop-test .taken) in
+    let e : l .loop .j ≡ suc (l .loop .j - 1) = omega (arith, c .before .before .loop-test .taken) in
+    gone-more _ _ _ _ (length-part _ _ _ (k .pre .1 .stands)) _ _ _ _ e (l .loop .inv) (rw (part-at _ _ _ _ h) (c .with-pair .ensures))
+
+returns : tie.Need-returns Inv-loop μ-loop
+returns c = gone-all _ _ _ _ _ _ (c .before .loop .inv) (c .loop-test .left)
+
+pub with-node-spec : {M : Type 1} → statement M
+with-node-spec =
+    tie.close
+    (tie.spec
+    Inv-loop
+    μ-loop
+    loop-holds
+    sub-j
+    add-d
+    mul-d
+    shared-slice-read-d
+    cast-d
+    with-pair-requires
+    loop-less
+    loop-again
+    returns)
