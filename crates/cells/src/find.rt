@@ -204,7 +204,21 @@ fn front_from(w: &[u32], s: usize, p: usize, u: usize, v: usize) -> bool
     front_by_note(w, s, p, u, v, known)
 }
 
-// The edge u-v has one or two owners, exactly one of them a triangle.
+// The same for u above v: by the note of v, and by a walk around u.
+fn front_to(w: &[u32], s: usize, p: usize, u: usize, v: usize) -> bool
+    requires { ⌜ ((m : Mesh) × Rep (now w) s p m) ⌝ }
+    requires { ⌜ IsEdge p u v ⌝ }
+    requires { ⌜ v < u ⌝ }
+    ensures { λ r. ⌜ ((m : Mesh) → Rep (now (w .entry)) s p m → r ≡ is-front m (key u v)) ⌝ }
+{
+    let known = wide(w[notes_at(s, p) + v]) % 4;
+    if known == 0 {
+        return front_by_walk(w, s, p, u, v);
+    }
+    front_by_note(w, s, p, v, u, known)
+}
+
+// The edge u-v has one or two owners, exactly one of them a triangle. A walk goes around u.
 pub fn is_front(w: &[u32], s: usize, p: usize, u: usize, v: usize) -> bool
     requires { ⌜ ((m : Mesh) × Rep (now w) s p m) ⌝ }
     requires { ⌜ IsEdge p u v ⌝ }
@@ -213,7 +227,7 @@ pub fn is_front(w: &[u32], s: usize, p: usize, u: usize, v: usize) -> bool
     if u < v {
         return front_from(w, s, p, u, v);
     }
-    front_from(w, s, p, v, u)
+    front_to(w, s, p, u, v)
 }
 
 // The slot of the first triangle that has the edge u-v; s: there is none.
