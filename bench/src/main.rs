@@ -14,9 +14,10 @@ const HUB: [usize; 3] = [100, 200, 400];
 /// Element sizes, in steps of the grid; 0 is none.
 const STEPS: [f64; 3] = [0.0, 1.0, 3.0];
 
-/// The best of so many runs counts, but no mesh is run longer than this.
-const RUNS: usize = 7;
-const MOST_SECONDS: f64 = 3.0;
+/// All meshes are gone through so often, so that a time when the machine is slow falls on few of them; each time a mesh is run so often, but not longer than this. The best run counts.
+const PASSES: usize = 3;
+const RUNS: usize = 5;
+const MOST_SECONDS: f64 = 1.0;
 
 /// The processor time of this thread, in seconds: other programs on the machine count less than in the time of day.
 fn clock() -> f64 {
@@ -153,43 +154,81 @@ fn rust(input: &Input) -> (f64, (usize, usize)) {
     })
 }
 
-/// A line of the table: both times of one mesh.
-fn row(input: &Input, size: &str) -> (f64, f64) {
-    let (slow, made) = rust(input);
-    let (fast, same) = port(input);
-    assert_eq!(made, same, "quads and points");
-    let added = made.1 - input.points.len();
-    println!(
-        "| {} | {size} | {} | {} | {added} | {slow:.2} | {fast:.2} | {:.2} |",
-        input.triangles.len(),
-        input.stop,
-        made.0,
-        fast / slow
-    );
-    (slow, fast)
+/// A mesh, what its line says of its size, and the best times so far of the Rust and of the port.
+struct Row {
+    input: Input,
+    size: String,
+    rust: f64,
+    port: f64,
+    made: (usize, usize),
+}
+
+impl Row {
+    fn new(input: Input, size: String) -> Self {
+        Row {
+            input,
+            size,
+            rust: f64::INFINITY,
+            port: f64::INFINITY,
+            made: (0, 0),
+        }
+    }
+
+    fn run(&mut self) {
+        let (slow, made) = rust(&self.input);
+        let (fast, same) = port(&self.input);
+        assert_eq!(made, same, "quads and points");
+        self.rust = self.rust.min(slow);
+        self.port = self.port.min(fast);
+        self.made = made;
+    }
+
+    fn print(&self) {
+        let (quads, points) = self.made;
+        println!(
+            "| {} | {} | {} | {quads} | {} | {:.2} | {:.2} | {:.2} |",
+            self.input.triangles.len(),
+            self.size,
+            self.input.stop,
+            points - self.input.points.len(),
+            self.rust,
+            self.port,
+            self.port / self.rust
+        );
+    }
 }
 
 fn main() {
+    let mut rows = Vec::new();
+    for steps in STEPS {
+        for stop in [0, 1] {
+            for n in TRIANGLES {
+                rows.push(Row::new(plate(n, steps, stop), format!("{steps}")));
+            }
+        }
+    }
+    for triangles in HUB {
+        rows.push(Row::new(shape("hub", triangles), "hub".to_string()));
+    }
+    for _ in 0..PASSES {
+        rows.iter_mut().for_each(Row::run);
+    }
     println!(
         "| triangles | size | rule | quads | points added | Rust, ms | port, ms | port / Rust |"
     );
     println!("|---|---|---|---|---|---|---|---|");
-    let mut growth = Vec::new();
-    for steps in STEPS {
-        for stop in [0, 1] {
-            let size = format!("{steps}");
-            let times = TRIANGLES.map(|n| row(&plate(n, steps, stop), &size));
-            growth.push((steps, stop, times));
-        }
-    }
-    for triangles in HUB {
-        row(&shape("hub", triangles), "hub");
-    }
+    rows.iter().for_each(Row::print);
     let (from, to) = (TRIANGLES[1], TRIANGLES[2]);
     println!("\n| size | rule | Rust, {from} to {to} triangles | port |");
     println!("|---|---|---|---|");
-    for (steps, stop, [_, small, large]) in growth {
-        let (rust, port) = (large.0 / small.0, large.1 / small.1);
-        println!("| {steps} | {stop} | {rust:.1} times | {port:.1} times |");
+    for group in rows[..rows.len() - HUB.len()].chunks(TRIANGLES.len()) {
+        let (small, large) = (&group[1], &group[2]);
+        println!(
+            "| {} | {} | {:.1} times | {:.1} times |",
+            small.size,
+            small.input.stop,
+            large.rust / small.rust,
+            large.port / small.port
+        );
     }
 }

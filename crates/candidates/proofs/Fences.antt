@@ -53,13 +53,13 @@ pub node-within : (q : List Float) (p : ℕ) (m : Mesh) → Pts q p m → (v : �
 node-within q p m k v h = omega (arith, k .fits, k .few)
 
 module _ (m : Mesh) (a b : ℕ) (e : Edge) where
-  pub open-shared : true ≡ shared-by-tris m e → true ≡ open-edge m a b e
+  pub open-clear : true ≡ passes-by m a b e → true ≡ open-edge m a b e
   unfolding open-edge
-  open-shared h = rw (← h)
+  open-clear h = rw (← h, or-true (shared-by-tris m e))
 
-  pub open-passes : (x : Bool) → false ≡ shared-by-tris m e → x ≡ passes-by m a b e → x ≡ open-edge m a b e
+  pub open-crossed : (x : Bool) → false ≡ passes-by m a b e → x ≡ shared-by-tris m e → x ≡ open-edge m a b e
   unfolding open-edge
-  open-passes x h k = rw (← h) k
+  open-crossed x h k = rw (← h, ← k, or-false x)
 
 -- ---- one triangle
 

@@ -62,7 +62,19 @@ fn passes_by(q: &[f64], p: usize, a: usize, b: usize, u: usize, v: usize) -> boo
     !segments_cross(q, a, b, u, v)
 }
 
-// Two triangles share the edge u-v, or the segment a b does not cross it.
+// The segment a b does not cross the edge u-v, unless they share a node.
+fn clears(q: &[f64], p: usize, a: usize, b: usize, u: usize, v: usize) -> bool
+    requires { ⌜ ((m : Mesh) × Pts (now q) p m × Ends m a b × Ends m u v) ⌝ }
+    requires { ⌜ IsEdge p u v ⌝ }
+    ensures { λ r. ⌜ ((m : Mesh) → Pts (now (q .entry)) p m → Ends m a b → Ends m u v → r ≡ passes-by m a b (key u v)) ⌝ }
+{
+    if u < v {
+        return passes_by(q, p, a, b, u, v);
+    }
+    passes_by(q, p, a, b, v, u)
+}
+
+// Two triangles share the edge u-v, or the segment a b does not cross it, which is tried first: it needs no walk.
 fn open_edge(
     w: &[u32],
     q: &[f64],
@@ -77,13 +89,10 @@ fn open_edge(
     requires { ⌜ IsEdge p u v ⌝ }
     ensures { λ r. ⌜ ((m : Mesh) → Rep (now (w .entry)) s p m → Pts (now (q .entry)) p m → Ends m a b → Ends m u v → r ≡ open-edge m a b (key u v)) ⌝ }
 {
-    if shared_by_tris(w, s, p, u, v) {
+    if clears(q, p, a, b, u, v) {
         return true;
     }
-    if u < v {
-        return passes_by(q, p, a, b, u, v);
-    }
-    passes_by(q, p, a, b, v, u)
+    shared_by_tris(w, s, p, u, v)
 }
 
 // So for each edge of the triangle in slot i.

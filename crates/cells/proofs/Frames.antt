@@ -5,16 +5,17 @@ use mathlib.Core.Bool.{Bool, true, false, cond}
 use mathlib.Core.List.{List, [], _∷_, _++_}
 use Prim.Native.Nat.{ℕ, zero, suc, _+_, _-_, _*_, _/_, _≤_, _<_}
 use native.Mathlib.Omega.{arith}
-use lib.Dec.{ltb}
+use lib.Dec.{eqb, ltb}
 use lib.ListN.{length, getD, set, length-set}
-use borrow.Author.Tests.{ltb-true}
+use borrow.Author.Tests.{eqb-true, ltb-true}
 use Rattle.rings.specs.Rings.{nx, Below, Out, Distinct, Kept, Family}
 use Rattle.rings.proofs.Rings.{on, off}
 use Rattle.rings.proofs.Families.{family-kept}
 use Rattle.definition.specs.Lists.{filter}
-use Rattle.definition.specs.Cells.{Cell, Live, Mesh, nodes, key, owns, owners}
-use Rattle.cells.specs.Layout.{nodes-at, rings-at, codes, notes-at, mesh-end}
-use Rattle.cells.specs.Rep.{CellAt, Held, Cells, corners, Room, Rep, slots}
+use Rattle.definition.specs.Cells.{Cell, Live, Mesh, nodes, key, owns, owners, tris-of}
+use Rattle.definition.specs.Components.{odd-one}
+use Rattle.cells.specs.Layout.{nodes-at, rings-at, codes, notes-at, even-at, mesh-end}
+use Rattle.cells.specs.Rep.{CellAt, Held, Cells, corners, Room, NoneOdd, Rep, slots}
 use Rattle.cells.specs.Walk.{From, Pos, Sought, nobody, somebody, At, Next, steps, left}
 use Rattle.cells.specs.Frames.{Under, Keeps}
 use Rattle.cells.proofs.Notes.{Spared, note-spared, SameAt, Grown, note-mesh}
@@ -113,7 +114,8 @@ module _ (w w' : List ℕ) (s p : ℕ) (k : Under w w' (mesh-end s p)) where
         cells = cells-under w w' s (m .used) (length (m .points)) (m .live) (r .used) (under-less w w' (5 * s) (mesh-end s p) (omega arith) k) (r .cells);
         rings = family-kept w w' (rings-at s) (codes s p) (4 * s) (corners (m .live)) (k .len) (λ i a b. k .low i (omega arith)) (r .rings);
         dead = λ i h o. k .low i (omega arith) ∙ r .dead i h o;
-        notes = λ u h. note-spared w w' s p u (record { same = k .low (notes-at s p + u) (omega arith); more = λ us i a b. k .low i b }) m (r .notes u h);
+        notes = λ u h. note-spared w w' s p u (record { same = k .low (notes-at s p + u) (omega arith); more = λ us i a b. k .low i (omega arith) }) m (r .notes u h);
+        even = λ h q. r .even h (sym (k .low (even-at s p) (omega arith)) ∙ q);
       }
 
   held-under : (x : Live) → Held w s s p x → Held w' s s p x
@@ -162,6 +164,27 @@ module _ (w w' : List ℕ) (s p : ℕ) (k : Under w w' (mesh-end s p)) where
   pub at-under : (u v c : ℕ) (xs : List Live) → At w s p u v c xs → At w' s p u v c xs
   at-under u v c xs a = record { rest = a .rest; sought = sought-under u v c (a .rest) (a .sought); are = a .are }
 
+-- it does where only the note of the components changed, and that is true
+pub rep-even : (w : List ℕ) (s p v : ℕ) (m : Mesh) → 1 ≤ s → (v ≡ 1 → NoneOdd m) → Rep w s p m → Rep (set w (even-at s p) v) s p m
+rep-even w s p v m h n r =
+    let w' = set w (even-at s p) v in
+    let u : Under w w' (even-at s p) = under-set w (even-at s p) (even-at s p) v (omega arith) in
+    record {
+      room = record { fits = omega (arith, u .len, r .room .fits); small = r .room .small };
+      used = r .used;
+      points = r .points;
+      distinct = r .distinct;
+      cells = cells-under w w' s (m .used) (length (m .points)) (m .live) (r .used) (under-less w w' (5 * s) (even-at s p) (omega arith) u) (r .cells);
+      rings = family-kept w w' (rings-at s) (codes s p) (4 * s) (corners (m .live)) (u .len) (λ i a b. u .low i (omega arith)) (r .rings);
+      dead = λ i l o. u .low i (omega arith) ∙ r .dead i l o;
+      notes = λ x l. note-spared w w' s p x (record { same = u .low (notes-at s p + x) (omega arith); more = λ us i a b. u .low i b }) m (r .notes x l);
+      even = λ l q. n (sym (on w (even-at s p) v (omega (arith, r .room .fits, h))) ∙ q);
+    }
+
+-- where the note says so, none is odd
+pub even-noted : (w : List ℕ) (s p : ℕ) (m : Mesh) (r : Bool) → 1 ≤ s → r ≡ eqb (getD w (even-at s p) 0) 1 → r ≡ true → Rep w s p m → NoneOdd m
+even-noted w s p m r h e t rep = rep .even h (eqb-true (getD w (even-at s p) 0) 1 (sym e ∙ t))
+
 -- the memory stands for another mesh with the same live cells, the same points and maybe more, and as many slots given out or more
 pub rep-as : (w : List ℕ) (s p : ℕ) (m m' : Mesh) → Rep w s p m → m .used ≤ m' .used → m' .used ≤ s → Grown m m' → length (m' .points) ≤ p → m .live ≡ m' .live → Rep w s p m'
 unfolding owners
@@ -175,4 +198,5 @@ rep-as w s p m m' r a b c d e =
       rings = subst (λ (l : List Live). Family w (rings-at s) (codes s p) (4 * s) (corners l)) e (r .rings);
       dead = λ i h o. r .dead i h (subst (λ (l : List Live). Out i (slots l)) (sym e) o);
       notes = λ u h. note-mesh m m' u (λ v q. ap (filter (owns (key u v))) (sym e)) c w s p (r .notes u h);
+      even = λ h q. subst (λ (l : List Live). odd-one (tris-of l) ≡ false) e (r .even h q);
     }

@@ -13,7 +13,7 @@ use Rattle.definition.specs.Lists.{filter, any, contains}
 use Rattle.definition.specs.Floats.{_≼_}
 use Rattle.definition.specs.Plane.{Node}
 use Rattle.definition.specs.Cells.{Live, Mesh, key, owns, owners, front-owners, is-front, has-edge, node-at}
-use Rattle.cells.specs.Layout.{notes-at, fronts-at, boxes-at, mesh-end}
+use Rattle.cells.specs.Layout.{notes-at, fronts-at, boxes-at, even-at}
 use Rattle.cells.specs.Notes.{note, ends, noted, bound, Fronts, Near, Box, NoteAt, IsNoted}
 
 -- nothing is noted
@@ -25,7 +25,7 @@ note-none w s p m u e = record { inside = λ h. absurd (omega arith); fronts = �
 -- the words that the note of u stands in are the same
 pub record Spared (w w' : List ℕ) (s p u : ℕ) : Type 0 where
   pub same : note w' s p u ≡ note w s p u
-  pub more : u < s → (i : ℕ) → fronts-at s p ≤ i → i < mesh-end s p → getD w' i 0 ≡ getD w i 0
+  pub more : u < s → (i : ℕ) → fronts-at s p ≤ i → i < even-at s p → getD w' i 0 ≡ getD w i 0
 
 ends-few : (k a b a' b' : ℕ) → k ≤ 1 → ends (k % 4) a' b' ≡ ends (k % 4) a b
 ends-few zero a b a' b' h = refl

@@ -40,19 +40,19 @@ fronts-at s p = 13 * s + 3 * p
 abbrev pub boxes-at : ℕ → ℕ → ℕ
 boxes-at s p = 15 * s + 3 * p
 
+-- a word that is 1 only where no component of the triangles is odd, with room for one of each slot
+abbrev pub even-at : ℕ → ℕ → ℕ
+even-at s p = 19 * s + 3 * p
+
 -- the end of the mesh's own areas
 abbrev pub mesh-end : ℕ → ℕ → ℕ
-mesh-end s p = 19 * s + 3 * p
+mesh-end s p = 20 * s + 3 * p
 
 -- ---- marks and lists
 
 -- a mark for each slot
 abbrev pub marks-at : ℕ → ℕ → ℕ
-marks-at s p = 19 * s + 3 * p
-
--- another
-abbrev pub others-at : ℕ → ℕ → ℕ
-others-at s p = 20 * s + 3 * p
+marks-at s p = 20 * s + 3 * p
 
 -- the region in hand: a list of slots
 abbrev pub list-at : ℕ → ℕ → ℕ
@@ -106,7 +106,7 @@ order-at s p = 46 * s + 5 * p
 abbrev pub starts-at : ℕ → ℕ → ℕ
 starts-at s p = 49 * s + 5 * p
 
--- the loop's turn is over
+-- the loops in the order of their turns
 abbrev pub done-at : ℕ → ℕ → ℕ
 done-at s p = 52 * s + 5 * p
 
@@ -168,7 +168,8 @@ abbrev pub areas : ℕ → ℕ → List Area
 areas s p =
     area (kinds-at s p) s ∷ area (nodes-at s) (4 * s) ∷ area (rings-at s) (codes s p + codes s p)
     ∷ area (notes-at s p) p ∷ area (fronts-at s p) (2 * s) ∷ area (boxes-at s p) (4 * s)
-    ∷ area (marks-at s p) s ∷ area (others-at s p) s ∷ area (list-at s p) s
+    ∷ area (even-at s p) s
+    ∷ area (marks-at s p) s ∷ area (list-at s p) s
     ∷ area (refused-at s p) (3 * s) ∷ area (birth-at s p) (3 * s) ∷ area (after-at s p) (3 * s) ∷ area (first-at s p) p ∷ area (touched-at s p) p
     ∷ area (front-u-at s p) (3 * s) ∷ area (front-v-at s p) (3 * s) ∷ area (front-links-at s p) (6 * s) ∷ area (front-used-at s p) (3 * s)
     ∷ area (order-at s p) (3 * s) ∷ area (starts-at s p) (3 * s) ∷ area (done-at s p) (3 * s) ∷ area (tried-at s p) (3 * s)

@@ -8,9 +8,10 @@ use lib.ListN.{length, getD}
 use lib.Ieee.{Float}
 use Rattle.rings.specs.Rings.{Out, Distinct, Below, Family, pick}
 use Rattle.definition.specs.Plane.{Node}
-use Rattle.definition.specs.Cells.{Tri, Quad, Cell, tri, quad, Live, Mesh, nodes, new-live}
+use Rattle.definition.specs.Cells.{Tri, Quad, Cell, tri, quad, Live, Mesh, nodes, new-live, tris-of}
+use Rattle.definition.specs.Components.{odd-one}
 use Rattle.definition.specs.Call.{first-points}
-use Rattle.cells.specs.Layout.{nodes-at, rings-at, codes}
+use Rattle.cells.specs.Layout.{nodes-at, rings-at, codes, even-at}
 use Rattle.cells.specs.Notes.{NoteAt}
 
 -- ---- a cell
@@ -69,8 +70,16 @@ pub record Room (w : List ℕ) (s p : ℕ) : Type 0 where
   pub fits : 64 * s + 8 * p ≤ length w
   pub small : codes s p ≤ 2 ^ 32
 
+-- nothing is noted of the components
+abbrev pub Uneven : List ℕ → ℕ → ℕ → Type 0
+Uneven w s p = getD w (even-at s p) 0 ≡ 0
+
+-- no component of the triangles is odd
+abbrev pub NoneOdd : Mesh → Type 0
+NoneOdd m = odd-one (tris-of (m .live)) ≡ false
+
 -- Live slots are distinct and were given out; each live cell is stored, its nodes distinct and among the points; the ring of v has its corners in the order
--- of the live cells; a slot that is not live has kind 0; every note is true.
+-- of the live cells; a slot that is not live has kind 0; every note is true, also that of the components.
 pub record Rep (w : List ℕ) (s p : ℕ) (m : Mesh) : Type 0 where
   pub room : Room w s p
   pub used : m .used ≤ s
@@ -80,6 +89,7 @@ pub record Rep (w : List ℕ) (s p : ℕ) (m : Mesh) : Type 0 where
   pub rings : Family w (rings-at s) (codes s p) (4 * s) (corners (m .live))
   pub dead : (i : ℕ) → i < s → Out i (slots (m .live)) → getD w i 0 ≡ 0
   pub notes : (u : ℕ) → u < p → NoteAt w s p m u
+  pub even : 1 ≤ s → getD w (even-at s p) 0 ≡ 1 → NoneOdd m
 
 -- slot i holds the triangle t
 pub record TriIn (m : Mesh) (i : ℕ) : Type 0 where

@@ -1,6 +1,6 @@
 // Where each area of the work slice stands, for s slots and p points of capacity; the mesh's own areas come first.
 ghost use mathlib.Core.Path.{_≡_};
-ghost use Rattle.cells.specs.Layout.{Sizes, notes-at, fronts-at, boxes-at, mesh-end, marks-at, others-at, list-at, refused-at, birth-at, after-at, first-at, touched-at, front-u-at, front-v-at, front-links-at, front-used-at, order-at, starts-at, done-at, tried-at, heads-at, near-at, far-at, stack-at};
+ghost use Rattle.cells.specs.Layout.{Sizes, notes-at, fronts-at, boxes-at, even-at, mesh-end, marks-at, list-at, refused-at, birth-at, after-at, first-at, touched-at, front-u-at, front-v-at, front-links-at, front-used-at, order-at, starts-at, done-at, tried-at, heads-at, near-at, far-at, stack-at};
 
 // Corners of a slot: corner k of slot i has the code CORNERS * i + k, and its node stands behind the kinds at that place.
 pub const CORNERS: usize = 4;
@@ -32,26 +32,26 @@ pub fn boxes_at(s: usize, p: usize) -> usize
     15 * s + 3 * p
 }
 
+// A word that is 1 only where no component of the triangles is odd.
+pub fn even_at(s: usize, p: usize) -> usize
+    requires { ⌜ Sizes s p ⌝ }
+    ensures { λ r. ⌜ r ≡ even-at s p ⌝ }
+{
+    19 * s + 3 * p
+}
+
 // The end of the mesh's own areas.
 pub fn mesh_end(s: usize, p: usize) -> usize
     requires { ⌜ Sizes s p ⌝ }
     ensures { λ r. ⌜ r ≡ mesh-end s p ⌝ }
 {
-    19 * s + 3 * p
+    20 * s + 3 * p
 }
 
 // A mark for each slot.
 pub fn marks_at(s: usize, p: usize) -> usize
     requires { ⌜ Sizes s p ⌝ }
     ensures { λ r. ⌜ r ≡ marks-at s p ⌝ }
-{
-    19 * s + 3 * p
-}
-
-// Another.
-pub fn others_at(s: usize, p: usize) -> usize
-    requires { ⌜ Sizes s p ⌝ }
-    ensures { λ r. ⌜ r ≡ others-at s p ⌝ }
 {
     20 * s + 3 * p
 }
@@ -152,7 +152,7 @@ pub fn starts_at(s: usize, p: usize) -> usize
     49 * s + 5 * p
 }
 
-// The loop's turn is over.
+// The loops in the order of their turns.
 pub fn done_at(s: usize, p: usize) -> usize
     requires { ⌜ Sizes s p ⌝ }
     ensures { λ r. ⌜ r ≡ done-at s p ⌝ }

@@ -2,7 +2,7 @@
 use mathlib.Core.Path.{_≡_, refl, ap, sym, _∙_, subst}
 use mathlib.Core.Bool.{Bool, true, false}
 use mathlib.Core.List.{List, [], _∷_, _++_, append-nil}
-use Prim.Native.Nat.{ℕ, zero, suc, _+_, _*_, _≤_, _<_}
+use Prim.Native.Nat.{ℕ, zero, suc, _+_, _-_, _*_, _≤_, _<_}
 use native.Mathlib.Numerals.{add-one}
 use native.Mathlib.Omega.{arith}
 use lib.ListN.{length, getD, set, take, drop, length-set, length-append}
@@ -65,6 +65,13 @@ grow-miss : (f : ℕ → Bool) (v : ℕ) → f v ≡ false → filter f (numbers
 unfolding filter
 grow-miss f v h = grow f v ∙ ap (λ (l : List ℕ). filter f (numbers 0 v) ++ l) (filter-miss f v [] h) ∙ append-nil (filter f (numbers 0 v))
 
+-- numbers from v on that are not chosen change nothing
+grow-none : (f : ℕ → Bool) (v d : ℕ) → ((u : ℕ) → v ≤ u → u < v + d → f u ≡ false) → filter f (numbers 0 (v + d)) ≡ filter f (numbers 0 v)
+grow-none f v zero h = let e : v + 0 ≡ v = omega arith in ap (λ (j : ℕ). filter f (numbers 0 j)) e
+grow-none f v (suc d) h =
+    let e : v + suc d ≡ v + d + 1 = omega arith in
+    ap (λ (j : ℕ). filter f (numbers 0 j)) e ∙ grow-miss f (v + d) (h (v + d) (omega arith) (omega arith)) ∙ grow-none f v d (λ u a b. h u a (omega arith))
+
 -- ---- the scan
 
 -- those chosen below v stand from b on
@@ -73,9 +80,20 @@ pub record Listing (w₀ w : List ℕ) (p b v r : ℕ) (f : ℕ → Bool) : Type
   pub stored : Stored w b (filter f (numbers 0 v))
   pub besides : Besides w₀ w b p
 
-pub listing-start : (w : List ℕ) (p b : ℕ) (f : ℕ → Bool) → Listing w w p b 0 0 f
+listing-start : (w : List ℕ) (p b : ℕ) (f : ℕ → Bool) → Listing w w p b 0 0 f
 unfolding filter numbers
 listing-start w p b f = record { len = refl; stored = tt; besides = record { len = refl; before = λ i h. refl; behind = λ i h. refl } }
+
+-- up to n, where none is chosen from v on
+listing-on : (w₀ w : List ℕ) (p b v r n : ℕ) (f : ℕ → Bool) → v ≤ n → ((u : ℕ) → v ≤ u → u < n → f u ≡ false) → Listing w₀ w p b v r f → Listing w₀ w p b n r f
+listing-on w₀ w p b v r n f h none g =
+    let e : v + (n - v) ≡ n = omega arith in
+    let z : filter f (numbers 0 n) ≡ filter f (numbers 0 v) = ap (λ (j : ℕ). filter f (numbers 0 j)) (sym e) ∙ grow-none f v (n - v) (λ u a c. none u a (omega (arith, c, e))) in
+    record { len = g .len ∙ sym (ap length z); stored = subst (Stored w b) (sym z) (g .stored); besides = g .besides }
+
+-- the scan starts at v, where none is chosen before
+pub listing-from : (w : List ℕ) (p b v : ℕ) (f : ℕ → Bool) → ((u : ℕ) → u < v → f u ≡ false) → Listing w w p b v 0 f
+listing-from w p b v f none = listing-on w w p b 0 0 v f (omega arith) (λ u a c. none u c) (listing-start w p b f)
 
 besides-set : (w₀ w : List ℕ) (p b r v : ℕ) → r < p → Besides w₀ w b p → Besides w₀ (set w (b + r) v) b p
 besides-set w₀ w p b r v h k =
@@ -109,11 +127,11 @@ module _ (w₀ w : List ℕ) (p b v r : ℕ) (f : ℕ → Bool) (g : Listing w�
   listing-more w' true k e a = subst (λ (x : List ℕ). Listing w₀ x p b (v + 1) k f) (sym (a .text)) (subst (λ (j : ℕ). Listing w₀ (set w (b + r) v) p b (v + 1) j f) (sym (a .count)) (listing-hit (sym e)))
   listing-more w' false k e a = subst (λ (x : List ℕ). Listing w₀ x p b (v + 1) k f) (sym (a .text)) (subst (λ (j : ℕ). Listing w₀ w p b (v + 1) j f) (sym (a .count)) (listing-miss (sym e)))
 
-pub listing-end : (w₀ w : List ℕ) (p n b v r : ℕ) (f : ℕ → Bool) → Listing w₀ w p b v r f → r ≤ v → v ≤ n → n ≤ v → ScannedTo w₀ w p n b r (filter f (below n))
+-- it ends at v, where none is chosen from there on
+pub listing-end : (w₀ w : List ℕ) (p n b v r : ℕ) (f : ℕ → Bool) → Listing w₀ w p b v r f → r ≤ v → v ≤ n → ((u : ℕ) → v ≤ u → f u ≡ false) → ScannedTo w₀ w p n b r (filter f (below n))
 unfolding below
-listing-end w₀ w p n b v r f g few h k =
-    let e : v ≡ n = omega arith in
-    let y = subst (λ (j : ℕ). Listing w₀ w p b j r f) e g in
+listing-end w₀ w p n b v r f g few h none =
+    let y = listing-on w₀ w p b v r n f h (λ u a c. none u a) g in
     record {
       len = y .len;
       few = omega arith;

@@ -1,4 +1,7 @@
 // The side nodes for an end of a front edge, ascending.
+mod spans;
+
+use crate::spans::span_for;
 use candidates::sides::SIDE_HIGH;
 use candidates::sides::ahead;
 use candidates::sides::side_candidate;
@@ -108,7 +111,7 @@ fn add(w: &mut [u32], b: usize, r: usize, v: usize, yes: bool) -> usize
     r
 }
 
-// The side nodes for a, with the region of k triangles in hand, ascending, come to b; how many they are.
+// The side nodes for a, with the region of k triangles in hand, ascending, come to b; how many they are. Only nodes of that region and nodes that have an edge with a can be such.
 fn scan(
     w: &mut [u32],
     q: &[f64],
@@ -127,9 +130,10 @@ fn scan(
     ensures { λ r. ⌜ ((m : Mesh) (region : List Live) → CanScan (now (w .entry)) (now (q .entry)) s p k n b a other m region → ScannedTo (now (w .entry)) (now (w .exit)) p n b r (filter (is-choice (turn left) m a other (vec normal) target region) (below n))) ⌝ }
 {
     let far = far_square(target);
+    let g = span_for(w, s, p, k, a);
     let mut r: usize = 0;
-    let mut v: usize = 0;
-    while v < n {
+    let mut v: usize = g.low;
+    while v <= g.high {
         let yes = is_choice(w, q, s, p, k, left, a, other, normal, target, far, v);
         r = add(w, b, r, v, yes);
         v += 1;

@@ -28,12 +28,12 @@ number-agree c d (x ∷ xs) h = elim (which (c x)) [
   | inr e ↦ rw (filter-no c x xs e, filter-no d x xs (sym (h x (inl refl)) ∙ e)) (number-agree c d xs (λ y i. h y (inr i)))
 ]
 
-number-none : {A : Type 0} (c : A → Bool) (xs : List A) → ((x : A) → In x xs → c x ≡ false) → number c xs ≡ 0
+pub number-none : {A : Type 0} (c : A → Bool) (xs : List A) → ((x : A) → In x xs → c x ≡ false) → number c xs ≡ 0
 unfolding filter
 number-none c [] h = refl
 number-none c (x ∷ xs) h = rw (filter-no c x xs (h x (inl refl))) (number-none c xs (λ y i. h y (inr i)))
 
-number-all : {A : Type 0} (xs : List A) → number (λ x. true) xs ≡ length xs
+pub number-all : {A : Type 0} (xs : List A) → number (λ x. true) xs ≡ length xs
 number-all xs = ap length (filter-all (λ x. true) xs (λ x i. refl))
 
 and-none : (a : Bool) → (a && false) ≡ false

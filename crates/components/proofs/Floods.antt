@@ -17,7 +17,7 @@ use Rattle.cells.proofs.Slots.{tri-in}
 use Rattle.regions.specs.Listing.{Stored, CanList, Aside}
 use Rattle.regions.proofs.Listings.{aside-refl, aside-trans}
 use Rattle.regions.proofs.Reaches.{appended}
-use Rattle.components.specs.Flood.{body, tri-live, Marked, Seen, Met, Beside, Whole, Flooded, Taken, nothing, component}
+use Rattle.components.specs.Flood.{body, tri-live, Marked, Seen, Met, Beside, Whole, Flooding, Flooded, Taken, nothing, component}
 use Rattle.components.proofs.Members.{in-has, has-in, parts-apart, tris-at, live-is}
 use Rattle.components.proofs.Grows.{few, can-list, fresh, known, kind, more, seen-can, seen-room, Grown, grown}
 
@@ -27,7 +27,7 @@ pub stored-at : (w : List ℕ) (b : ℕ) (done : List Live) (y : Live) (todo : L
 stored-at w b [] y todo h = let z : b + 0 ≡ b = omega arith in ap (λ (i : ℕ). getD w i 0) z ∙ h .0
 stored-at w b (x ∷ done) y todo h = let z : b + suc (length done) ≡ b + 1 + length done = omega arith in ap (λ (i : ℕ). getD w i 0) z ∙ stored-at w (b + 1) done y todo (h .1)
 
-pub tri-at : (m : Mesh) (j : ℕ) (y : Live) → In y (m .live) → live-tri y ≡ true → j ≡ y .slot → TriIn m j
+unfoldable pub tri-at : (m : Mesh) (j : ℕ) (y : Live) → In y (m .live) → live-tri y ≡ true → j ≡ y .slot → TriIn m j
 tri-at m j y i t e =
     let z : y ≡ tri-live j (body y) = live-is y t ∙ ap (λ (k : ℕ). tri-live k (body y)) (sym e) in
     record { t = body y; has = in-has (tri-live j (body y)) (m .live) (subst (λ (v : Live). In v (m .live)) z i) }
@@ -39,17 +39,7 @@ pub seen-tri : (w : List ℕ) (s p n i : ℕ) (m : Mesh) (xs : List Live) → Ma
 unfolding new-live
 seen-tri w s p n i m xs h t = record { state = h; live = tri-live-in m i t; slot = refl }
 
--- ---- so far
-
-pub record Flooding (w₀ w : List ℕ) (s p k head : ℕ) (m : Mesh) (xs : List Live) (x : Live) : Type 0 where
-  pub done : List Live
-  pub todo : List Live
-  pub state : Marked w s p k m (xs ++ (done ++ todo))
-  pub aside : Aside w₀ w s p
-  pub at : head ≡ length xs + length done
-  pub first : In x (done ++ todo)
-  pub linked : (c : Tri → Bool) → Whole c m xs → (y : Live) → In y (done ++ todo) → c (body y) ≡ c (body x)
-  pub closed : (y z : Live) → In y done → In z (m .live) → live-tri z ≡ true → Shares (body y) (body z) → In z (xs ++ (done ++ todo))
+-- ---- the flood
 
 pub flood-start : (w : List ℕ) (s p n : ℕ) (m : Mesh) (xs : List Live) (x : Live) → Marked w s p (n + 1) m (xs ++ x ∷ []) → Flooding w w s p (n + 1) n m xs x
 flood-start w s p n m xs x h =
@@ -144,7 +134,7 @@ module _ (w₀ w : List ℕ) (s p k head : ℕ) (m : Mesh) (xs : List Live) (x :
             slot = q ∙ ap (λ (v : ℕ). getD w (list-at s p + v) 0) e ∙ at;
           }
 
-  pub flood-end : Flooding w₀ w s p k head m xs x → k ≤ head → Flooded w₀ w s p k m xs x
+  unfoldable pub flood-end : Flooding w₀ w s p k head m xs x → k ≤ head → Flooded w₀ w s p k m xs x
   flood-end g l =
       record {
         new = g .done ++ g .todo;

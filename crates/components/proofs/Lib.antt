@@ -3,9 +3,12 @@ pub mod Grows
 pub mod Spots
 pub mod Meets
 pub mod Floods
+pub mod Looks
 pub mod Wipes
 pub mod Classes
 pub mod Sweeps
 pub mod Odds
+pub mod Beside
+pub mod Pieces
 pub mod Orders
 pub mod Sizings

@@ -25,7 +25,7 @@ use Rattle.components.proofs.Grows.{fresh, known, kind, grown}
 use Rattle.components.proofs.Spots.{Spot, spot, spot-end}
 
 -- nothing new is listed
-met-none : (w : List ℕ) (s p n : ℕ) (m : Mesh) (xs : List Live) (P : Live → Type 0) → Marked w s p n m xs → ((y : Live) → In y (m .live) → live-tri y ≡ true → P y → In y xs)
+pub met-none : (w : List ℕ) (s p n : ℕ) (m : Mesh) (xs : List Live) (P : Live → Type 0) → Marked w s p n m xs → ((y : Live) → In y (m .live) → live-tri y ≡ true → P y → In y xs)
     → Met w w s p n m xs P
 met-none w s p n m xs P h k =
     record {

@@ -10,7 +10,8 @@ use Rattle.definition.specs.Cells.{Tri, Live, Mesh}
 use Rattle.definition.specs.Components.{removing-leaves-odd-component}
 use Rattle.account.specs.Lists.{In, in-map}
 use Rattle.cells.specs.Layout.{list-at}
-use Rattle.cells.specs.Rep.{slots}
+use Rattle.cells.specs.Rep.{slots, here}
+use Rattle.cells.proofs.Slots.{rep-held}
 use Rattle.regions.specs.Listing.{Stored, Listed, Aside}
 use Rattle.regions.proofs.Listings.{aside-refl, aside-trans}
 use Rattle.components.specs.Flood.{body, Marked, Taken, nothing, component}
@@ -38,20 +39,23 @@ stored-left w b [] k h = tt
 stored-left w b (x ∷ l) k h = (h .0, stored-left w (b + 1) l k (h .1))
 
 -- the region is still listed
-pub still-listed : (w₀ w w' : List ℕ) (s p n k i : ℕ) (m : Mesh) (region : List Live) (ks : List (List Live)) → Listed w₀ s p n m region → Sweeping w w' s p k i m region ks
-    → Listed w' s p n m region
-still-listed w₀ w w' s p n k i m region ks h g =
+pub kept-listed : (w₀ w : List ℕ) (s p n k : ℕ) (m : Mesh) (region xs rest : List Live) → Listed w₀ s p n m region → Marked w s p k m xs → xs ≡ region ++ rest → Listed w s p n m region
+kept-listed w₀ w s p n k m region xs rest h g e =
     record {
-      rep = g .state .rep;
+      rep = g .rep;
       len = h .len;
       many = h .many;
       distinct = h .distinct;
       live = h .live;
       tris = h .tris;
-      stored = stored-left w' (list-at s p) region (joined ks) (g .state .stored);
+      stored = stored-left w (list-at s p) region rest (subst (λ (l : List Live). Stored w (list-at s p) (slots l)) e (g .stored));
     }
 
-one-odd : (n : ℕ) → n % 2 ≢ 0 → n % 2 ≡ 1
+pub still-listed : (w₀ w w' : List ℕ) (s p n k i : ℕ) (m : Mesh) (region : List Live) (ks : List (List Live)) → Listed w₀ s p n m region → Sweeping w w' s p k i m region ks
+    → Listed w' s p n m region
+still-listed w₀ w w' s p n k i m region ks h g = kept-listed w₀ w' s p n k m region (region ++ joined ks) (joined ks) h (g .state) refl
+
+pub one-odd : (n : ℕ) → n % 2 ≢ 0 → n % 2 ≡ 1
 one-odd n h = let f : n % 2 ≢ 0 = h in omega arith
 
 module _ (w₀ w : List ℕ) (s p k i : ℕ) (m : Mesh) (region : List Live) (g : Evens w₀ w s p k i m region) where
@@ -102,3 +106,10 @@ module _ (w₀ w : List ℕ) (s p k i : ℕ) (m : Mesh) (region : List Live) (g 
         list = still-listed w1 w₀ w s p n k i m region (g .pieces) l (g .sweep);
         aside = aside-trans w1 w₀ w s p a (g .sweep .aside);
       }
+
+-- ---- where it is noted that none is odd
+
+-- a listed cell has a slot
+pub listed-slot : (w : List ℕ) (s p n : ℕ) (m : Mesh) (xs : List Live) → Listed w s p n m xs → 1 ≤ s
+listed-slot w s p n m [] h = absurd (omega (arith, h .many, h .len))
+listed-slot w s p n m (x ∷ xs) h = omega (arith, rep-held w s p m (h .rep) (h .live x here) .inside, h .rep .used)

@@ -68,7 +68,7 @@ module _ (w₀ w : List ℕ) (s p n i : ℕ) (m : Mesh) (region : List Live) (ks
         past = λ y l t b. elim (ℕ-discrete (y .slot) i) [ yes e ↦ f y l t e | no e ↦ g .past y l t (omega arith) ];
       }
 
-  module _ (w' : List ℕ) (r : ℕ) (x : Live) (e : x .slot ≡ i) (f : Flooded w w' s p r m (region ++ joined ks) x) where
+  module _ (w' : List ℕ) (r : ℕ) (x : Live) (f : Flooded w w' s p r m (region ++ joined ks) x) where
     sweep-parts : (region ++ joined ks) ++ f .new ≡ region ++ (joined ks ++ f .new)
     sweep-parts = append-assoc region (joined ks) (f .new)
 
@@ -78,7 +78,7 @@ module _ (w₀ w : List ℕ) (s p n i : ℕ) (m : Mesh) (region : List Live) (ks
     new-live-in : (y : Live) → In y (f .new) → In y (m .live) × (live-tri y ≡ true)
     new-live-in y a = (f .state .live y (in-right y (region ++ joined ks) (f .new) a), tris-at ((region ++ joined ks) ++ f .new) (f .state .tris) y (in-right y (region ++ joined ks) (f .new) a))
 
-    new-piece : Piece m region (f .new)
+    pub new-piece : Piece m region (f .new)
     new-piece =
         record {
           first = x;
@@ -100,15 +100,16 @@ module _ (w₀ w : List ℕ) (s p n i : ℕ) (m : Mesh) (region : List Live) (ks
           ];
         }
 
+  module _ (w' : List ℕ) (r : ℕ) (x : Live) (e : x .slot ≡ i) (f : Flooded w w' s p r m (region ++ joined ks) x) where
     pub sweep-new : Sweeping w₀ w' s p r (i + 1) m region (f .new ∷ ks)
     sweep-new =
         record {
-          state = subst (λ (l : List Live). Marked w' s p r m l) sweep-parts (f .state);
+          state = subst (λ (l : List Live). Marked w' s p r m l) (sweep-parts w' r x f) (f .state);
           aside = aside-trans w₀ w w' s p (g .aside) (f .aside);
-          pieces = λ k a. elim a [ inl q ↦ subst (λ (v : List Live). Piece m region v) (sym q) new-piece | inr b ↦ g .pieces k b ];
-          past = λ y l t b. subst (λ (v : List Live). In y v) sweep-parts (elim (ℕ-discrete (y .slot) i) [
+          pieces = λ k a. elim a [ inl q ↦ subst (λ (v : List Live). Piece m region v) (sym q) (new-piece w' r x f) | inr b ↦ g .pieces k b ];
+          past = λ y l t b. subst (λ (v : List Live). In y v) (sweep-parts w' r x f) (elim (ℕ-discrete (y .slot) i) [
             | yes q ↦
-                let z : x ≡ y = same-slot (m .live) x y (g .state .rep .distinct) (new-live-in x (f .first) .0) l (e ∙ sym q) in
+                let z : x ≡ y = same-slot (m .live) x y (g .state .rep .distinct) (new-live-in w' r x f x (f .first) .0) l (e ∙ sym q) in
                 in-right y (region ++ joined ks) (f .new) (subst (λ (v : Live). In v (f .new)) z (f .first))
             | no q ↦ in-left y (region ++ joined ks) (f .new) (g .past y l t (omega arith))
           ]);
@@ -120,7 +121,7 @@ module _ (w₀ w : List ℕ) (s p n i : ℕ) (m : Mesh) (region : List Live) (ks
 
 -- ---- counting live cells
 
-number-map : {A B : Type 0} (f : A → B) (c : B → Bool) (l : List A) → number c (map f l) ≡ number (λ x. c (f x)) l
+pub number-map : {A B : Type 0} (f : A → B) (c : B → Bool) (l : List A) → number c (map f l) ≡ number (λ x. c (f x)) l
 unfolding filter
 number-map f c [] = refl
 number-map f c (x ∷ l) = elim (which (c (f x))) [
@@ -144,7 +145,7 @@ same-number a b l k d e f g =
     let y = no-more (filter b k) (filter a l) (different b k e) (λ y i. let r = in-filter b k i in let q = g y (r .0) (r .1) in filter-in a l (q .0) (q .1)) in
     omega arith
 
-distinct-left : (l k : List Live) → Distinct (slots (l ++ k)) → Distinct (slots l)
+pub distinct-left : (l k : List Live) → Distinct (slots (l ++ k)) → Distinct (slots l)
 distinct-left [] k d = tt
 distinct-left (x ∷ l) k d = (out-from (x .slot) l (λ y i q. out-not (x .slot) y (l ++ k) (d .0) (in-left y l k i) q), distinct-left l k (d .1))
 
@@ -152,7 +153,7 @@ distinct-right : (l k : List Live) → Distinct (slots (l ++ k)) → Distinct (s
 distinct-right [] k d = d
 distinct-right (x ∷ l) k d = distinct-right l k (d .1)
 
-distinct-filter : (c : Live → Bool) (l : List Live) → Distinct (slots l) → Distinct (slots (filter c l))
+pub distinct-filter : (c : Live → Bool) (l : List Live) → Distinct (slots l) → Distinct (slots (filter c l))
 unfolding filter
 distinct-filter c [] d = tt
 distinct-filter c (x ∷ l) d = elim (which (c x)) [
@@ -162,7 +163,7 @@ distinct-filter c (x ∷ l) d = elim (which (c x)) [
 
 -- ---- the triangles that are left
 
-tris-body : (l : List Live) → tris-of l ≡ map body (filter live-tri l)
+pub tris-body : (l : List Live) → tris-of l ≡ map body (filter live-tri l)
 unfolding tris-of flat-map filter live-tri is-tri tri-of new-live
 tris-body [] = refl
 tris-body (x ∷ l) = go (x .cell) (tris-body l)
@@ -181,14 +182,14 @@ map-length f [] = refl
 map-length f (x ∷ l) = ap suc (map-length f l)
 
 -- the live cells that are left
-pub left-over : Mesh → List Live → List Live
+unfoldable pub left-over : Mesh → List Live → List Live
 left-over m region = filter live-tri (without-all region (m .live))
 
 -- their triangles
 abbrev pub left-tris : Mesh → List Live → List Tri
 left-tris m region = tris-of (without-all region (m .live))
 
-over-distinct : (m : Mesh) (region : List Live) → Distinct (slots (m .live)) → Distinct (slots (left-over m region))
+pub over-distinct : (m : Mesh) (region : List Live) → Distinct (slots (m .live)) → Distinct (slots (left-over m region))
 unfolding left-over without-all
 over-distinct m region d = distinct-filter live-tri (filter (λ x. not (among region x)) (m .live)) (distinct-filter (λ x. not (among region x)) (m .live) d)
 
@@ -205,37 +206,50 @@ number-joined c (k ∷ ks) =
     let b = number-append (λ y. c (body y)) (joined ks) k in
     let e = number-map body c k in omega arith
 
-module _ (w : List ℕ) (s p n : ℕ) (m : Mesh) (region : List Live) (ks : List (List Live)) (state : Marked w s p n m (region ++ joined ks))
-    (pieces : (k : List Live) → In k ks → Piece m region k) where
-  gone-among : (y : Live) → In y region → among region y ≡ true
-  unfolding among in-slot
-  gone-among y i = in-any (in-slot (y .slot)) region (y, i, eq-eqb (y .slot) (y .slot) refl)
-
-  among-gone : (y : Live) → In y (m .live) → among region y ≡ true → In y region
+-- of live cells xs: each is among them or left
+module _ (m : Mesh) (d : Distinct (slots (m .live))) (xs : List Live) (h : (y : Live) → In y xs → In y (m .live)) where
+  among-gone : (y : Live) → In y (m .live) → among xs y ≡ true → In y xs
   unfolding among
   among-gone y l e =
-      let r = any-has (y .slot) region e in
-      subst (λ (v : Live). In v region) (same-slot (m .live) (r .0) y (state .rep .distinct) (state .live (r .0) (in-left (r .0) region (joined ks) (r .1))) l (r .2)) (r .1)
+      let r = any-has (y .slot) xs e in
+      subst (λ (v : Live). In v xs) (same-slot (m .live) (r .0) y d (h (r .0) (r .1)) l (r .2)) (r .1)
+
+  pub gone-or-left : (y : Live) → In y (m .live) → live-tri y ≡ true → In y xs ⊎ In y (left-over m xs)
+  unfolding left-over without-all
+  gone-or-left y l t = elim (which (among xs y)) [
+    | inl e ↦ inl (among-gone y l e)
+    | inr e ↦ inr (filter-in live-tri (filter (λ x. not (among xs x)) (m .live)) (filter-in (λ x. not (among xs x)) (m .live) l (rw e refl)) t)
+  ]
+
+  pub in-left-over : (y : Live) → In y (m .live) → live-tri y ≡ true → (In y xs → ⊥) → In y (left-over m xs)
+  in-left-over y l t o = elim (gone-or-left y l t) [ inl i ↦ absurd (o i) | inr i ↦ i ]
+
+  pub left-over-in : (y : Live) → In y (left-over m xs) → In y (m .live) × (live-tri y ≡ true) × (In y xs → ⊥)
+  unfolding left-over without-all among in-slot
+  left-over-in y i =
+      let a = in-filter live-tri (filter (λ x. not (among xs x)) (m .live)) i in
+      let b = in-filter (λ x. not (among xs x)) (m .live) (a .0) in
+      (b .0, a .1, λ r. never (among xs y) (in-any (in-slot (y .slot)) xs (y, r, eq-eqb (y .slot) (y .slot) refl)) (not-true (among xs y) (b .1)))
+
+-- their triangles
+pub over-tri : (m : Mesh) (xs : List Live) (y : Live) → In y (left-over m xs) → In (body y) (left-tris m xs)
+unfolding left-over
+over-tri m xs y i = rw (tris-body (without-all xs (m .live))) (map-in body y (left-over m xs) i)
+
+pub tri-over : (m : Mesh) (xs : List Live) (t : Tri) → In t (left-tris m xs) → (y : Live) × In y (left-over m xs) × (t ≡ body y)
+unfolding left-over
+tri-over m xs t i = in-map body t (left-over m xs) (rw (tris-body (without-all xs (m .live))) at i)
+
+module _ (w : List ℕ) (s p n : ℕ) (m : Mesh) (region : List Live) (ks : List (List Live)) (state : Marked w s p n m (region ++ joined ks))
+    (pieces : (k : List Live) → In k ks → Piece m region k) where
+  region-live : (y : Live) → In y region → In y (m .live)
+  region-live y i = state .live y (in-left y region (joined ks) i)
 
   in-over : (y : Live) → In y (m .live) → live-tri y ≡ true → (In y region → ⊥) → In y (left-over m region)
-  unfolding left-over without-all
-  in-over y l t o = filter-in live-tri (filter (λ x. not (among region x)) (m .live))
-      (filter-in (λ x. not (among region x)) (m .live) l (elim (which (among region y)) [ inl e ↦ absurd (o (among-gone y l e)) | inr e ↦ rw e refl ])) t
+  in-over = in-left-over m (state .rep .distinct) region region-live
 
   over-in : (y : Live) → In y (left-over m region) → In y (m .live) × (live-tri y ≡ true) × (In y region → ⊥)
-  unfolding left-over without-all
-  over-in y i =
-      let a = in-filter live-tri (filter (λ x. not (among region x)) (m .live)) i in
-      let b = in-filter (λ x. not (among region x)) (m .live) (a .0) in
-      (b .0, a .1, λ r. never (among region y) (gone-among y r) (not-true (among region y) (b .1)))
-
-  over-tri : (y : Live) → In y (left-over m region) → In (body y) (left-tris m region)
-  unfolding left-over
-  over-tri y i = rw (tris-body (without-all region (m .live))) (map-in body y (left-over m region) i)
-
-  tri-over : (t : Tri) → In t (left-tris m region) → (y : Live) × In y (left-over m region) × (t ≡ body y)
-  unfolding left-over
-  tri-over t i = in-map body t (left-over m region) (rw (tris-body (without-all region (m .live))) at i)
+  over-in = left-over-in m (state .rep .distinct) region region-live
 
   piece-over : (k : List Live) (y : Live) → In k ks → In y k → In y (left-over m region)
   piece-over k y i j =
@@ -245,7 +259,7 @@ module _ (w : List ℕ) (s p n : ℕ) (m : Mesh) (region : List Live) (ks : List
 
   pub left-distinct : All-distinct (left-tris m region)
   left-distinct t i =
-      let r = tri-over t i in
+      let r = tri-over m region t i in
       let o = over-in (r .0) (r .1) in
       rw (r .2) (body-three w s p m (state .rep) (r .0) (o .0) (o .1))
 
@@ -278,15 +292,15 @@ module _ (w : List ℕ) (s p n : ℕ) (m : Mesh) (region : List Live) (ks : List
         record {
           some = body (pieces k i .first);
           has = map-in body (pieces k i .first) k (pieces k i .has);
-          inside = λ t j. let r = in-map body t k j in rw (r .2) (over-tri (r .0) (piece-over k (r .0) i (r .1)));
+          inside = λ t j. let r = in-map body t k j in rw (r .2) (over-tri m region (r .0) (piece-over k (r .0) i (r .1)));
           solid = λ c h a b x y.
               let u = in-map body a k x in
               let v = in-map body b k y in
-              let whole : Whole c m region = λ y z l1 l2 t1 t2 o1 o2 q. h (body y) (body z) (over-tri y (in-over y l1 t1 o1)) (over-tri z (in-over z l2 t2 o2)) q in
+              let whole : Whole c m region = λ y z l1 l2 t1 t2 o1 o2 q. h (body y) (body z) (over-tri m region y (in-over y l1 t1 o1)) (over-tri m region z (in-over z l2 t2 o2)) q in
               ap c (u .2) ∙ pieces k i .linked c whole (u .0) (v .0) (u .1) (v .1) ∙ sym (ap c (v .2));
           closed = λ a b x y q.
-              let u = tri-over a x in
-              let v = tri-over b y in
+              let u = tri-over m region a x in
+              let v = tri-over m region b y in
               let g : Shares (body (u .0)) (body (v .0)) = subst (λ (z : Tri). Shares z (body (v .0))) (u .2) (subst (λ (z : Tri). Shares a z) (v .2) q) in
               ap (λ (z : Tri). meets z (map body k)) (u .2)
               ∙ bool-same (meets (body (u .0)) (map body k)) (meets (body (v .0)) (map body k)) (pass (u .0) (v .0) (u .1) (v .1) g) (pass (v .0) (u .0) (v .1) (u .1) (turned g))

@@ -12,7 +12,7 @@ use Rattle.rings.proofs.Rings.{on, off}
 use Rattle.definition.specs.Lists.{any}
 use Rattle.definition.specs.Cells.{Live, Mesh, live-tri}
 use Rattle.account.specs.Lists.{In, in-right}
-use Rattle.cells.specs.Layout.{marks-at, others-at, list-at, refused-at}
+use Rattle.cells.specs.Layout.{marks-at, list-at, refused-at}
 use Rattle.cells.specs.Rep.{slots, Rep}
 use Rattle.cells.specs.Frames.{Under, Keeps}
 use Rattle.cells.proofs.Frames.{under-refl, under-trans, keeps-refl, keeps-trans, keeps-more, rep-under}
@@ -30,12 +30,12 @@ pub record Wiping (w₀ w : List ℕ) (s p i : ℕ) : Type 0 where
   pub room : CanMark w s p
   pub within : i ≤ s
   pub under : Under w₀ w (marks-at s p)
-  pub keeps : Keeps w₀ w (others-at s p)
+  pub keeps : Keeps w₀ w (list-at s p)
   pub marks : (k : ℕ) → k < i → getD w (marks-at s p + k) 0 ≡ 0
 
 pub wipe-start : (w : List ℕ) (s p : ℕ) → CanMark w s p → Wiping w w s p 0
 wipe-start w s p h =
-    record { room = h; within = omega arith; under = under-refl w (marks-at s p); keeps = keeps-refl w (others-at s p); marks = λ k l. absurd (omega (arith, l)) }
+    record { room = h; within = omega arith; under = under-refl w (marks-at s p); keeps = keeps-refl w (list-at s p); marks = λ k l. absurd (omega (arith, l)) }
 
 module _ (w₀ w : List ℕ) (s p i : ℕ) (h : Wiping w₀ w s p i) where
   pub wipe-more : i < s → Wiping w₀ (set w (marks-at s p + i) 0) s p (i + 1)
@@ -44,7 +44,7 @@ module _ (w₀ w : List ℕ) (s p i : ℕ) (h : Wiping w₀ w s p i) where
         room = record { fits = rw (length-set w (marks-at s p + i) 0) (h .room .fits); small = h .room .small };
         within = omega arith;
         under = under-trans w₀ w w' (marks-at s p) (h .under) (record { len = simp length-set; low = λ k q. off w (marks-at s p + i) 0 k (λ e. omega arith) });
-        keeps = keeps-trans w₀ w w' (others-at s p) (h .keeps) (record { len = simp length-set; high = λ k q. off w (marks-at s p + i) 0 k (λ e. omega (arith, l)) });
+        keeps = keeps-trans w₀ w w' (list-at s p) (h .keeps) (record { len = simp length-set; high = λ k q. off w (marks-at s p + i) 0 k (λ e. omega (arith, l)) });
         marks = λ k q. go k q (decide k i);
       }
     where
@@ -60,7 +60,7 @@ module _ (w₀ w : List ℕ) (s p i : ℕ) (h : Wiping w₀ w s p i) where
 
 module _ (w₀ w : List ℕ) (s p : ℕ) (h : Wiped w₀ w s p) where
   pub wiped-aside : Aside w₀ w s p
-  wiped-aside = record { under = h .under; keeps = keeps-more w₀ w (others-at s p) (refused-at s p) (omega arith) (h .keeps) }
+  wiped-aside = record { under = h .under; keeps = keeps-more w₀ w (list-at s p) (refused-at s p) (omega arith) (h .keeps) }
 
   -- nothing listed, nothing marked
   pub wiped-none : (m : Mesh) → Rep w₀ s p m → Marked w s p 0 m []

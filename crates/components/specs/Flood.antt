@@ -10,7 +10,7 @@ use Rattle.definition.specs.Lists.{any}
 use Rattle.definition.specs.Cells.{Tri, Cell, tri, quad, Live, Mesh, new-tri, new-live, live-tri, in-slot}
 use Rattle.account.specs.Lists.{In}
 use Rattle.account.specs.Triangles.{Has as Corner, Shares}
-use Rattle.cells.specs.Layout.{marks-at, others-at, list-at}
+use Rattle.cells.specs.Layout.{marks-at, list-at}
 use Rattle.cells.specs.Rep.{Rep, slots}
 use Rattle.cells.specs.Frames.{Under, Keeps}
 use Rattle.regions.specs.Listing.{Stored, Tris, Aside}
@@ -65,7 +65,7 @@ pub record Seen (w : List ℕ) (s p n j : ℕ) (m : Mesh) (xs : List Live) (x : 
 -- no slot is marked, and nothing else changed
 pub record Wiped (w w' : List ℕ) (s p : ℕ) : Type 0 where
   pub under : Under w w' (marks-at s p)
-  pub keeps : Keeps w w' (others-at s p)
+  pub keeps : Keeps w w' (list-at s p)
   pub marks : (i : ℕ) → i < s → getD w' (marks-at s p + i) 0 ≡ 0
 
 -- the cells listed are marked too
@@ -86,6 +86,17 @@ abbrev pub Whole : (Tri → Bool) → Mesh → List Live → Type 0
 Whole c m xs =
     (y z : Live) → In y (m .live) → In z (m .live) → live-tri y ≡ true → live-tri z ≡ true → (In y xs → ⊥) → (In z xs → ⊥) → Shares (body y) (body z)
     → c (body y) ≡ c (body z)
+
+-- a flood from x with xs listed, up to place `head` of the list: done are those whose edges were crossed, todo those still to come
+pub record Flooding (w₀ w : List ℕ) (s p k head : ℕ) (m : Mesh) (xs : List Live) (x : Live) : Type 0 where
+  pub done : List Live
+  pub todo : List Live
+  pub state : Marked w s p k m (xs ++ (done ++ todo))
+  pub aside : Aside w₀ w s p
+  pub at : head ≡ length xs + length done
+  pub first : In x (done ++ todo)
+  pub linked : (c : Tri → Bool) → Whole c m xs → (y : Live) → In y (done ++ todo) → c (body y) ≡ c (body x)
+  pub closed : (y z : Live) → In y done → In z (m .live) → live-tri z ≡ true → Shares (body y) (body z) → In z (xs ++ (done ++ todo))
 
 -- with xs listed, the triangles that shared edges lead to from x are listed behind them
 pub record Flooded (w w' : List ℕ) (s p r : ℕ) (m : Mesh) (xs : List Live) (x : Live) : Type 0 where

@@ -1,3 +1,4 @@
 pub mod Flood
+pub mod Near
 pub mod Odd
 pub mod Sizes

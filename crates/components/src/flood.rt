@@ -32,7 +32,7 @@ fn has(w: &[u32], s: usize, i: usize, v: u32) -> bool
 }
 
 // It has y or z.
-fn has_one(w: &[u32], s: usize, i: usize, y: u32, z: u32) -> bool
+pub fn has_one(w: &[u32], s: usize, i: usize, y: u32, z: u32) -> bool
     requires { ⌜ CanSee (now w) s i ⌝ }
     ensures { λ r. ⌜ ((t : Tri) → CellAt (now (w .entry)) s i (tri t) → r ≡ (tri-has t y || tri-has t z)) ⌝ }
 {
@@ -76,7 +76,7 @@ fn meet_two(w: &mut [u32], s: usize, p: usize, n: usize, x: usize, y: u32, z: u3
 }
 
 // The triangles that share an edge with the one in slot i are met: those at its first node, then those at the second that have the third.
-fn meet_tri(w: &mut [u32], s: usize, p: usize, n: usize, i: usize) -> usize
+pub fn meet_tri(w: &mut [u32], s: usize, p: usize, n: usize, i: usize) -> usize
     requires { ⌜ ((m : Mesh) × (xs : List Live) × Marked (now w) s p n m xs × TriIn m i) ⌝ }
     ensures { λ r. ⌜ ((m : Mesh) (xs : List Live) → Marked (now (w .entry)) s p n m xs → (t : TriIn m i) → Met (now (w .entry)) (now (w .exit)) s p r m xs (Beside (t .t))) ⌝ }
 {

@@ -1,5 +1,6 @@
 // The components of the live triangles.
 pub mod flood;
 pub mod marks;
+pub mod near;
 pub mod odd;
 pub mod sizes;

@@ -14,7 +14,7 @@ use Rattle.rings.proofs.Rings.{on, off}
 use Rattle.rings.proofs.Families.{family-kept}
 use Rattle.definition.specs.Floats.{_≼_}
 use Rattle.definition.specs.Cells.{Mesh, node-at}
-use Rattle.cells.specs.Layout.{rings-at, codes, notes-at, fronts-at, boxes-at, mesh-end}
+use Rattle.cells.specs.Layout.{rings-at, codes, notes-at, fronts-at, boxes-at, even-at, mesh-end}
 use Rattle.cells.specs.Notes.{note, ends, noted, bound, Fronts, Near, Box, NoteAt}
 use Rattle.cells.specs.Rep.{Rep, corners}
 use Rattle.cells.specs.Frames.{Under, Keeps}
@@ -177,6 +177,7 @@ module _ (w : List ℕ) (s p a l r b t : ℕ) (c : CanNote w s p a) where
         rings = family-kept w w5 (rings-at s) (codes s p) (4 * s) (corners (m .live)) noted-length (λ i f g. before .low i (omega arith)) (h .rings);
         dead = λ i f g. before .low i (omega arith) ∙ h .dead i f g;
         notes = λ u f. go u f (decide u a);
+        even = λ f g. h .even f (sym (elsewhere (even-at s p) (omega (arith, c .point)) (λ j l. omega (arith, c .slot, l))) ∙ g);
       }
     where
       go : (u : ℕ) → u < p → Same u a → NoteAt w5 s p m u

@@ -11,7 +11,7 @@ use Rattle.definition.specs.Floats.{0·0}
 use Rattle.definition.specs.Plane.{Node, Edge}
 use Rattle.definition.specs.Cells.{has-edge-in}
 use Rattle.definition.specs.Loops.{loop-perimeter}
-use Rattle.cells.specs.Layout.{front-u-at, front-v-at, order-at, starts-at, done-at, tried-at, perimeters-at}
+use Rattle.cells.specs.Layout.{front-u-at, front-v-at, order-at, starts-at, tried-at, perimeters-at}
 
 -- ---- edges
 
@@ -47,13 +47,13 @@ LoopsAt w s p j b [] = Unit {0}
 LoopsAt w s p j b (l ∷ ls) =
     (getD w (starts-at s p + j) 0 ≡ b) × (edges-on w s p b (length l) ≡ l) × (1 ≤ length l) × LoopsAt w s p (suc j) (b + length l) ls
 
--- the r loops of the front's k edges, over n nodes
+-- r loops of k edges of the front, over n nodes
 pub record LoopList (w : List ℕ) (s p n k r : ℕ) (ls : List (List Edge)) : Type 0 where
   pub len : length ls ≡ r
   pub total : length (concat ls) ≡ k
   pub few : k ≤ 3 * s
   pub edges : Edges n (concat ls)
-  pub places : (i : ℕ) → i < k → getD w (order-at s p + i) 0 < k
+  pub places : (i : ℕ) → i < k → getD w (order-at s p + i) 0 < 3 * s
   pub at : LoopsAt w s p 0 0 ls
 
 -- the perimeters of the loops ls, from loop j on
@@ -67,8 +67,3 @@ Perimeters f s p ps j (l ∷ ls) = (getD f (perimeters-at s p + j) 0·0 ≡ loop
 abbrev pub waiting : List ℕ → ℕ → ℕ → ℕ → ℕ → List Edge
 waiting w s p b zero = []
 waiting w s p b (suc n) = let rest = waiting w s p (suc b) n in cond (eqb (getD w (tried-at s p + b) 0) 0) (edge-on w s p b ∷ rest) rest
-
--- of the loops ls, from loop j on, those whose turn is not over
-abbrev pub pending : List ℕ → ℕ → ℕ → ℕ → List (List Edge) → List (List Edge)
-pending w s p j [] = []
-pending w s p j (l ∷ ls) = let rest = pending w s p (suc j) ls in cond (eqb (getD w (done-at s p + j) 0) 0) (l ∷ rest) rest

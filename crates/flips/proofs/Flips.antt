@@ -3,7 +3,7 @@ use mathlib.Core.Path.{_≡_, refl, ap, sym, _∙_, subst}
 use mathlib.Core.Logic.{_≢_}
 use mathlib.Core.Bool.{Bool, true, false, not, _&&_, false≢true}
 use mathlib.Core.List.{List, [], _∷_}
-use mathlib.Core.Option.{none}
+use mathlib.Core.Option.{none, some}
 use Prim.Native.Nat.{ℕ, _-_, _*_, _/_, _≤_, _<_}
 use native.Mathlib.Omega.{arith}
 use lib.Dec.{eqb}
@@ -197,22 +197,25 @@ module _ (w : List ℕ) (s p : ℕ) (m : Mesh) (u v i j x y : ℕ) (t : Tri) whe
 
 -- ---- the flip
 
-module _ (s p : ℕ) (m : Mesh) (u v i j : ℕ) (up : u < v) (t : TwinsAt m u v i j) where
+module _ (m : Mesh) (u v i j : ℕ) (up : u < v) (t : TwinsAt m u v i j) where
   flip-two : flip m (key u v) ≡ flip-tris m (u, v) i (t .s) j (t .t)
   unfolding flip flip-owners flip-cells new-live
   flip-two = (rw (t .own)) ∙ ap (λ (e : Edge). flip-tris m e i (t .s) j (t .t)) (key-up u v up)
 
-  module _ (x y : ℕ) (ex : x ≡ third (t .s) (u, v)) (ey : y ≡ third (t .t) (u, v)) (r : Bool) (e : r ≡ convex-pair m u v x y) (w : List ℕ) where
-    pub flip-flat : r ≡ false → Rep w s p m → FlipTo w s p m (flip m (key u v)) false
+  module _ (x y : ℕ) (ex : x ≡ third (t .s) (u, v)) (ey : y ≡ third (t .t) (u, v)) (r : Bool) (e : r ≡ convex-pair m u v x y) where
+    pub flip-flat : r ≡ false → flip m (key u v) ≡ none
     unfolding flip-tris
-    flip-flat h k = rw (flip-two, ← ex, ← ey, ← e, h) ((refl, k))
+    flip-flat h = rw (flip-two, ← ex, ← ey, ← e, h)
 
-    pub flip-done : r ≡ true → (o : Tri) → o ≡ t .s → Rep w s p (flipped m (u, v) i o j x y) → FlipTo w s p m (flip m (key u v)) true
+    pub flip-turned : r ≡ true → (o : Tri) → o ≡ t .s → flip m (key u v) ≡ some (flipped m (u, v) i o j x y)
     unfolding flip-tris
-    flip-done h o q k = rw (flip-two, ← ex, ← ey, ← e, h) ((refl, subst (λ (z : Tri). Rep w s p (flipped m (u, v) i z j x y)) q k))
+    flip-turned h o q = rw (flip-two, ← ex, ← ey, ← e, h) (ap (λ (z : Tri). some (flipped m (u, v) i z j x y)) (sym q))
 
 pub flip-none : (w : List ℕ) (s p : ℕ) (m : Mesh) (u v : ℕ) → flip m (key u v) ≡ none → Rep w s p m → FlipTo w s p m (flip m (key u v)) false
 flip-none w s p m u v h r = rw h ((refl, r))
+
+pub flip-some : (w : List ℕ) (s p : ℕ) (m m' : Mesh) (u v : ℕ) → flip m (key u v) ≡ some m' → Rep w s p m' → FlipTo w s p m (flip m (key u v)) true
+flip-some w s p m m' u v h r = rw h ((refl, r))
 
 pub can-turn : (m : Mesh) (u v i j x y : ℕ) → i < m .used → j < m .used → Third (length (m .points)) u v x → Third (length (m .points)) u v y → x ≢ y
     → CanTurn m u v i j x y

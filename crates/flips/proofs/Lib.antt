@@ -1,3 +1,4 @@
 pub mod Flips
+pub mod Evens
 pub mod Splits
 pub mod Recovers

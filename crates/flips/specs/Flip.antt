@@ -7,10 +7,11 @@ use Prim.Native.Nat.{ℕ, _<_}
 use lib.ListN.{length, getD}
 use lib.Ieee.{Float}
 use Rattle.definition.specs.Cells.{Tri, tri, Mesh, new-live, key, owners}
-use Rattle.definition.specs.Flips.{flip}
+use Rattle.definition.specs.Flips.{flip, flipped}
 use Rattle.cells.specs.Layout.{mesh-end}
 use Rattle.cells.specs.Rep.{Rep, Pts}
 use Rattle.cells.specs.Frames.{Keeps}
+use Rattle.flips.specs.Nodes.{tri-read}
 
 -- both slots hold triangles
 pub record Kinds (w : List ℕ) (i j : ℕ) : Type 0 where
@@ -36,6 +37,12 @@ pub record CanTurn (m : Mesh) (u v i j x y : ℕ) : Type 0 where
   pub xv : x ≡ v → ⊥
   pub yu : y ≡ u → ⊥
   pub yv : y ≡ v → ⊥
+
+-- the triangles in slots i and j, turned to the diagonal x-y, are what the flip of the edge u-v makes
+pub record IsFlip (w : List ℕ) (s : ℕ) (m : Mesh) (u v i j x y : ℕ) : Type 0 where
+  pub can : CanTurn m u v i j x y
+  pub up : u < v
+  pub is : flip m (key u v) ≡ some (flipped m (u, v) i (tri-read w s i) j x y)
 
 -- the answer, and the mesh that the memory stands for afterwards
 abbrev pub FlipTo : List ℕ → ℕ → ℕ → Mesh → Option Mesh → Bool → Type 0

@@ -1,4 +1,6 @@
 // An edge's diagonal is flipped.
+use cells::evens::is_even;
+use cells::evens::note_even;
 use cells::find::first_owner;
 use cells::find::next_owner;
 use cells::find::node;
@@ -15,7 +17,7 @@ ghost use Rattle.cells.specs.Walk.{CanSee, IsEdge};
 ghost use Rattle.crossings.specs.Nodes.{Four};
 ghost use Rattle.meshes.specs.Changes.{Turns};
 ghost use Rattle.flips.specs.Nodes.{tri-read, Up};
-ghost use Rattle.flips.specs.Flip.{CanTurn, Flips};
+ghost use Rattle.flips.specs.Flip.{CanTurn, IsFlip, Flips};
 ghost use Rattle.flips.specs.Twins.{OfKinds, IsTwins};
 
 // The slots of an edge's owners, where those are two and both triangles.
@@ -139,6 +141,29 @@ fn turn(
     set_tri(w, s, p, j, y, x, v);
 }
 
+// The turn that is the flip of the edge u-v; that no component is odd stays noted, for a flip keeps the components even.
+fn turn_evenly(
+    w: &mut [u32],
+    s: usize,
+    p: usize,
+    u: usize,
+    v: usize,
+    i: usize,
+    j: usize,
+    x: usize,
+    y: usize,
+)
+    requires { ⌜ ((m : Mesh) × Rep (now w) s p m × IsFlip (now w) s m u v i j x y) ⌝ }
+    ensures { λ r. ⌜ Turns (now (w .entry)) (now (w .exit)) s p (λ m. IsFlip (now (w .entry)) s m u v i j x y) (λ m. flipped m (u, v) i (tri-read (now (w .entry)) s i) j x y) ⌝ }
+{
+    let even = is_even(w, s, p);
+    turn(w, s, p, u, v, i, j, x, y);
+    if !even {
+        return;
+    }
+    note_even(w, s, p);
+}
+
 // The edge u-v becomes the other diagonal of its two triangles; not where its owners are others, or the four points form no strictly convex quad.
 pub fn flip(w: &mut [u32], q: &[f64], s: usize, p: usize, u: usize, v: usize) -> bool
     requires { ⌜ ((m : Mesh) × Rep (now w) s p m × Pts (now q) p m) ⌝ }
@@ -154,6 +179,6 @@ pub fn flip(w: &mut [u32], q: &[f64], s: usize, p: usize, u: usize, v: usize) ->
     if !convex_pair(q, u, v, x, y) {
         return false;
     }
-    turn(w, s, p, u, v, i, j, x, y);
+    turn_evenly(w, s, p, u, v, i, j, x, y);
     true
 }

@@ -11,7 +11,7 @@ use borrow.Author.Tests.{ltb-true, ltb-false}
 use Rattle.rings.proofs.Lists.{Same, same, differ, decide}
 use Rattle.rings.proofs.Families.{family-kept}
 use Rattle.definition.specs.Cells.{Mesh}
-use Rattle.cells.specs.Layout.{rings-at, codes, notes-at, fronts-at, boxes-at}
+use Rattle.cells.specs.Layout.{rings-at, codes, notes-at, fronts-at, boxes-at, even-at}
 use Rattle.cells.specs.Rep.{corners, Rep}
 use Rattle.cells.specs.Notes.{note, ends, noted, bound, Fronts, NoteAt}
 use Rattle.cells.specs.Frames.{Under}
@@ -56,7 +56,7 @@ module _ (w w' : List ℕ) (s p u : ℕ) (k : SameNote w w' s p u) where
 
 -- ---- the mesh
 
-module _ (w w' : List ℕ) (s p : ℕ) (m : Mesh) (r : Rep w s p m) (k : Under w w' (notes-at s p)) where
+module _ (w w' : List ℕ) (s p : ℕ) (m : Mesh) (r : Rep w s p m) (k : Under w w' (notes-at s p)) (v : getD w' (even-at s p) 0 ≡ getD w (even-at s p) 0) where
   -- the notes of the new memory are true
   pub rep-notes : ((u : ℕ) → u < p → NoteAt w' s p m u) → Rep w' s p m
   rep-notes n =
@@ -69,6 +69,7 @@ module _ (w w' : List ℕ) (s p : ℕ) (m : Mesh) (r : Rep w s p m) (k : Under w
         rings = family-kept w w' (rings-at s) (codes s p) (4 * s) (corners (m .live)) (k .len) (λ i a b. k .low i (omega arith)) (r .rings);
         dead = λ i h o. k .low i (omega arith) ∙ r .dead i h o;
         notes = n;
+        even = λ h q. r .even h (sym v ∙ q);
       }
 
   -- one note is another and true, and the words of the others are the same

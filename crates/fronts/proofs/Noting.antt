@@ -15,7 +15,7 @@ use Rattle.definition.specs.Plane.{Edge}
 use Rattle.definition.specs.Cells.{Mesh, key, is-front, front-at}
 use Rattle.account.specs.Lists.{In, in-any, any-in, all-at, all-from}
 use Rattle.account.specs.Valid.{Valid}
-use Rattle.cells.specs.Layout.{notes-at, fronts-at, boxes-at, front-u-at, front-v-at}
+use Rattle.cells.specs.Layout.{notes-at, fronts-at, boxes-at, even-at, front-u-at, front-v-at}
 use Rattle.cells.specs.Notes.{note, ends, bound, Fronts, NoteAt}
 use Rattle.cells.proofs.Frames.{rep-under}
 use Rattle.fronts.specs.Runs.{Ascending, pairs, Run, Good, NodeTo}
@@ -106,6 +106,7 @@ module _ (w w1 : List ℕ) (s p u : ℕ) (can : CanMark w s p u) (h : Written w 
       record {
         len = simp length-set (h .len);
         below = λ i l. kept i (omega arith) ∙ h .low i (omega arith);
+        even = kept (even-at s p) (omega arith) ∙ h .high (even-at s p) (omega arith);
         beyond = λ i l. kept i (omega arith) ∙ h .high i (omega arith);
         others = λ v l d. record {
           word = kept (notes-at s p + v) (omega arith) ∙ h .low (notes-at s p + v) (omega arith);
@@ -232,7 +233,7 @@ module _ (w w' : List ℕ) (s p u from r : ℕ) (m : Mesh) (can : CanNote w s p 
         len = k .len;
         below = k .below;
         beyond = k .beyond;
-        rep = rep-noted w w' s p m (can .rep) (record { len = k .len; low = k .below }) u (k .others) note-true;
+        rep = rep-noted w w' s p m (can .rep) (record { len = k .len; low = k .below }) (k .even) u (k .others) note-true;
       }
 
 module _ (w : List ℕ) (s p u from r : ℕ) where

@@ -5,7 +5,7 @@ use mathlib.Core.List.{List}
 use Prim.Native.Nat.{ℕ, suc, _+_, _*_, _%_, _<_, _≤_}
 use lib.ListN.{length, getD}
 use Rattle.definition.specs.Cells.{Mesh, front-at}
-use Rattle.cells.specs.Layout.{notes-at, fronts-at, boxes-at, mesh-end, front-u-at, front-v-at, front-links-at}
+use Rattle.cells.specs.Layout.{notes-at, fronts-at, boxes-at, even-at, mesh-end, front-u-at, front-v-at, front-links-at}
 use Rattle.cells.specs.Rep.{Room, Rep}
 use Rattle.cells.specs.Notes.{note, noted}
 use Rattle.fronts.specs.Runs.{pairs, Run, Beyond, CanWalk}
@@ -34,6 +34,7 @@ pub record CanKeep (w : List ℕ) (s p u k : ℕ) : Type 0 where
 pub record Marked (w w' : List ℕ) (s p u : ℕ) (vs : List ℕ) : Type 0 where
   pub len : length w' ≡ length w
   pub below : (i : ℕ) → i < notes-at s p → getD w' i 0 ≡ getD w i 0
+  pub even : getD w' (even-at s p) 0 ≡ getD w (even-at s p) 0
   pub beyond : (i : ℕ) → mesh-end s p ≤ i → getD w' i 0 ≡ getD w i 0
   pub others : (v : ℕ) → v < p → v ≢ u → SameNote w w' s p v
   pub boxes : u < s → (i : ℕ) → boxes-at s p + 4 * u ≤ i → i < boxes-at s p + 4 * u + 4 → getD w' i 0 ≡ getD w i 0

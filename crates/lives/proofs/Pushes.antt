@@ -30,20 +30,20 @@ module _ (w : List ℕ) (s p j : ℕ) (m : Mesh) (out seen st : List Live) (e : 
   held : Held w s (m .used) (length (m .points)) e
   held = rep-held w s p m (h .hold .rep) (h .has)
 
-  marked : getD w (19 * s + 3 * p + j) 0 ≡ mark (listed (e .slot) seen) (listed (e .slot) st)
+  marked : getD w (20 * s + 3 * p + j) 0 ≡ mark (listed (e .slot) seen) (listed (e .slot) st)
   marked = rw (h .slot) (h .hold .marks (e .slot) (held .inside))
 
   kind : eqb (getD w j 0) 3 ≡ live-tri e
   kind = rw (h .slot) (held-tri w s (m .used) (length (m .points)) e held)
 
-  unseen : getD w (19 * s + 3 * p + j) 0 ≢ 2 → listed (e .slot) seen ≡ false
+  unseen : getD w (20 * s + 3 * p + j) 0 ≢ 2 → listed (e .slot) seen ≡ false
   unseen n = go (listed (e .slot) seen) refl
     where
       go : (b : Bool) → listed (e .slot) seen ≡ b → listed (e .slot) seen ≡ false
       go true q = absurd (n (marked ∙ rw q))
       go false q = q
 
-  pub on-stack : getD w (19 * s + 3 * p + j) 0 ≡ 1 → Out j (rev (slots st)) → ⊥
+  pub on-stack : getD w (20 * s + 3 * p + j) 0 ≡ 1 → Out j (rev (slots st)) → ⊥
   on-stack z o =
       let f : listed (e .slot) st ≡ false = out-listed (e .slot) st (subst (λ (i : ℕ). Out i (slots st)) (h .slot) (out-unrev j (slots st) o)) in
       go (listed (e .slot) seen) (sym z ∙ marked ∙ rw f)
@@ -52,14 +52,14 @@ module _ (w : List ℕ) (s p j : ℕ) (m : Mesh) (out seen st : List Live) (e : 
       go true q = omega arith
       go false q = omega arith
 
-  off-stack : getD w (19 * s + 3 * p + j) 0 ≢ 2 → getD w (19 * s + 3 * p + j) 0 ≢ 1 → listed (e .slot) st ≡ false
+  off-stack : getD w (20 * s + 3 * p + j) 0 ≢ 2 → getD w (20 * s + 3 * p + j) 0 ≢ 1 → listed (e .slot) st ≡ false
   off-stack n k = go (listed (e .slot) st) refl
     where
       go : (b : Bool) → listed (e .slot) st ≡ b → listed (e .slot) st ≡ false
       go true q = absurd (k (marked ∙ rw (unseen n, q)))
       go false q = q
 
-  pub push-seen : getD w (19 * s + 3 * p + j) 0 ≡ 2 → PushTo w w s p m out seen (on-top seen st e)
+  pub push-seen : getD w (20 * s + 3 * p + j) 0 ≡ 2 → PushTo w w s p m out seen (on-top seen st e)
   push-seen z = go (listed (e .slot) seen) refl (sym z ∙ marked)
     where
       never : (b : Bool) → _≡_ {A = ℕ} 2 (mark false b) → ⊥
@@ -74,9 +74,9 @@ module _ (w : List ℕ) (s p j : ℕ) (m : Mesh) (out seen st : List Live) (e : 
   push-other k = rw (on-top-other seen st e (sym kind ∙ ne-eqb (getD w j 0) 3 k)) (record { hold = h .hold; scratch = scratch-refl w s p })
 
   -- w1: j is in no ring and its mark is 1; w2: j is linked
-  module _ (n : getD w (19 * s + 3 * p + j) 0 ≢ 2) (k : getD w j 0 ≡ 3) (w1 w2 : List ℕ) (sc : Scratch w w1 s p)
+  module _ (n : getD w (20 * s + 3 * p + j) 0 ≢ 2) (k : getD w j 0 ≡ 3) (w1 w2 : List ℕ) (sc : Scratch w w1 s p)
       (list : (i : ℕ) → list-at s p ≤ i → i < refused-at s p → getD w1 i 0 ≡ getD w i 0)
-      (others : (i : ℕ) → i < s → i ≢ j → getD w1 (19 * s + 3 * p + i) 0 ≡ getD w (19 * s + 3 * p + i) 0) (own : getD w1 (19 * s + 3 * p + j) 0 ≡ 1)
+      (others : (i : ℕ) → i < s → i ≢ j → getD w1 (20 * s + 3 * p + i) 0 ≡ getD w (20 * s + 3 * p + i) 0) (own : getD w1 (20 * s + 3 * p + j) 0 ≡ 1)
       (ring : Ring w1 (stack-at s p) (s + 1) s (without j (rev (slots st)))) (l : LinkedTo w1 w2 (stack-at s p) (s + 1) j s) where
     is-tri : live-tri e ≡ true
     is-tri = sym kind ∙ eq-eqb (getD w j 0) 3 k
@@ -89,16 +89,16 @@ module _ (w : List ℕ) (s p j : ℕ) (m : Mesh) (out seen st : List Live) (e : 
         ap (λ (z : List ℕ). rev z ++ e .slot ∷ []) (slots-without (e .slot) st) ∙ ap (λ (z : List ℕ). z ++ e .slot ∷ []) (sym (without-rev (e .slot) (slots st)))
         ∙ ap (λ (i : ℕ). without i (rev (slots st)) ++ i ∷ []) (sym (h .slot))
 
-    marks : (i : ℕ) → i < m .used → getD w2 (19 * s + 3 * p + i) 0 ≡ mark (listed i seen) (listed i (e ∷ without-slot (e .slot) st))
+    marks : (i : ℕ) → i < m .used → getD w2 (20 * s + 3 * p + i) 0 ≡ mark (listed i seen) (listed i (e ∷ without-slot (e .slot) st))
     unfolding any in-slot
     marks i q =
         let is : i < s = omega (arith, h .hold .rep .used) in
-        l .kept .before (19 * s + 3 * p + i) (omega arith) ∙ go is (decide i j)
+        l .kept .before (20 * s + 3 * p + i) (omega arith) ∙ go is (decide i j)
       where
-        go : i < s → Same i j → getD w1 (19 * s + 3 * p + i) 0 ≡ mark (listed i seen) (eqb i (e .slot) || listed i (without-slot (e .slot) st))
+        go : i < s → Same i j → getD w1 (20 * s + 3 * p + i) 0 ≡ mark (listed i seen) (eqb i (e .slot) || listed i (without-slot (e .slot) st))
         go is (same y) =
             let u : listed i seen ≡ false = ap (λ (x : ℕ). listed x seen) (y ∙ h .slot) ∙ unseen n in
-            rw (u, eq-eqb i (e .slot) (y ∙ h .slot)) (ap (λ (x : ℕ). getD w1 (19 * s + 3 * p + x) 0) y ∙ own)
+            rw (u, eq-eqb i (e .slot) (y ∙ h .slot)) (ap (λ (x : ℕ). getD w1 (20 * s + 3 * p + x) 0) y ∙ own)
         go is (differ y) =
             rw (ne-eqb i (e .slot) (λ z. y (z ∙ sym (h .slot))), listed-without i (e .slot) st (λ z. y (z ∙ sym (h .slot)))) (others i is y ∙ h .hold .marks i q)
 
@@ -127,24 +127,24 @@ module _ (w : List ℕ) (s p j : ℕ) (m : Mesh) (out seen st : List Live) (e : 
   pub ring-again : (w1 : List ℕ) → UnlinkedFrom w w1 (stack-at s p) (s + 1) j → Ring w1 (stack-at s p) (s + 1) s (without j (rev (slots st)))
   ring-again w1 u = let js : j < s = h .inside in u .rings (rev (slots st)) s (h .hold .ring) (λ z. omega arith)
 
-  pub push-again : getD w (19 * s + 3 * p + j) 0 ≢ 2 → getD w j 0 ≡ 3 → getD w (19 * s + 3 * p + j) 0 ≡ 1 → (w1 w2 : List ℕ)
+  pub push-again : getD w (20 * s + 3 * p + j) 0 ≢ 2 → getD w j 0 ≡ 3 → getD w (20 * s + 3 * p + j) 0 ≡ 1 → (w1 w2 : List ℕ)
       → UnlinkedFrom w w1 (stack-at s p) (s + 1) j → LinkedTo w1 w2 (stack-at s p) (s + 1) j s → PushTo w w2 s p m out seen (on-top seen st e)
   push-again n k o w1 w2 u l =
       let js : j < s = h .inside in
-      push-linked n k w1 w2 (scratch-ring w w1 s p (u .kept)) (λ i a b. u .kept .before i (omega arith)) (λ i q z. u .kept .before (19 * s + 3 * p + i) (omega arith))
-      (u .kept .before (19 * s + 3 * p + j) (omega arith) ∙ o) (ring-again w1 u) l
+      push-linked n k w1 w2 (scratch-ring w w1 s p (u .kept)) (λ i a b. u .kept .before i (omega arith)) (λ i q z. u .kept .before (20 * s + 3 * p + i) (omega arith))
+      (u .kept .before (20 * s + 3 * p + j) (omega arith) ∙ o) (ring-again w1 u) l
 
-  pub ring-first : getD w (19 * s + 3 * p + j) 0 ≢ 2 → getD w (19 * s + 3 * p + j) 0 ≢ 1
-      → Ring (set w (19 * s + 3 * p + j) 1) (stack-at s p) (s + 1) s (without j (rev (slots st)))
+  pub ring-first : getD w (20 * s + 3 * p + j) 0 ≢ 2 → getD w (20 * s + 3 * p + j) 0 ≢ 1
+      → Ring (set w (20 * s + 3 * p + j) 1) (stack-at s p) (s + 1) s (without j (rev (slots st)))
   ring-first n o =
       let js : j < s = h .inside in
       let q : Out j (slots st) = subst (λ (i : ℕ). Out i (slots st)) (sym (h .slot)) (listed-out (e .slot) st (off-stack n o)) in
-      rw (without-out j (rev (slots st)) (out-rev j (slots st) q)) (ring-set w (stack-at s p) (s + 1) s (19 * s + 3 * p + j) 1 (rev (slots st)) (omega arith) (h .hold .ring))
+      rw (without-out j (rev (slots st)) (out-rev j (slots st) q)) (ring-set w (stack-at s p) (s + 1) s (20 * s + 3 * p + j) 1 (rev (slots st)) (omega arith) (h .hold .ring))
 
-  pub push-first : getD w (19 * s + 3 * p + j) 0 ≢ 2 → getD w j 0 ≡ 3 → getD w (19 * s + 3 * p + j) 0 ≢ 1 → (w2 : List ℕ)
-      → LinkedTo (set w (19 * s + 3 * p + j) 1) w2 (stack-at s p) (s + 1) j s → PushTo w w2 s p m out seen (on-top seen st e)
+  pub push-first : getD w (20 * s + 3 * p + j) 0 ≢ 2 → getD w j 0 ≡ 3 → getD w (20 * s + 3 * p + j) 0 ≢ 1 → (w2 : List ℕ)
+      → LinkedTo (set w (20 * s + 3 * p + j) 1) w2 (stack-at s p) (s + 1) j s → PushTo w w2 s p m out seen (on-top seen st e)
   push-first n k o w2 l =
       let js : j < s = h .inside in
-      push-linked n k (set w (19 * s + 3 * p + j) 1) w2 (scratch-mark w s p j 1 js) (λ i a b. off w (19 * s + 3 * p + j) 1 i (omega arith))
-      (λ i q z. off w (19 * s + 3 * p + j) 1 (19 * s + 3 * p + i) (λ y. z (omega arith))) (on w (19 * s + 3 * p + j) 1 (omega (arith, h .hold .fits)))
+      push-linked n k (set w (20 * s + 3 * p + j) 1) w2 (scratch-mark w s p j 1 js) (λ i a b. off w (20 * s + 3 * p + j) 1 i (omega arith))
+      (λ i q z. off w (20 * s + 3 * p + j) 1 (20 * s + 3 * p + i) (λ y. z (omega arith))) (on w (20 * s + 3 * p + j) 1 (omega (arith, h .hold .fits)))
       (ring-first n o) l

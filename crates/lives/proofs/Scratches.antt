@@ -17,24 +17,22 @@ use Rattle.cells.proofs.Frames.{rep-under}
 use Rattle.lives.specs.Stack.{Scratch}
 
 pub scratch-refl : (w : List ℕ) (s p : ℕ) → Scratch w w s p
-scratch-refl w s p = record { len = refl; mesh = λ i h. refl; others = λ i h k. refl; rest = λ i h k. refl }
+scratch-refl w s p = record { len = refl; mesh = λ i h. refl; rest = λ i h k. refl }
 
 pub scratch-trans : (w w1 w2 : List ℕ) (s p : ℕ) → Scratch w w1 s p → Scratch w1 w2 s p → Scratch w w2 s p
 scratch-trans w w1 w2 s p h k =
     record {
       len = k .len ∙ h .len;
       mesh = λ i a. k .mesh i a ∙ h .mesh i a;
-      others = λ i a b. k .others i a b ∙ h .others i a b;
       rest = λ i a b. k .rest i a b ∙ h .rest i a b;
     }
 
-pub scratch-mark : (w : List ℕ) (s p j v : ℕ) → j < s → Scratch w (set w (19 * s + 3 * p + j) v) s p
+pub scratch-mark : (w : List ℕ) (s p j v : ℕ) → j < s → Scratch w (set w (20 * s + 3 * p + j) v) s p
 scratch-mark w s p j v h =
     record {
-      len = length-set w (19 * s + 3 * p + j) v;
-      mesh = λ i a. off w (19 * s + 3 * p + j) v i (omega arith);
-      others = λ i a b. off w (19 * s + 3 * p + j) v i (omega arith);
-      rest = λ i a b. off w (19 * s + 3 * p + j) v i (omega arith);
+      len = length-set w (20 * s + 3 * p + j) v;
+      mesh = λ i a. off w (20 * s + 3 * p + j) v i (omega arith);
+      rest = λ i a b. off w (20 * s + 3 * p + j) v i (omega arith);
     }
 
 pub scratch-list : (w : List ℕ) (s p j v : ℕ) → j < s → Scratch w (set w (21 * s + 3 * p + j) v) s p
@@ -42,13 +40,12 @@ scratch-list w s p j v h =
     record {
       len = length-set w (21 * s + 3 * p + j) v;
       mesh = λ i a. off w (21 * s + 3 * p + j) v i (omega arith);
-      others = λ i a b. off w (21 * s + 3 * p + j) v i (omega arith);
       rest = λ i a b. off w (21 * s + 3 * p + j) v i (omega arith);
     }
 
 pub scratch-above : (w w' : List ℕ) (s p : ℕ) → length w' ≡ length w → ((i : ℕ) → i < stack-at s p → getD w' i 0 ≡ getD w i 0) → Scratch w w' s p
 scratch-above w w' s p e h =
-    record { len = e; mesh = λ i a. h i (omega arith); others = λ i a b. h i (omega arith); rest = λ i a b. h i (omega arith) }
+    record { len = e; mesh = λ i a. h i (omega arith); rest = λ i a b. h i (omega arith) }
 
 pub scratch-ring : (w w' : List ℕ) (s p : ℕ) → Kept w w' (stack-at s p) (s + 1) → Scratch w w' s p
 scratch-ring w w' s p k = scratch-above w w' s p (k .len) (λ i a. k .before i a)

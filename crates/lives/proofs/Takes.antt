@@ -36,15 +36,15 @@ module _ (w : List ℕ) (s p i : ℕ) (m : Mesh) (out seen st : List Live) (x : 
 
   module _ (w1 : List ℕ) (u : UnlinkedFrom w w1 (stack-at s p) (s + 1) i) where
     w2 : List ℕ
-    w2 = set w1 (19 * s + 3 * p + i) 2
+    w2 = set w1 (20 * s + 3 * p + i) 2
 
-    low : (k : ℕ) → k < stack-at s p → k ≢ 19 * s + 3 * p + i → getD w2 k 0 ≡ getD w k 0
+    low : (k : ℕ) → k < stack-at s p → k ≢ 20 * s + 3 * p + i → getD w2 k 0 ≡ getD w k 0
     unfolding w2
-    low k a b = off w1 (19 * s + 3 * p + i) 2 k b ∙ u .kept .before k a
+    low k a b = off w1 (20 * s + 3 * p + i) 2 k b ∙ u .kept .before k a
 
     sc : Scratch w w2 s p
     unfolding w2
-    sc = scratch-trans w w1 (set w1 (19 * s + 3 * p + i) 2) s p (scratch-ring w w1 s p (u .kept)) (scratch-mark w1 s p i 2 (h .inside))
+    sc = scratch-trans w w1 (set w1 (20 * s + 3 * p + i) 2) s p (scratch-ring w w1 s p (u .kept)) (scratch-mark w1 s p i 2 (h .inside))
 
     same-list : without i (rev (slots (x ∷ st))) ≡ rev (slots st)
     same-list = ap (λ (y : ℕ). without y (rev (slots st) ++ x .slot ∷ [])) (h .slot) ∙ without-last (rev (slots st)) (x .slot) apart
@@ -52,36 +52,36 @@ module _ (w : List ℕ) (s p i : ℕ) (m : Mesh) (out seen st : List Live) (x : 
     ring1 : Ring w1 (stack-at s p) (s + 1) s (rev (slots st))
     ring1 = let is : i < s = h .inside in subst (λ (l : List ℕ). Ring w1 (stack-at s p) (s + 1) s l) same-list (u .rings (rev (slots (x ∷ st))) s (h .hold .ring) (λ z. omega arith))
 
-    marks : (k : ℕ) → k < m .used → getD w2 (19 * s + 3 * p + k) 0 ≡ mark (listed k (x ∷ seen)) (listed k st)
+    marks : (k : ℕ) → k < m .used → getD w2 (20 * s + 3 * p + k) 0 ≡ mark (listed k (x ∷ seen)) (listed k st)
     unfolding any in-slot w2
     marks k a = go (decide k i)
       where
-        go : Same k i → getD (set w1 (19 * s + 3 * p + i) 2) (19 * s + 3 * p + k) 0 ≡ mark (eqb k (x .slot) || listed k seen) (listed k st)
+        go : Same k i → getD (set w1 (20 * s + 3 * p + i) 2) (20 * s + 3 * p + k) 0 ≡ mark (eqb k (x .slot) || listed k seen) (listed k st)
         go (same y) =
             rw (eq-eqb k (x .slot) (y ∙ h .slot))
-            (ap (λ (z : ℕ). getD (set w1 (19 * s + 3 * p + i) 2) (19 * s + 3 * p + z) 0) y ∙ on w1 (19 * s + 3 * p + i) 2 (omega (arith, h .hold .fits, h .inside, u .kept .len)))
+            (ap (λ (z : ℕ). getD (set w1 (20 * s + 3 * p + i) 2) (20 * s + 3 * p + z) 0) y ∙ on w1 (20 * s + 3 * p + i) 2 (omega (arith, h .hold .fits, h .inside, u .kept .len)))
         go (differ y) =
             let n : eqb k (x .slot) ≡ false = ne-eqb k (x .slot) (λ z. y (z ∙ sym (h .slot))) in
-            let o : getD w (19 * s + 3 * p + k) 0 ≡ mark (listed k seen) (eqb k (x .slot) || listed k st) = h .hold .marks k a in
-            rw n (low (19 * s + 3 * p + k) (omega (arith, a, h .hold .rep .used)) (λ z. y (omega arith)) ∙ (rw n at o))
+            let o : getD w (20 * s + 3 * p + k) 0 ≡ mark (listed k seen) (eqb k (x .slot) || listed k st) = h .hold .marks k a in
+            rw n (low (20 * s + 3 * p + k) (omega (arith, a, h .hold .rep .used)) (λ z. y (omega arith)) ∙ (rw n at o))
 
-    pub taken : PushTo w (set w1 (19 * s + 3 * p + i) 2) s p m out (x ∷ seen) st
+    pub taken : PushTo w (set w1 (20 * s + 3 * p + i) 2) s p m out (x ∷ seen) st
     unfolding w2
     taken =
         let is : i < s = h .inside in
         let fo : length out ≤ s = few-out w s p m out seen (x ∷ st) (h .hold) in
         record {
           hold = record {
-            rep = scratch-rep w (set w1 (19 * s + 3 * p + i) 2) s p m sc (h .hold .rep);
+            rep = scratch-rep w (set w1 (20 * s + 3 * p + i) 2) s p m sc (h .hold .rep);
             fits = omega (arith, h .hold .fits, sc .len);
-            ring = ring-set w1 (stack-at s p) (s + 1) s (19 * s + 3 * p + i) 2 (rev (slots st)) (omega arith) ring1;
+            ring = ring-set w1 (stack-at s p) (s + 1) s (20 * s + 3 * p + i) 2 (rev (slots st)) (omega arith) ring1;
             stack = h .hold .stack .2;
             inner = h .hold .inner;
             fresh = fresh-more x seen st (out-unrev (x .slot) (slots st) apart) (h .hold .fresh .1);
             distinct = (listed-out (x .slot) seen (h .hold .fresh .0), h .hold .distinct);
             below = (rep-held w s p m (h .hold .rep) (h .hold .stack .0) .inside, h .hold .below);
             few = omega (arith, h .hold .few);
-            stored = stored-kept w (set w1 (19 * s + 3 * p + i) 2) (list-at s p) (slots out)
+            stored = stored-kept w (set w1 (20 * s + 3 * p + i) 2) (list-at s p) (slots out)
                 (λ k a b. low k (omega (arith, fo, slots-length out)) (λ z. omega (arith, is, a))) (h .hold .stored);
             marks = marks;
           };
@@ -122,7 +122,7 @@ listed-one w s p n i m out seen st x h = record { hold = hold; scratch = sc }
               (stored-kept w w1 (list-at s p) (slots out) (λ k a b. other k (λ z. omega (arith, h .len, slots-length out))) (h .hold .stored))
               (let y : list-at s p + length (slots out) ≡ 21 * s + 3 * p + n = omega (arith, h .len, slots-length out) in
               ap (λ (z : ℕ). getD w1 z 0) y ∙ on w (21 * s + 3 * p + n) i (omega (arith, h .hold .fits, ns)) ∙ h .slot));
-          marks = λ k a. other (19 * s + 3 * p + k) (λ z. omega (arith, a, h .hold .rep .used)) ∙ h .hold .marks k a;
+          marks = λ k a. other (20 * s + 3 * p + k) (λ z. omega (arith, a, h .hold .rep .used)) ∙ h .hold .marks k a;
         }
 
 -- ---- the beginning
@@ -131,21 +131,21 @@ listed-one w s p n i m out seen st x h = record { hold = hold; scratch = sc }
 pub record Clearing (w₀ w : List ℕ) (s p n i : ℕ) : Type 0 where
   pub within : i ≤ n
   pub few : n ≤ s
-  pub zero : (k : ℕ) → k < i → getD w (19 * s + 3 * p + k) 0 ≡ 0
+  pub zero : (k : ℕ) → k < i → getD w (20 * s + 3 * p + k) 0 ≡ 0
   pub scratch : Scratch w₀ w s p
 
-pub clearing-more : (w₀ w : List ℕ) (s p n i : ℕ) → all-end s p ≤ length w₀ → i < n → Clearing w₀ w s p n i → Clearing w₀ (set w (19 * s + 3 * p + i) 0) s p n (i + 1)
+pub clearing-more : (w₀ w : List ℕ) (s p n i : ℕ) → all-end s p ≤ length w₀ → i < n → Clearing w₀ w s p n i → Clearing w₀ (set w (20 * s + 3 * p + i) 0) s p n (i + 1)
 clearing-more w₀ w s p n i f h c =
     record {
       within = omega arith;
       few = c .few;
       zero = λ k l. go k l (decide k i);
-      scratch = scratch-trans w₀ w (set w (19 * s + 3 * p + i) 0) s p (c .scratch) (scratch-mark w s p i 0 (omega (arith, c .few)));
+      scratch = scratch-trans w₀ w (set w (20 * s + 3 * p + i) 0) s p (c .scratch) (scratch-mark w s p i 0 (omega (arith, c .few)));
     }
   where
-    go : (k : ℕ) → k < i + 1 → Same k i → getD (set w (19 * s + 3 * p + i) 0) (19 * s + 3 * p + k) 0 ≡ 0
-    go k l (same e) = rw e (on w (19 * s + 3 * p + i) 0 (omega (arith, c .scratch .len, c .few)))
-    go k l (differ e) = off w (19 * s + 3 * p + i) 0 (19 * s + 3 * p + k) (λ z. e (omega arith)) ∙ c .zero k (omega arith)
+    go : (k : ℕ) → k < i + 1 → Same k i → getD (set w (20 * s + 3 * p + i) 0) (20 * s + 3 * p + k) 0 ≡ 0
+    go k l (same e) = rw e (on w (20 * s + 3 * p + i) 0 (omega (arith, c .scratch .len, c .few)))
+    go k l (differ e) = off w (20 * s + 3 * p + i) 0 (20 * s + 3 * p + k) (λ z. e (omega arith)) ∙ c .zero k (omega arith)
 
 pub emptied : (w w1 : List ℕ) (s p n : ℕ) (m : Mesh) → all-end s p ≤ length w → Rep w s p m → n ≡ m .used → Unmarked w w1 s p n
     → PushTo w (set (set w1 (58 * s + 8 * p + s) s) (58 * s + 8 * p + (s + 1) + s) s) s p m [] [] []
@@ -189,5 +189,5 @@ emptied w w1 s p n m d r e c = record { hold = hold; scratch = sc }
           below = tt;
           few = omega arith;
           stored = tt;
-          marks = λ k a. low (19 * s + 3 * p + k) (omega (arith, a, r .used)) ∙ c .zero k (omega (arith, a, e));
+          marks = λ k a. low (20 * s + 3 * p + k) (omega (arith, a, r .used)) ∙ c .zero k (omega (arith, a, e));
         }

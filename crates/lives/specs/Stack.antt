@@ -8,7 +8,7 @@ use lib.Ieee.{Float}
 use Rattle.rings.specs.Rings.{Distinct, Below, Ring}
 use Rattle.definition.specs.Lists.{any}
 use Rattle.definition.specs.Cells.{Live, Mesh, live-tri, in-slot}
-use Rattle.cells.specs.Layout.{codes, marks-at, others-at, list-at, refused-at, stack-at, all-end}
+use Rattle.cells.specs.Layout.{codes, marks-at, list-at, refused-at, stack-at, all-end}
 use Rattle.cells.specs.Rep.{Rep, Pts, Has, slots}
 
 -- the numbers of l stand from b on
@@ -50,7 +50,6 @@ top-or n (x ∷ st) = x .slot
 pub record Scratch (w w' : List ℕ) (s p : ℕ) : Type 0 where
   pub len : length w' ≡ length w
   pub mesh : (i : ℕ) → i < marks-at s p → getD w' i 0 ≡ getD w i 0
-  pub others : (i : ℕ) → others-at s p ≤ i → i < list-at s p → getD w' i 0 ≡ getD w i 0
   pub rest : (i : ℕ) → refused-at s p ≤ i → i < stack-at s p → getD w' i 0 ≡ getD w i 0
 
 -- the cells in reach so far, those seen and those on the stack

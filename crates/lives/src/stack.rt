@@ -23,7 +23,7 @@ fn clear_marks(w: &mut [u32], s: usize, p: usize, n: usize)
 {
     let mut i = 0;
     while i < n {
-        w[19 * s + 3 * p + i] = 0;
+        w[20 * s + 3 * p + i] = 0;
         i += 1;
     }
 }
@@ -44,7 +44,7 @@ pub fn push_one(w: &mut [u32], s: usize, p: usize, j: usize)
     requires { ⌜ ((m : Mesh) × (out : List Live) × (seen : List Live) × (st : List Live) × (e : Live) × Met (now w) s p j m out seen st e) ⌝ }
     ensures { λ r. ⌜ ((m : Mesh) (out seen st : List Live) (e : Live) → Met (now (w .entry)) s p j m out seen st e → PushTo (now (w .entry)) (now (w .exit)) s p m out seen (on-top seen st e)) ⌝ }
 {
-    let m = w[19 * s + 3 * p + j];
+    let m = w[20 * s + 3 * p + j];
     if m == 2 {
         return;
     }
@@ -56,7 +56,7 @@ pub fn push_one(w: &mut [u32], s: usize, p: usize, j: usize)
         link(w, 58 * s + 8 * p, s + 1, j, s);
         return;
     }
-    w[19 * s + 3 * p + j] = 1;
+    w[20 * s + 3 * p + j] = 1;
     link(w, 58 * s + 8 * p, s + 1, j, s);
 }
 
@@ -101,7 +101,7 @@ pub fn take(w: &mut [u32], s: usize, p: usize, i: usize)
     ensures { λ r. ⌜ ((m : Mesh) (out seen st : List Live) (x : Live) → OnTop (now (w .entry)) s p i m out seen st x → PushTo (now (w .entry)) (now (w .exit)) s p m out (x ∷ seen) st) ⌝ }
 {
     unlink(w, 58 * s + 8 * p, s + 1, i);
-    w[19 * s + 3 * p + i] = 2;
+    w[20 * s + 3 * p + i] = 2;
 }
 
 // The slot i comes to the end of the list of n.

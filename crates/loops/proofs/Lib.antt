@@ -7,3 +7,4 @@ pub mod Linking
 pub mod Tracing
 pub mod Looping
 pub mod Measuring
+pub mod Sifting

@@ -19,11 +19,11 @@ use Rattle.loops.specs.Trace.{edge-of}
 
 -- ---- tests
 
-or-left : (x y : Bool) → (x || y) ≡ false → x ≡ false
+pub or-left : (x y : Bool) → (x || y) ≡ false → x ≡ false
 or-left true y h = h
 or-left false y h = refl
 
-or-right : (x y : Bool) → (x || y) ≡ false → y ≡ false
+pub or-right : (x y : Bool) → (x || y) ≡ false → y ≡ false
 or-right true y h = absurd (false≢true (sym h))
 or-right false y h = h
 

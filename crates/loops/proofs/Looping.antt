@@ -92,7 +92,7 @@ module _ (w₀ w : List ℕ) (s p n k b j i : ℕ) (es : List Edge) (g : Looping
               total = many ∙ full;
               few = o .ready .front .at .few;
               edges = o .edges;
-              places = λ x y. o .places x (omega arith);
+              places = λ x y. omega (arith, o .places x (omega arith), o .ready .front .at .few);
               at = g .loops .at;
             });
         at = o .ready .front .at;

@@ -111,7 +111,7 @@ next-place w q s p b e i sum m l o h x =
 -- ---- all loops
 
 -- no loop is empty
-loops-few : (w : List ℕ) (s p j b : ℕ) (ls : List (List Edge)) → LoopsAt w s p j b ls → length ls ≤ length (concat ls)
+pub loops-few : (w : List ℕ) (s p j b : ℕ) (ls : List (List Edge)) → LoopsAt w s p j b ls → length ls ≤ length (concat ls)
 loops-few w s p j b [] h = omega arith
 loops-few w s p j b (l ∷ ls) h =
     let z : length (concat (l ∷ ls)) ≡ length l + length (concat ls) = ap length (concat-cons l ls) ∙ length-append l (concat ls) in
@@ -121,7 +121,7 @@ known-left : (n : ℕ) (l k : List Edge) → Edges n (l ++ k) → Known n l
 known-left n [] k h = tt
 known-left n (e ∷ l) k h = (omega (arith, h .0, h .1), h .1, known-left n l k (h .3))
 
-edges-right : (n : ℕ) (l k : List Edge) → Edges n (l ++ k) → Edges n k
+pub edges-right : (n : ℕ) (l k : List Edge) → Edges n (l ++ k) → Edges n k
 edges-right n [] k h = h
 edges-right n (e ∷ l) k h = edges-right n l k (h .3)
 

@@ -2,4 +2,5 @@
 pub mod front;
 pub mod links;
 pub mod measure;
+pub mod sift;
 pub mod walks;

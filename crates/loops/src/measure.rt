@@ -41,7 +41,7 @@ fn perimeter(w: &[u32], q: &[f64], s: usize, p: usize, b: usize, e: usize) -> f6
 }
 
 // The place behind loop j, of r loops with k edges.
-fn end_of(w: &[u32], s: usize, p: usize, k: usize, r: usize, j: usize) -> usize
+pub fn end_of(w: &[u32], s: usize, p: usize, k: usize, r: usize, j: usize) -> usize
     requires { ⌜ CanEnd (now w) s p r j ⌝ }
     ensures { λ x. ⌜ EndTo (now (w .entry)) s p k r j x ⌝ }
 {

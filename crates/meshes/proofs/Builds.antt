@@ -16,7 +16,7 @@ use Rattle.definition.specs.Plane.{Node}
 use Rattle.definition.specs.Cells.{Tri, Cell, tri, Live, Mesh, new-live, new-tri, with-live, push-cell}
 use Rattle.definition.specs.Call.{tri-at, first-tris, first-points}
 use Rattle.definition.specs.Front.{in-slots, new-mesh}
-use Rattle.cells.specs.Layout.{rings-at, codes, notes-at, mesh-end}
+use Rattle.cells.specs.Layout.{rings-at, codes, notes-at, even-at, mesh-end}
 use Rattle.cells.specs.Rep.{Shape, Cells, slots, corners, Room, Rep}
 use Rattle.meshes.specs.Changes.{CanPush, Turns, tri-of-nodes}
 use Rattle.meshes.specs.Build.{Given, IsNew, Builds, CanBuild, Empties}
@@ -43,6 +43,7 @@ empty-done w w1 w2 s p b eb r z o =
             rings = rw e (opened w1 w2 (rings-at s) (codes s p) (4 * s) (record { fits = omega (arith, r .fits); small = r .small; first = omega arith }) o);
             dead = λ i h out. o .kept .before i (omega arith) ∙ z .zero i (omega arith);
             notes = λ v h. note-none w2 s p m v (o .kept .after (notes-at s p + v) (omega arith) ∙ z .zero (notes-at s p + v) (omega arith));
+            even = λ h q. absurd (omega (arith, q, o .kept .after (even-at s p) (omega arith), z .zero (even-at s p) (omega arith)));
           };
       keeps = keeps-trans w w1 w2 (mesh-end s p) (keeps-more w w1 b (mesh-end s p) (omega arith) (z .keeps)) (keeps-kept w1 w2 (rings-at s) (codes s p) (mesh-end s p) (omega arith) (o .kept));
     }

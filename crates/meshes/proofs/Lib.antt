@@ -1,5 +1,6 @@
 pub mod Notes
 pub mod Puts
 pub mod Removes
+pub mod Evens
 pub mod Builds
 pub mod Counts

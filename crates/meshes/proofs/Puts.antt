@@ -13,9 +13,9 @@ use Rattle.rings.proofs.Lists.{Same, same, differ, decide, out-append, distinct
 use Rattle.rings.proofs.Rings.{on, off}
 use Rattle.rings.proofs.Families.{family-kept, same-rings, can-link, linked, below-out}
 use Rattle.definition.specs.Cells.{Cell, Live, Mesh, nodes, new-live, with-live, push-cell}
-use Rattle.cells.specs.Layout.{nodes-at, rings-at, codes, notes-at, fronts-at, mesh-end}
+use Rattle.cells.specs.Layout.{nodes-at, rings-at, codes, notes-at, fronts-at, even-at}
 use Rattle.cells.specs.Notes.{note}
-use Rattle.cells.specs.Rep.{Shape, CellAt, Held, Cells, slots, at-node, cell-corners, corners, Room, Rep}
+use Rattle.cells.specs.Rep.{Shape, CellAt, Held, Cells, slots, at-node, cell-corners, corners, Room, Uneven, Rep}
 use Rattle.meshes.specs.Changes.{CanPush, CanPut, put, Puts, Forgets, Apart, Filling, Placed}
 use Rattle.cells.specs.Frames.{Under, Keeps}
 use Rattle.cells.proofs.Corners.{at-node-snoc, at-node-out, slots-append, corners-append, cells-append, cells-weaken, corners-out, below-at}
@@ -126,10 +126,10 @@ module _ (w : List ℕ) (s p n i j a : ℕ) (m : Mesh) (ns : List ℕ) (f : Fill
         }
 
 -- what the memory stands for does not matter here
-pub place-keeps : (w w2 : List ℕ) (s p i j a : ℕ) → i < s → j < 4 → LinkedTo (nodeW w s i j a) w2 (rings-at s) (codes s p) (4 * i + j) (4 * s + a) → Keeps w w2 (mesh-end s p)
+pub place-keeps : (w w2 : List ℕ) (s p i j a : ℕ) → i < s → j < 4 → LinkedTo (nodeW w s i j a) w2 (rings-at s) (codes s p) (4 * i + j) (4 * s + a) → Keeps w w2 (fronts-at s p)
 place-keeps w w2 s p i j a h g t =
-    keeps-trans w (nodeW w s i j a) w2 (mesh-end s p) (keeps-set w (mesh-end s p) (s + 4 * i + j) a (omega arith))
-    (keeps-kept (nodeW w s i j a) w2 (rings-at s) (codes s p) (mesh-end s p) (omega arith) (t .kept))
+    keeps-trans w (nodeW w s i j a) w2 (fronts-at s p) (keeps-set w (fronts-at s p) (s + 4 * i + j) a (omega arith))
+    (keeps-kept (nodeW w s i j a) w2 (rings-at s) (codes s p) (fronts-at s p) (omega arith) (t .kept))
 
 -- ---- the cell begins, and is complete
 
@@ -160,9 +160,9 @@ module _ (w : List ℕ) (s p i n : ℕ) (m : Mesh) (t : Cell) (r : Rep w s p m) 
             };
       }
 
-  pub put-done : (w' : List ℕ) → Filling w' s p (length (nodes t)) i m (nodes t) → Rep w' s p (put m i n t)
+  pub put-done : (w' : List ℕ) → Uneven w s p → Keeps w w' (fronts-at s p) → Filling w' s p (length (nodes t)) i m (nodes t) → Rep w' s p (put m i n t)
   unfolding corners with-live new-live
-  put-done w' f =
+  put-done w' un k f =
       let l = m .live in
       let x = new-live i t in
       let mine : Held w' s n (length (m .points)) x = record { inside = c .given; shape = c .shape; at = record { kind = f .kind; node = f .node } } in
@@ -177,6 +177,7 @@ module _ (w : List ℕ) (s p i n : ℕ) (m : Mesh) (t : Cell) (r : Rep w s p m) 
             (λ v. sym (corners-append v l (x ∷ []) ∙ ap (λ (z : List ℕ). corners l v ++ z) (append-nil (cell-corners v i t)))) (f .rings);
         dead = λ j js q. dead j js (rw (slots-append l (x ∷ [])) at q);
         notes = λ u h. note-turned w' s p u m (put m i n t) refl (λ q. put-same m i n t u (f .notes u h .out q)) (f .notes u h .is);
+        even = λ h q. absurd (omega (arith, q, k .high (even-at s p) (omega arith), un));
       }
     where
       split : (j : ℕ) (z : List ℕ) → Out j (z ++ i ∷ []) → Out j z × (i ≡ j → ⊥)

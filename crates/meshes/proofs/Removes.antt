@@ -14,9 +14,9 @@ use Rattle.rings.proofs.Rings.{on, off}
 use Rattle.rings.proofs.Families.{family-kept, same-rings, can-unlink, unlinked}
 use Rattle.definition.specs.Lists.{filter}
 use Rattle.definition.specs.Cells.{Cell, Live, Mesh, nodes, new-live, with-live, in-slot, remove-cell, set-cell, without as without-slot}
-use Rattle.cells.specs.Layout.{nodes-at, rings-at, codes, notes-at, fronts-at}
+use Rattle.cells.specs.Layout.{nodes-at, rings-at, codes, notes-at, fronts-at, even-at}
 use Rattle.cells.specs.Notes.{note, NoteAt}
-use Rattle.cells.specs.Rep.{Shape, CellAt, Held, Cells, slots, Has, here, there, at-node, cell-corners, corners, Room, Rep}
+use Rattle.cells.specs.Rep.{Shape, CellAt, Held, Cells, slots, Has, here, there, at-node, cell-corners, corners, Room, Uneven, Rep}
 use Rattle.meshes.specs.Changes.{CanSet, CanPut, put, CanForget, Forgets}
 use Rattle.cells.specs.Frames.{Under, Keeps}
 use Rattle.cells.proofs.Members.{Lookup, absent, present, lookup, has-held}
@@ -252,9 +252,9 @@ module _ (w₀ : List ℕ) (s p i : ℕ) (m : Mesh) (r : Rep w₀ s p m) (is : i
             rings = unlinked w1 (rings-at s) (codes s p) (4 * s) (λ v. stripped i k (corners (m .live) v)) lift-rings w' (4 * i + k) (omega (arith, kind-most)) t;
           })
 
-  pub lift-done : (w : List ℕ) (n : ℕ) → getD w₀ i 0 ≡ n → Keeps w₀ w (fronts-at s p) → Lifting w₀ w s p i n (m .live) → Rep (set w i 0) s p (remove-cell m i)
+  pub lift-done : (w : List ℕ) (n : ℕ) → Uneven w₀ s p → getD w₀ i 0 ≡ n → Keeps w₀ w (fronts-at s p) → Lifting w₀ w s p i n (m .live) → Rep (set w i 0) s p (remove-cell m i)
   unfolding remove-cell with-live
-  lift-done w n z k f =
+  lift-done w n un z k f =
       let l = m .live in
       let w' = set w i 0 in
       let g : length w' ≡ length w = simp length-set in
@@ -274,6 +274,7 @@ module _ (w₀ : List ℕ) (s p i : ℕ) (m : Mesh) (r : Rep w₀ s p m) (is : i
             (family-kept w w' (rings-at s) (codes s p) (4 * s) (λ v. stripped i n (corners l v)) g (λ x h q. off w i 0 x (omega arith)) (f .rings));
         dead = λ j js o. dead j js (decide j i) (rw (slots-without i l) at o) e;
         notes = λ u h. notes u h;
+        even = λ h q. absurd (omega (arith, q, off w i 0 (even-at s p) (omega arith), k .high (even-at s p) (omega arith), un));
       }
     where
       notes : (u : ℕ) → u < p → NoteAt (set w i 0) s p (remove-cell m i) u

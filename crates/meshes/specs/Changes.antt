@@ -99,4 +99,4 @@ pub record Fills (w : List ℕ) (s p i j a : ℕ) : Type 0 where
 -- node a was placed
 pub record Placed (w w' : List ℕ) (s p i j a : ℕ) : Type 0 where
   pub is : (n : ℕ) (m : Mesh) (ns : List ℕ) → Filling w s p n i m ns → length ns ≡ j → Filling w' s p n i m (ns ++ a ∷ [])
-  pub keeps : Keeps w w' (mesh-end s p)
+  pub keeps : Keeps w w' (fronts-at s p)

@@ -1,4 +1,5 @@
 // Cells come into slots and go.
+use cells::evens::forget_even;
 use cells::layout::BEFORE;
 use cells::layout::CORNERS;
 use cells::layout::notes_at;
@@ -7,7 +8,7 @@ use rings::unlink;
 use rings::wide;
 ghost use Prim.Native.Nat.{ℕ, _<_};
 ghost use Rattle.definition.specs.Cells.{Mesh, push-cell, set-cell, remove-cell};
-ghost use Rattle.cells.specs.Rep.{Rep};
+ghost use Rattle.cells.specs.Rep.{Uneven, Rep};
 ghost use Rattle.meshes.specs.Changes.{Turns, tri-of-nodes, quad-of-nodes, CanPush, CanSet, CanPut, Puts, CanForget, Forgets, Fills, Placed, Anything};
 
 // Nothing is noted of node a any more.
@@ -34,9 +35,10 @@ fn place(w: &mut [u32], s: usize, p: usize, i: usize, k: usize, a: usize)
     );
 }
 
-// The triangle a b c comes into slot i, which holds no cell.
+// The triangle a b c comes into slot i, which holds no cell; nothing is noted of the components.
 fn put_tri(w: &mut [u32], s: usize, p: usize, i: usize, a: usize, b: usize, c: usize)
     requires { ⌜ ((m : Mesh) × (n : ℕ) × Rep (now w) s p m × CanPut m s i n (tri-of-nodes a b c)) ⌝ }
+    requires { ⌜ Uneven (now w) s p ⌝ }
     ensures { λ r. ⌜ Puts (now (w .entry)) (now (w .exit)) s p i (tri-of-nodes a b c) ⌝ }
 {
     w[i] = 3;
@@ -45,9 +47,10 @@ fn put_tri(w: &mut [u32], s: usize, p: usize, i: usize, a: usize, b: usize, c: u
     place(w, s, p, i, 2, c);
 }
 
-// The quad a b c d comes into slot i, which holds no cell.
+// The quad a b c d comes into slot i, which holds no cell; nothing is noted of the components.
 fn put_quad(w: &mut [u32], s: usize, p: usize, i: usize, a: usize, b: usize, c: usize, d: usize)
     requires { ⌜ ((m : Mesh) × (n : ℕ) × Rep (now w) s p m × CanPut m s i n (quad-of-nodes a b c d)) ⌝ }
+    requires { ⌜ Uneven (now w) s p ⌝ }
     ensures { λ r. ⌜ Puts (now (w .entry)) (now (w .exit)) s p i (quad-of-nodes a b c d) ⌝ }
 {
     w[i] = 4;
@@ -62,6 +65,7 @@ pub fn push_tri(w: &mut [u32], s: usize, p: usize, i: usize, a: usize, b: usize,
     requires { ⌜ ((m : Mesh) × Rep (now w) s p m × CanPush m s i (tri-of-nodes a b c)) ⌝ }
     ensures { λ r. ⌜ Turns (now (w .entry)) (now (w .exit)) s p (λ m. CanPush m s i (tri-of-nodes a b c)) (λ m. push-cell m (tri-of-nodes a b c)) ⌝ }
 {
+    forget_even(w, s, p);
     put_tri(w, s, p, i, a, b, c);
 }
 
@@ -79,13 +83,15 @@ pub fn push_quad(
     requires { ⌜ ((m : Mesh) × Rep (now w) s p m × CanPush m s i (quad-of-nodes a b c d)) ⌝ }
     ensures { λ r. ⌜ Turns (now (w .entry)) (now (w .exit)) s p (λ m. CanPush m s i (quad-of-nodes a b c d)) (λ m. push-cell m (quad-of-nodes a b c d)) ⌝ }
 {
+    forget_even(w, s, p);
     put_quad(w, s, p, i, a, b, c, d);
 }
 
-// The cell in slot i goes, if there is one, and what was noted of its nodes; the slot is not used again.
-pub fn remove_cell(w: &mut [u32], s: usize, p: usize, i: usize)
+// The cell in slot i goes, if there is one, and what was noted of its nodes; nothing is noted of the components.
+fn take_out(w: &mut [u32], s: usize, p: usize, i: usize)
     requires { ⌜ ((m : Mesh) × Rep (now w) s p m) ⌝ }
     requires { ⌜ i < s ⌝ }
+    requires { ⌜ Uneven (now w) s p ⌝ }
     ensures { λ r. ⌜ Turns (now (w .entry)) (now (w .exit)) s p Anything (λ m. remove-cell m i) ⌝ }
 {
     let n = wide(w[i]);
@@ -99,12 +105,23 @@ pub fn remove_cell(w: &mut [u32], s: usize, p: usize, i: usize)
     w[i] = 0;
 }
 
+// The cell in slot i goes, if there is one, and what was noted of its nodes and of the components; the slot is not used again.
+pub fn remove_cell(w: &mut [u32], s: usize, p: usize, i: usize)
+    requires { ⌜ ((m : Mesh) × Rep (now w) s p m) ⌝ }
+    requires { ⌜ i < s ⌝ }
+    ensures { λ r. ⌜ Turns (now (w .entry)) (now (w .exit)) s p Anything (λ m. remove-cell m i) ⌝ }
+{
+    forget_even(w, s, p);
+    take_out(w, s, p, i);
+}
+
 // The triangle a b c replaces the cell in slot i.
 pub fn set_tri(w: &mut [u32], s: usize, p: usize, i: usize, a: usize, b: usize, c: usize)
     requires { ⌜ ((m : Mesh) × Rep (now w) s p m × CanSet m i (tri-of-nodes a b c)) ⌝ }
     ensures { λ r. ⌜ Turns (now (w .entry)) (now (w .exit)) s p (λ m. CanSet m i (tri-of-nodes a b c)) (λ m. set-cell m i (tri-of-nodes a b c)) ⌝ }
 {
     remove_cell(w, s, p, i);
+    forget_even(w, s, p);
     put_tri(w, s, p, i, a, b, c);
 }
 
@@ -114,5 +131,6 @@ pub fn set_quad(w: &mut [u32], s: usize, p: usize, i: usize, a: usize, b: usize,
     ensures { λ r. ⌜ Turns (now (w .entry)) (now (w .exit)) s p (λ m. CanSet m i (quad-of-nodes a b c d)) (λ m. set-cell m i (quad-of-nodes a b c d)) ⌝ }
 {
     remove_cell(w, s, p, i);
+    forget_even(w, s, p);
     put_quad(w, s, p, i, a, b, c, d);
 }

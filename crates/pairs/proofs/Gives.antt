@@ -7,20 +7,23 @@ use mathlib.Core.Option.{Option, none, some}
 use Prim.Native.Nat.{ℕ, suc, _+_, _<_, _≤_}
 use native.Mathlib.Omega.{arith}
 use lib.Dec.{ltb}
-use lib.ListN.{length}
+use lib.ListN.{length, set}
 use lib.Ieee.{Float}
 use borrow.Author.Tests.{lt-ltb, le-ltb}
 use Rattle.definition.specs.Numbers.{base}
 use Rattle.definition.specs.Counts.{Region, OddRegion}
 use Rattle.definition.specs.Cells.{Live, Mesh, new-quad, nodes, quad-nodes, with-live, remove-cells, push-cell, live-tris}
-use Rattle.definition.specs.Components.{removing-leaves-odd-component}
+use Rattle.definition.specs.Components.{odd-one, removing-leaves-odd-component}
 use Rattle.definition.specs.Region.{region}
 use Rattle.definition.specs.Attempt as attempt
 use Rattle.definition.specs.Attempt.{replaced, replace, try-region, made, failed, no-slot}
-use Rattle.cells.specs.Layout.{mesh-end, refused-at}
+use Rattle.account.specs.QuadKeeps.{quad-tris}
+use Rattle.cells.specs.Layout.{even-at, mesh-end, refused-at}
+use Rattle.cells.specs.Rep.{Rep}
+use Rattle.cells.specs.Frames.{Keeps}
 use Rattle.cells.specs.Counting.{Few, Quadded}
 use Rattle.cells.specs.declared.counters.Counters.{Counters}
-use Rattle.cells.proofs.Frames.{rep-under, keeps-trans, keeps-more}
+use Rattle.cells.proofs.Frames.{rep-under, rep-even, keeps-trans, keeps-more, keeps-set}
 use Rattle.cells.proofs.Points.{pts-as}
 use Rattle.meshes.specs.Changes.{CanPush, quad-of-nodes}
 use Rattle.meshes.proofs.Counts.{live-few}
@@ -31,7 +34,7 @@ use Rattle.lending.specs.Ready.{lent, Ready}
 use Rattle.lending.specs.Ends.{end-of}
 use Rattle.lending.specs.declared.End.the-variants as ends
 use Rattle.components.specs.Odd.{OddTo}
-use Rattle.pairs.specs.Steps.{Corners, CanFill, CanGive, OddIf, Tries}
+use Rattle.pairs.specs.Steps.{Corners, CanFill, CanGive, OddIf, PlacedIf, Tries}
 use Rattle.pairs.specs.declared.one.Outcome.{Outcome}
 use Rattle.pairs.specs.declared.one.Outcome.the-variants.{Made, Failed, Full}
 use Rattle.pairs.proofs.Lives.{live-replaced}
@@ -80,6 +83,24 @@ module _ (s p : ℕ) (even : Bool) (a b d e : ℕ) (m : Mesh) (xs : List Live) (
   made-is : (even && removing-leaves-odd-component m xs) ≡ false → ltb s (m .used + 1) ≡ false → gives ≡ made (replaced m (new-quad a b d e) xs)
   unfolding replace
   made-is h k = replace-is h ∙ rw k
+
+-- the quad in place of the cells, and what is noted of the components then
+module _ (w w1 : List ℕ) (s p i n a b d e : ℕ) (t : Replaced w w1 s p i n a b d e) where
+  pub placed-plain : (even : Bool) → even ≡ false → PlacedIf w w1 s p i n even a b d e
+  placed-plain even h = record { rep = λ m xs l k v. t .rep m xs l k; keeps = t .keeps }
+
+  pub placed-even : (w2 : List ℕ) (even : Bool) → 1 ≤ s → even ≡ true → w2 ≡ set w1 (even-at s p) 1 → PlacedIf w w2 s p i n even a b d e
+  unfolding removing-leaves-odd-component
+  placed-even w2 even one h x =
+      record {
+        rep = λ m xs l k v.
+            subst (λ (z : List ℕ). Rep z s p (replaced m (new-quad a b d e) xs)) (sym x)
+            (rep-even w1 s p 1 (replaced m (new-quad a b d e) xs) one (λ y. ap odd-one (quad-tris m (new-quad a b d e) xs) ∙ v h) (t .rep m xs l k));
+        keeps = keeps-trans w w1 w2 (mesh-end s p) (t .keeps) (subst (λ (z : List ℕ). Keeps w1 z (mesh-end s p)) (sym x) (keeps-set w1 (mesh-end s p) (even-at s p) 1 (omega (arith, one))));
+      }
+
+kept-even : (even r : Bool) → even ≡ true → (even && r) ≡ false → r ≡ false
+kept-even even r h k = sym (ap (λ (b : Bool). b && r) h) ∙ k
 
 -- what a mesh keeps when a quad takes the place of a region
 record Filled (m m' : Mesh) : Type 0 where
@@ -145,11 +166,11 @@ module _ (w : List ℕ) (q : List Float) (s p : ℕ) (bucket : Float) (c : Count
             keeps = o .aside .keeps;
           }
 
-      module _ (k : c .used + 1 ≤ s) (w2 : List ℕ) (t : Replaced w1 w2 s p (c .used) n a b d e) (x : Counters) (y : Quadded c x n) where
+      module _ (k : c .used + 1 ≤ s) (w2 : List ℕ) (t : PlacedIf w1 w2 s p (c .used) n even a b d e) (x : Counters) (y : Quadded c x n) where
         ready2 : Ready w2 q s p bucket x (replaced m (new-quad a b d e) xs)
         ready2 =
             let f = filled m a b d e xs in
-            let rep2 = t .rep m xs (o .listed) (give-push k) in
+            let rep2 = t .rep m xs (o .listed) (give-push k) (λ v. kept-even even (removing-leaves-odd-component m xs) v (sym (o .is) ∙ h)) in
             let live2 : x .live ≡ live-tris (replaced m (new-quad a b d e) xs) = omega (arith, lives, g .listed .len, g .ready .counted .live, y .live) in
             let used2 : x .used ≡ replaced m (new-quad a b d e) xs .used = omega (arith, y .used, given, f .used) in
             record {

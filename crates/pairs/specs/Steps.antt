@@ -1,19 +1,20 @@
 -- One pair: what its steps ask, and how it ends.
 use mathlib.Core.Path.{_≡_}
-use mathlib.Core.Bool.{Bool, _&&_}
+use mathlib.Core.Bool.{Bool, true, false, _&&_}
 use mathlib.Core.List.{List, [], _∷_}
 use Prim.Native.Nat.{ℕ, _<_}
 use lib.Ieee.{Float}
 use Rattle.rings.specs.Rings.{Distinct, Below}
 use Rattle.definition.specs.Counts.{Refusal}
-use Rattle.definition.specs.Cells.{Quad, Live, Mesh}
+use Rattle.definition.specs.Cells.{Quad, Live, Mesh, new-quad}
 use Rattle.definition.specs.Components.{removing-leaves-odd-component}
 use Rattle.definition.specs.Attempt as attempt
 use Rattle.definition.specs.Attempt.{recover-all, open-sides}
 use Rattle.cells.specs.Layout.{mesh-end, refused-at}
-use Rattle.cells.specs.Rep.{TriIn}
+use Rattle.cells.specs.Rep.{Rep, TriIn}
 use Rattle.cells.specs.Frames.{Keeps}
 use Rattle.cells.specs.declared.counters.Counters.{Counters}
+use Rattle.meshes.specs.Changes.{CanPush, quad-of-nodes}
 use Rattle.regions.specs.Listing.{Listed, Aside}
 use Rattle.crossings.specs.Cross.{Known}
 use Rattle.flips.specs.Recover.{RecoverTo}
@@ -63,6 +64,12 @@ pub record OddIf (w w' : List ℕ) (s p n : ℕ) (even : Bool) (m : Mesh) (xs : 
   pub is : r ≡ (even && removing-leaves-odd-component m xs)
   pub listed : Listed w' s p n m xs
   pub aside : Aside w w' s p
+
+-- the quad took the place of the cells xs, of which it was known that none would be odd without them where components are to stay even
+pub record PlacedIf (w w' : List ℕ) (s p i n : ℕ) (even : Bool) (a b d e : ℕ) : Type 0 where
+  pub rep : (m : Mesh) (xs : List Live) → Listed w s p n m xs → CanPush m s i (quad-of-nodes a b d e) → (even ≡ true → removing-leaves-odd-component m xs ≡ false)
+      → Rep w' s p (attempt.replaced m (new-quad a b d e) xs)
+  pub keeps : Keeps w w' (mesh-end s p)
 
 -- the quad stands; d are the counters then
 pub record MadeTo (w : List ℕ) (q : List Float) (s p : ℕ) (bucket : Float) (c : Counters) (x : attempt.Tried) (d : Counters) : Type 0 where

@@ -1,5 +1,6 @@
 // One pair: its sides are recovered, and its region gives way to the quad.
 use cells::counters::Counters;
+use cells::evens::note_even;
 use cells::find::tri_owner;
 use components::odd::leaves_odd;
 use flips::recover::recover;
@@ -15,9 +16,10 @@ ghost use Rattle.definition.specs.Cells.{Live, Mesh, new-quad, tri-owner};
 ghost use Rattle.definition.specs.Region.{region};
 ghost use Rattle.definition.specs.Attempt.{try-region, try-pair};
 ghost use Rattle.crossings.specs.Cross.{Known};
+ghost use Rattle.meshes.specs.Changes.{CanPush, quad-of-nodes};
 ghost use Rattle.regions.specs.Listing.{Listed};
 ghost use Rattle.lending.specs.Ready.{lent};
-ghost use Rattle.pairs.specs.Steps.{Corners, CanTry, CanFill, CanGive, RecoversAll, OddIf, Tries};
+ghost use Rattle.pairs.specs.Steps.{Corners, CanTry, CanFill, CanGive, RecoversAll, OddIf, PlacedIf, Tries};
 
 // How a pair ends: the quad stands, with these counters; it failed, under a name; no triangle owns the front edge; or no slot is left.
 pub enum Outcome {
@@ -65,6 +67,28 @@ fn refuses_odd(w: &mut [u32], s: usize, p: usize, used: usize, even: bool, n: us
     leaves_odd(w, s, p, used, n)
 }
 
+// The quad a b d e takes the place of the n listed cells. Where components are to stay even, none is odd then, which is noted.
+fn place_noted(
+    w: &mut [u32],
+    s: usize,
+    p: usize,
+    used: usize,
+    even: bool,
+    n: usize,
+    a: usize,
+    b: usize,
+    d: usize,
+    e: usize,
+)
+    requires { ⌜ ((m : Mesh) × (xs : List Live) × Listed (now w) s p n m xs × CanPush m s used (quad-of-nodes a b d e)) ⌝ }
+    ensures { λ r. ⌜ PlacedIf (now (w .entry)) (now (w .exit)) s p used n even a b d e ⌝ }
+{
+    place_quad(w, s, p, used, n, a, b, d, e);
+    if even {
+        note_even(w, s, p);
+    }
+}
+
 // The n listed cells give way to the quad a b d e, unless that is refused as odd or no slot is left.
 fn give_way(
     w: &mut [u32],
@@ -87,7 +111,7 @@ fn give_way(
     if c.used + 1 > s {
         return Outcome::Full;
     }
-    place_quad(w, s, p, c.used, n, a, b, d, e);
+    place_noted(w, s, p, c.used, even, n, a, b, d, e);
     Outcome::Made(c.placed(n))
 }
 

@@ -2,3 +2,6 @@ pub mod Tests
 pub mod Ways
 pub mod Picks
 pub mod Turns
+pub mod Kept
+pub mod Lines
+pub mod Ranking

@@ -1,3 +1,4 @@
 pub mod Selects
 pub mod Pick
 pub mod Lengths
+pub mod Ranks

@@ -4,7 +4,7 @@ ghost use Prim.Native.Nat.{_+_, _-_, _*_, _/_, _^_, _≤_, _<_};
 ghost use lib.Ieee.{binary64, toBits, ofBits};
 ghost use Rattle.definition.specs.Root.{sqrt, floor};
 ghost use Rattle.rounding.specs.Parts.{Significand, Leading, Evened};
-ghost use Rattle.root.specs.Exact.{WholeRoot, Halved};
+ghost use Rattle.root.specs.Exact.{WholeRoot, Halved, Doubled, Nearest};
 ghost use Rattle.root.specs.Nan.{NanPattern};
 
 mod halves;
@@ -20,6 +20,12 @@ const WHOLE: u64 = 1075 * LEAD;
 const INFINITY: u64 = 2047 * LEAD;
 
 const SIGN: u64 = 2048 * LEAD;
+
+// Twice 2^52: the weight of the exponent in the bits without its last digit.
+const PAIR: u64 = 2 * LEAD;
+
+// What is added to what a root leaves over, so that it never falls below zero.
+const OFFSET: u64 = 8 * LEAD;
 
 // The significand of the finite double with the bits `b`, sign left out, as a whole number below 2^53.
 fn significand(b: u64) -> u64
@@ -68,6 +74,17 @@ fn evened(n: u64, g: u64) -> u64
     n * 2
 }
 
+// The significand of a normal double, doubled for an odd exponent. `last` has the 52 digits below the leading one, and on top of them a 1 for an odd exponent.
+fn doubled(last: u64) -> u64
+    requires { ⌜ last < 2 ^ 53 ⌝ }
+    ensures { λ r. ⌜ Doubled last r ⌝ }
+{
+    if last < LEAD {
+        return last + LEAD;
+    }
+    last * 2
+}
+
 // The exact result: a whole root, and what is left over of the number when its square is taken away.
 struct Whole {
     root: u64,
@@ -102,18 +119,6 @@ fn by_digits(r: u64) -> Whole
     }
 }
 
-// The exact result for `r * 2^54`: a guess that leaves no more over than a whole root, and otherwise digit by digit. `hint` has the bits of a double near `r / 2^52`.
-fn whole_root(r: u64, hint: u64) -> Whole
-    requires { ⌜ (r < 2 ^ 54) × (hint < 2047 * 2 ^ 52) ⌝ }
-    ensures { λ w. ⌜ WholeRoot (r * 2 ^ 54) (w .root) (w .rest) ⌝ }
-{
-    let w = halves::guessed(r, hint);
-    if w.rest / 2 < w.root {
-        return w;
-    }
-    by_digits(r)
-}
-
 // The rounding: the root's last digit goes, upward where it is a half and something is left over, and to the even neighbour where it is a half and nothing is.
 fn rounded(w: Whole) -> u64
     ensures { λ r. ⌜ Halved (w .root) (w .rest) r ⌝ }
@@ -128,7 +133,41 @@ fn rounded(w: Whole) -> u64
     half + half % 2
 }
 
-// The bits of the root of the finite double above zero with the bits `b`.
+// The root of `r * 2^52`, rounded to nearest: the guess where its square leaves over what it may, its neighbour where that one's does, and otherwise digit by digit.
+// `hint` has the bits of a double near `r / 2^52`.
+fn nearest_root(r: u64, hint: u64) -> u64
+    requires { ⌜ (0 < r) × (r < 2 ^ 54) × (hint < 2047 * 2 ^ 52) ⌝ }
+    ensures { λ q. ⌜ Nearest (r * 2 ^ 52) q ⌝ }
+{
+    let near = halves::guess(hint);
+    if near >= 1.0 {
+        let s = f64::to_bits(near) % PAIR;
+        let d = halves::left_over(r, s);
+        if d <= OFFSET + s {
+            if d + s > OFFSET {
+                return s;
+            }
+            if d + 3 * s > OFFSET + 2 {
+                return s - 1;
+            }
+        } else if d <= OFFSET + 3 * s + 2 {
+            return s + 1;
+        }
+    }
+    rounded(by_digits(r))
+}
+
+// The bits of the root of the normal double with the bits `b`. The root has half of the exponent, made even.
+fn normal_root(b: u64) -> u64
+    requires { ⌜ (2 ^ 52 ≤ b) × (b < 2047 * 2 ^ 52) ⌝ }
+    ensures { λ r. ⌜ (r < 2047 * 2 ^ 52) × (r ≡ toBits binary64 (sqrt (ofBits binary64 b))) ⌝ }
+{
+    let up = b + LEAD;
+    let last = up % PAIR;
+    (up / PAIR + 510) * LEAD + nearest_root(doubled(last), last + ONE)
+}
+
+// The bits of the root of the finite double above zero with the bits `b`, digit by digit.
 fn root_bits(b: u64) -> u64
     requires { ⌜ (0 < b) × (b < 2047 * 2 ^ 52) ⌝ }
     ensures { λ r. ⌜ (r < 2047 * 2 ^ 52) × (r ≡ toBits binary64 (sqrt (ofBits binary64 b))) ⌝ }
@@ -137,12 +176,11 @@ fn root_bits(b: u64) -> u64
     let z = spare(m);
     let g = exponent(b) + 52 - z;
     let n = shifted(m, z);
-    let w = whole_root(evened(n, g), n + (1022 + g % 2) * LEAD);
-    (g / 2 + 485) * LEAD + rounded(w)
+    (g / 2 + 485) * LEAD + rounded(by_digits(evened(n, g)))
 }
 
-// The double nearest to the root of `x`. The special operands first: a NaN and what is below zero have no root, a zero and plus infinity are their own.
-pub fn sqrt(x: f64) -> f64
+// The root of any double, digit by digit. The special operands first: a NaN and what is below zero have no root, a zero and plus infinity are their own.
+fn other_root(x: f64) -> f64
     ensures is { λ r. ⌜ r ≡ sqrt x ⌝ }
     ensures pattern { λ r. ⌜ NanPattern x r ⌝ }
 {
@@ -160,6 +198,22 @@ pub fn sqrt(x: f64) -> f64
         return x;
     }
     f64::from_bits(root_bits(b))
+}
+
+// The double nearest to the root of `x`. A normal double above zero goes the short way.
+pub fn sqrt(x: f64) -> f64
+    ensures is { λ r. ⌜ r ≡ sqrt x ⌝ }
+    ensures pattern { λ r. ⌜ NanPattern x r ⌝ }
+{
+    if x > 0.0 {
+        let b = f64::to_bits(x);
+        if b >= LEAD {
+            if b < INFINITY {
+                return f64::from_bits(normal_root(b));
+            }
+        }
+    }
+    other_root(x)
 }
 
 // `m` with its `k` last digits cleared.

@@ -1,36 +1,36 @@
 -- A round: the front's edges, its loops and their perimeters come to memory, and the loops have their turns.
 use mathlib.Core.Path.{_≡_, refl, ap, sym, _∙_, subst}
-use mathlib.Core.List.{List, [], _∷_, _++_}
-use Prim.{⊥, absurd, tt}
-use Prim.Native.Nat.{ℕ, zero, suc, _+_, _-_, _*_, _^_, _<_, _≤_}
+use mathlib.Core.List.{List, [], _∷_}
+use Prim.{⊥, absurd}
+use Prim.Native.Nat.{ℕ, _*_, _≤_}
 use native.Mathlib.Omega.{arith}
 use lib.Ieee.{Float}
-use lib.ListN.{length, getD}
-use Rattle.definition.specs.Lists.{flat-map, concat}
+use lib.ListN.{length}
+use Rattle.definition.specs.Lists.{filter, flat-map, concat}
 use Rattle.definition.specs.Counts.{_⊞_, emptied}
-use Rattle.definition.specs.Plane.{Node, Edge}
-use Rattle.definition.specs.Cells.{Mesh, front}
+use Rattle.definition.specs.Plane.{Edge}
+use Rattle.definition.specs.Cells.{front}
 use Rattle.definition.specs.Loops.{in-order, ranked-loop, loops-of, front-loops}
 use Rattle.definition.specs.Front.{State, Progress, stuck, progressed, limited, stopped, counting, try-loops, round}
-use Rattle.cells.specs.Layout.{mesh-end, front-u-at, front-links-at, done-at}
 use Rattle.cells.specs.Rep.{Room, Rep}
 use Rattle.cells.specs.declared.counters.Counters.{Counters}
-use Rattle.edges.specs.Stored.{Edges, EdgesAt, LoopList, Perimeters, pending}
+use Rattle.edges.specs.Stored.{LoopList, Perimeters}
 use Rattle.fronts.specs.Front.{FrontTo}
 use Rattle.loops.specs.Loop.{CanLoop, LoopsTo, CanMeasure}
+use Rattle.loops.specs.Sift.{some-open, CanSift, SiftedTo}
 use Rattle.picks.specs.Pick.{CanTurn}
-use Rattle.picks.proofs.Turns.{loops-few}
+use Rattle.picks.specs.Ranks.{RankedTo}
+use Rattle.picks.proofs.Kept.{loop-list-kept}
 use Rattle.lending.specs.Ready.{Ready}
 use Rattle.settling.specs.declared.standing.Standing.{Standing}
 use Rattle.settling.specs.declared.standing.Step.{Step}
 use Rattle.settling.specs.declared.standing.Going.the-variants as goings
-use Rattle.settling.specs.Standings.{counts-of, FewTally, CountsMore}
+use Rattle.settling.specs.Standings.{FewTally, CountsMore}
 use Rattle.steps.specs.Runs.{Setup, settings-of, Leaves, Goes, Stepped}
-use Rattle.rounds.specs.Rounds.{CanLoops, ClearTo, Rounded}
+use Rattle.rounds.specs.Rounds.{CanLoops, Rounded}
 use Rattle.steps.proofs.Attempting.{few-tally}
-use Rattle.rounds.proofs.Places.{SameEdges}
 use Rattle.rounds.proofs.Trying.{goes-kept, goes-noted, points-within}
-use Rattle.rounds.proofs.Looping.{can-turn-kept, pending-all, loops-left}
+use Rattle.rounds.proofs.Sifting.{sifted-round}
 
 -- the memory stands for the state
 pub leaves-of : (w : List ℕ) (q : List Float) (quads : List ℕ) (x : Setup) (g : Standing) (st : State) (es : List Edge) → Goes w q quads x g st es → Leaves w q quads x g st
@@ -104,35 +104,50 @@ module _ (w : List ℕ) (q : List Float) (quads : List ℕ) (x : Setup) (g : Sta
       loops₂ : LoopList w₂ (x .s) (x .p) (length (st .mesh .points)) k r ls
       loops₂ = subst (λ (n : ℕ). LoopList w₂ (x .s) (x .p) n k r ls) points-number (lo .loops)
 
-      pub room₂ : Room w₂ (x .s) (x .p)
+      room₂ : Room w₂ (x .s) (x .p)
       room₂ = goes₂ .holds .ready .rep .room
 
-      pub loops-few₂ : r ≤ 3 * x .s
-      loops-few₂ = omega (arith, loops-few w₂ (x .s) (x .p) 0 0 ls (loops₂ .at), loops₂ .len, loops₂ .total, loops₂ .few)
+      pub can-sift : CanSift w₂ (x .s) (x .p) (length (st .mesh .points)) k r ls (st .blocked)
+      can-sift = record { room = room₂; loops = loops₂; nodes = rep-now .points; quads = length (st .quads); ever = goes₂ .ever; blocks = goes₂ .holds .so-far .blocks }
 
-      pub can-measure : (f : List Float) → 3 * x .s ≤ length f → CanMeasure w₂ q f (x .s) (x .p) k r (st .mesh) ls
-      can-measure f l = record { room = room₂; pts = z .holds .ready .pts; loops = loops₂; floats = l }
+      few-edges : length (concat ls) ≤ 65536
+      few-edges = let small = z .holds .ready .small .slots in omega (arith, loops₂ .total, loops₂ .few)
 
-      module _ (f : List Float) (long : 3 * x .s ≤ length f) (sums : Perimeters f (x .s) (x .p) (st .mesh .points) 0 ls) (w₃ : List ℕ) (cl : ClearTo w₂ w₃ (x .s) (x .p) r) where
+      module _ (w₃ : List ℕ) (many kept : ℕ) (si : SiftedTo w₂ w₃ (x .s) (x .p) (length (st .mesh .points)) ls (st .blocked) many kept) where
+        abbrev opens : List (List Edge)
+        opens = filter (some-open (st .blocked)) ls
+
         goes₃ : Goes w₃ q quads x g st []
-        goes₃ = goes-kept w₂ w₃ q quads x g st [] (cl .len) (λ i l. cl .below i (omega arith)) goes₂
+        goes₃ = goes-kept w₂ w₃ q quads x g st [] (si .len) (λ i l. si .below i (omega arith)) goes₂
 
-        pub can-loops : CanLoops w₃ q f quads x k r g st (st .mesh .points) ls
-        can-loops =
+        room₃ : Room w₃ (x .s) (x .p)
+        room₃ = goes₃ .holds .ready .rep .room
+
+        pub can-measure : (f : List Float) → 3 * x .s ≤ length f → CanMeasure w₃ q f (x .s) (x .p) kept many (st .mesh) opens
+        can-measure f l = record { room = room₃; pts = z .holds .ready .pts; loops = si .loops; floats = l }
+
+        pub can-turn : (f : List Float) → 3 * x .s ≤ length f → Perimeters f (x .s) (x .p) (st .mesh .points) 0 opens → CanTurn w₃ f (x .s) (x .p) kept many (st .mesh .points) opens
+        can-turn f long sums =
             let small = z .holds .ready .small .slots in
-            record {
-              goes = goes₃;
-              turn = can-turn-kept w₂ w₃ (x .s) (x .p) (λ i a b. cl .below i b) f k r (st .mesh .points) ls (cl .len)
-                  (record { room = room₂; within = points-within w₂ q quads x g st [] goes₂; loops = loops₂; floats = long; sums = sums; many = omega (arith, loops₂ .total, loops₂ .few) });
-              grown = omega arith;
-            }
+            record { room = room₃; within = points-within w₃ q quads x g st [] goes₃; loops = si .loops; floats = long; sums = sums; many = omega (arith, si .loops .total, si .loops .few) }
 
-        all-pending : pending w₃ (x .s) (x .p) 0 ls ≡ ls
-        all-pending = pending-all w₃ (x .s) (x .p) 0 ls (λ i a b. cl .zero i (omega (arith, loops₂ .len)))
+        module _ (w₄ : List ℕ) (ra : RankedTo w₃ w₄ (x .s) (x .p) many (st .mesh .points) opens) where
+          abbrev os : List (List Edge)
+          os = in-order (flat-map (ranked-loop (st .mesh .points)) opens)
 
-        pub full-rounded : (k ≡ 0 → ⊥) → (w₄ : List ℕ) (q₄ : List Float) (quads₄ : List ℕ) (s₄ : Step) → Stepped w₄ q₄ quads₄ x [] (try-loops (settings-of x) (x .given) st (loops-left w₃ x (st .mesh .points) ls)) s₄
-            → Rounded w₄ q₄ quads₄ x (round (settings-of x) (x .given) st (front (st .mesh))) s₄
-        full-rounded e w₄ q₄ quads₄ s₄ h =
-            let same : round (settings-of x) (x .given) st es ≡ try-loops (settings-of x) (x .given) st (loops-left w₃ x (st .mesh .points) ls) =
-            full-round x (x .given) st es (λ n. e (sym (to .0 .at .len) ∙ n)) ∙ ap (λ (l : List (List Edge)). try-loops (settings-of x) (x .given) st (in-order (flat-map (ranked-loop (st .mesh .points)) l))) (sym all-pending) in
-            subst (λ p. Rounded w₄ q₄ quads₄ x p s₄) (sym same) (rounded w₄ q₄ quads₄ x (try-loops (settings-of x) (x .given) st (loops-left w₃ x (st .mesh .points) ls)) s₄ h)
+          pub can-loops : CanLoops w₄ q quads x kept many g st (length (st .mesh .points)) opens os
+          can-loops =
+              record {
+                goes = goes-kept w₃ w₄ q quads x g st [] (ra .len) (λ i l. ra .below i (omega arith)) goes₃;
+                loops = loop-list-kept w₃ w₄ (x .s) (x .p) (λ i a b. ra .below i b) (length (st .mesh .points)) kept many opens (si .loops);
+                line = ra .line;
+                grown = omega arith;
+              }
+
+          -- the round is that by all loops
+          pub full-rounded : (k ≡ 0 → ⊥) → (w₅ : List ℕ) (q₅ : List Float) (quads₅ : List ℕ) (s₅ : Step) → Stepped w₅ q₅ quads₅ x [] (try-loops (settings-of x) (x .given) st os) s₅
+              → Rounded w₅ q₅ quads₅ x (round (settings-of x) (x .given) st (front (st .mesh))) s₅
+          full-rounded e w₅ q₅ quads₅ s₅ h =
+              let all = sifted-round w₂ (x .s) (x .p) k r (settings-of x) (x .given) st ls room₂ (points-within w₂ q quads x g st [] goes₂) loops₂ few-edges in
+              subst (λ p. Rounded w₅ q₅ quads₅ x p s₅) (all ∙ sym (full-round x (x .given) st es (λ n. e (sym (to .0 .at .len) ∙ n))))
+              (rounded w₅ q₅ quads₅ x (try-loops (settings-of x) (x .given) st os) s₅ h)

@@ -1,19 +1,20 @@
 -- A round: the loops of the front as it finds it, one after the other.
 use mathlib.Core.Path.{_≡_}
-use mathlib.Core.List.{List, [], _∷_}
+use mathlib.Core.List.{List, []}
 use Prim.Native.Nat.{ℕ, _+_, _*_, _<_, _≤_}
 use lib.ListN.{length, getD}
 use lib.Ieee.{Float}
-use Rattle.definition.specs.Plane.{Node, Edge}
+use Rattle.definition.specs.Plane.{Edge}
 use Rattle.definition.specs.Front.{State, Progress, stuck, progressed, limited, stopped}
-use Rattle.cells.specs.Layout.{starts-at, done-at, tried-at}
+use Rattle.cells.specs.Layout.{starts-at}
 use Rattle.cells.specs.Rep.{Room}
-use Rattle.picks.specs.Pick.{CanTurn}
+use Rattle.edges.specs.Stored.{LoopList}
+use Rattle.picks.specs.Ranks.{InLine}
 use Rattle.settling.specs.declared.standing.Standing.{Standing}
 use Rattle.settling.specs.declared.standing.Step.{Step}
 use Rattle.settling.specs.declared.standing.Going.the-variants as goings
 use Rattle.settling.specs.Settles.{want-kind}
-use Rattle.steps.specs.Runs.{Setup, Leaves, Goes, Stepped}
+use Rattle.steps.specs.Runs.{Setup, Leaves, Goes}
 
 -- the word of loop j can be read
 pub record CanStart (w : List ℕ) (s p j : ℕ) : Type 0 where
@@ -25,18 +26,12 @@ pub record LoopEnd (w : List ℕ) (s p k r j e : ℕ) : Type 0 where
   pub next : j + 1 < r → e ≡ getD w (starts-at s p + (j + 1)) 0
   pub last : r ≤ j + 1 → e ≡ k
 
--- the r loops ls of the points ps stand in memory, with their perimeters; points were added since
-pub record CanLoops (w : List ℕ) (q f : List Float) (quads : List ℕ) (x : Setup) (k r : ℕ) (g : Standing) (st : State) (ps : List Node) (ls : List (List Edge)) : Type 0 where
+-- the r loops ls of the first n points stand in memory, and in the line they are the loops os; points were added since
+pub record CanLoops (w : List ℕ) (q : List Float) (quads : List ℕ) (x : Setup) (k r : ℕ) (g : Standing) (st : State) (n : ℕ) (ls os : List (List Edge)) : Type 0 where
   pub goes : Goes w q quads x g st []
-  pub turn : CanTurn w f (x .s) (x .p) k r ps ls
-  pub grown : length ps ≤ length (st .mesh .points)
-
--- the marks of the r loops are cleared, and nothing else changed but marks of loops
-pub record ClearTo (w w' : List ℕ) (s p r : ℕ) : Type 0 where
-  pub len : length w' ≡ length w
-  pub zero : (j : ℕ) → j < r → getD w' (done-at s p + j) 0 ≡ 0
-  pub below : (i : ℕ) → i < done-at s p → getD w' i 0 ≡ getD w i 0
-  pub above : (i : ℕ) → tried-at s p ≤ i → getD w' i 0 ≡ getD w i 0
+  pub loops : LoopList w (x .s) (x .p) n k r ls
+  pub line : InLine w (x .s) (x .p) r ls os
+  pub grown : n ≤ length (st .mesh .points)
 
 -- after a round, by cases: the next one starts from a quad
 abbrev pub Rounded : List ℕ → List Float → List ℕ → Setup → Progress → Step → Type 0

@@ -53,7 +53,7 @@ pub record CanTry (w : List ℕ) (q : List Float) (quads : List ℕ) (x : Setup)
   pub goes : Goes w q quads x g st (by-length (st .mesh .points) (waiting w (x .s) (x .p) b (length l)))
   pub places : OnPlaces w (x .s) (x .p) b e (length (st .mesh .points)) l
 
--- the front's edges, its loops and the marks of loops are as they were
+-- the front's edges, its loops and their order are as they were
 pub record LoopsKept (w w' : List ℕ) (s p : ℕ) : Type 0 where
   pub len : length w' ≡ length w
   pub same : (i : ℕ) → front-u-at s p ≤ i → i < tried-at s p → getD w' i 0 ≡ getD w i 0

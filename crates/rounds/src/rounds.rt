@@ -5,7 +5,8 @@ use cells::layout::starts_at;
 use fronts::front_edges;
 use loops::front::front_loops;
 use loops::measure::perimeters;
-use picks::pick_loop;
+use loops::sift::open_loops;
+use picks::ranks::rank_loops;
 use rings::wide;
 use settling::standing::Going;
 use settling::standing::Standing;
@@ -16,17 +17,13 @@ ghost use mathlib.Core.Path.{_≡_};
 ghost use mathlib.Core.List.{List, []};
 ghost use Prim.Native.Nat.{ℕ, _+_, _*_, _≤_};
 ghost use lib.ListN.{length, getD};
-ghost use Rattle.definition.specs.Lists.{flat-map};
-ghost use Rattle.definition.specs.Plane.{Node, Edge};
+ghost use Rattle.definition.specs.Plane.{Edge};
 ghost use Rattle.definition.specs.Cells.{front};
-ghost use Rattle.definition.specs.Loops.{in-order, ranked-loop};
 ghost use Rattle.definition.specs.Front.{State, try-loops, round};
 ghost use Rattle.cells.specs.Layout.{starts-at};
-ghost use Rattle.cells.specs.Rep.{Room};
-ghost use Rattle.edges.specs.Stored.{pending};
 ghost use Rattle.lending.specs.Ready.{lent};
 ghost use Rattle.steps.specs.Runs.{Begun, setup, Goes, Stepped};
-ghost use Rattle.rounds.specs.Rounds.{CanStart, LoopEnd, CanLoops, ClearTo, Rounded};
+ghost use Rattle.rounds.specs.Rounds.{CanStart, LoopEnd, CanLoops, Rounded};
 
 // The place where loop j starts.
 fn loop_start(w: &[u32], s: usize, p: usize, j: usize) -> usize
@@ -49,25 +46,10 @@ fn loop_end(w: &[u32], s: usize, p: usize, k: usize, r: usize, j: usize) -> usiz
     k
 }
 
-// The turn of none of the r loops is over.
-fn clear_done(w: &mut [u32], s: usize, p: usize, r: usize)
-    requires { ⌜ Room (now w) s p ⌝ }
-    requires { ⌜ r ≤ 3 * s ⌝ }
-    ensures { λ u. ⌜ ClearTo (now (w .entry)) (now (w .exit)) s p r ⌝ }
-{
-    let d = done_at(s, p);
-    let mut j = 0;
-    while j < r {
-        w[d + j] = 0;
-        j += 1;
-    }
-}
-
-// The loops whose turn is not over, by perimeter, until one gives a quad or the run ends.
+// The loops in the line, one after the other, until one gives a quad or the run ends.
 fn try_loops(
     w: &mut [u32],
     q: &mut [f64],
-    f: &[f64],
     quads: &mut [u32],
     s: usize,
     p: usize,
@@ -79,18 +61,14 @@ fn try_loops(
     r: usize,
     before: Standing,
 ) -> Step
-    requires { ⌜ ((z : Begun) × (st : State) × (ps : List Node) × (ls : List (List Edge)) × CanLoops (now w) (now q) (now f) (now quads) (setup s p given bucket size even z) k r before st ps ls) ⌝ }
-    ensures { λ t. ⌜ ((z : Begun) (st : State) (ps : List Node) (ls : List (List Edge)) → CanLoops (now (w .entry)) (now (q .entry)) (now (f .entry)) (now (quads .entry)) (setup s p given bucket size even z) k r before st ps ls → Stepped (now (w .exit)) (now (q .exit)) (now (quads .exit)) (setup s p given bucket size even z) [] (try-loops (lent s p size even) given st (in-order (flat-map (ranked-loop ps) (pending (now (w .entry)) s p 0 ls)))) t) ⌝ }
+    requires { ⌜ ((z : Begun) × (st : State) × (n : ℕ) × (ls : List (List Edge)) × (os : List (List Edge)) × CanLoops (now w) (now q) (now quads) (setup s p given bucket size even z) k r before st n ls os) ⌝ }
+    ensures { λ t. ⌜ ((z : Begun) (st : State) (n : ℕ) (ls os : List (List Edge)) → CanLoops (now (w .entry)) (now (q .entry)) (now (quads .entry)) (setup s p given bucket size even z) k r before st n ls os → Stepped (now (w .exit)) (now (q .exit)) (now (quads .exit)) (setup s p given bucket size even z) [] (try-loops (lent s p size even) given st os) t) ⌝ }
 {
+    let d = done_at(s, p);
     let mut g = before;
-    loop {
-        let j = pick_loop(w, f, s, p, r);
-        if j == r {
-            return Step {
-                kind: Going::Stuck,
-                standing: g,
-            };
-        }
+    let mut i = 0;
+    while i < r {
+        let j = wide(w[d + i]);
         let b = loop_start(w, s, p, j);
         let e = loop_end(w, s, p, k, r, j);
         let t = take_turn(w, q, quads, s, p, given, bucket, size, even, b, e, g);
@@ -99,10 +77,15 @@ fn try_loops(
             return t;
         }
         g = t.standing;
+        i += 1;
+    }
+    Step {
+        kind: Going::Stuck,
+        standing: g,
     }
 }
 
-// One round.
+// One round: the loops that have an edge that is not blocked have their turns; those of the others would do nothing.
 pub fn round(
     w: &mut [u32],
     q: &mut [f64],
@@ -131,12 +114,14 @@ pub fn round(
         };
     }
     let r = front_loops(w, s, p, n, k);
-    perimeters(w, q, f, s, p, k, r);
-    clear_done(w, s, p, r);
+    let x = open_loops(w, s, p, k, r);
+    let kept = x.edges;
+    let many = x.loops;
+    perimeters(w, q, f, s, p, kept, many);
+    rank_loops(w, f, s, p, many);
     try_loops(
         w,
         q,
-        f,
         quads,
         s,
         p,
@@ -144,8 +129,8 @@ pub fn round(
         bucket,
         size,
         even,
-        k,
-        r,
+        kept,
+        many,
         before,
     )
 }

@@ -8,7 +8,8 @@ use Rattle.definition.specs.Cells.{Live, Mesh}
 use Rattle.plane.specs.Vectors.{vec}
 use Rattle.ideals.specs.Wanted.{turn}
 use Rattle.choices.specs.Choice.{is-choice, CanScan}
-use Rattle.choices.proofs.Lists.{Listing, listing-start, listing-more, listing-end, hand-kept}
+use Rattle.choices.proofs.Lists.{Listing, listing-from, listing-more, listing-end, hand-kept}
+use Rattle.choices.proofs.Growth.{choice-before, choice-behind}
 use borrow.Author.Needs.{needs}
 use Rattle.choices.proofs.scan.Statement.{statement}
 use Rattle.choices.proofs.scan.Tie as tie
@@ -17,43 +18,60 @@ use Rattle.choices.proofs.scan.Lts as lts
 use Rattle.choices.proofs.add.Reads as add-reads
 use Rattle.choices.proofs.is_choice.Reads as is-choice-reads
 use Rattle.choices.proofs.far_square.Reads as far-square-reads
+use Rattle.choices.proofs.spans.span_for.Reads as span-for-reads
 
 abbrev Inv-loop : tie.InvT-loop
-Inv-loop w₀ q s p k n b left a other normal target far r₀ v₀ w r v =
-    (length w ≡ length w₀) × (r ≤ v) × (v ≤ n) × ((m : Mesh) (g : List Live) → CanScan w₀ q s p k n b a other m g → Listing w₀ w p b v r (is-choice (turn left) m a other (vec normal) target g))
+Inv-loop w₀ q s p k n b left a other normal target far g r₀ v₀ w r v =
+    (length w ≡ length w₀) × (r ≤ v) × (v ≤ n) × ((m : Mesh) (region : List Live) → CanScan w₀ q s p k n b a other m region → Listing w₀ w p b v r (is-choice (turn left) m a other (vec normal) target region))
 
 abbrev μ-loop : tie.MeasureT-loop
-μ-loop w₀ q s p k n b left a other normal target far r₀ v₀ w r v = n - v
+μ-loop w₀ q s p k n b left a other normal target far g r₀ v₀ w r v = n - v
 
 far-square-requires : tie.Need-far-square-requires Inv-loop μ-loop
 far-square-requires c κs = search needs
 
+span-for-requires : tie.Need-span-for-requires Inv-loop μ-loop
+span-for-requires c κs =
+    let t = c .before .before .before .before in
+    let a = t .args in
+    let h = t .pre .2 in
+    (a .q .now, t .pre .0, t .pre .1, h .hand, omega (arith, h .first, h .count))
+
 loop-holds : tie.Need-loop-holds Inv-loop μ-loop
 loop-holds c =
-    let t = c .before .before .before in
+    let sf = c in
+    let t = sf .before .before .before .before .before in
     let a = t .args in
-    (refl, omega arith, omega arith, λ m g h. listing-start (a .w .now) (a .p) (a .b) (is-choice (turn (a .left)) m (a .a) (a .other) (vec (a .normal)) (a .target) g))
+    let h = t .pre .2 in
+    let y = sf .span-for .ensures (a .q .now) (t .pre .0) (t .pre .1) (h .hand) (omega (arith, h .first, h .count)) in (
+      refl,
+      omega arith,
+      omega (arith, y .node .from, h .first),
+      λ m region e.
+          let z = sf .span-for .ensures (a .q .now) m region (e .hand) (omega (arith, e .first, e .count)) in
+          listing-from (a .w .now) (a .p) (a .b) (sf .span-for .result .low) (is-choice (turn (a .left)) m (a .a) (a .other) (vec (a .normal)) (a .target) region)
+          (λ u k. choice-before (turn (a .left)) m (a .a) (a .other) (vec (a .normal)) (a .target) region u (sf .span-for .result) z k),
+    )
 
 is-choice-requires : tie.Need-is-choice-requires Inv-loop μ-loop
 is-choice-requires c κs =
     let i = c .before in
-    let l = i .before in
+    let l = i .before .before in
     let x = l .loop in
-    let fs = l .before in
+    let sf = l .before in
+    let fs = sf .before .before in
     let t = fs .before .before .before in
     let a = t .args in
-    let m = t .pre .0 in
-    let g = t .pre .1 in
     let h = t .pre .2 in
-    let y = x .inv .3 m g h in
-    let n : a .n ≡ length (m .points) = h .count in
-    let v : x .v < a .n = i .loop-test .taken in (
+    let y = sf .span-for .ensures (a .q .now) (t .pre .0) (t .pre .1) (h .hand) (omega (arith, h .first, h .count)) in
+    let n : a .n ≡ length (t .pre .0 .points) = h .count in
+    let v : x .v < a .n = omega (arith, i .if1 .taken, y .known, n) in (
       (
-        m,
-        g,
-        hand-kept (a .w .now) (x .w) (a .q .now) (a .s) (a .p) (a .k) (a .b) m g (h .hand) (h .from) (y .besides),
-        record { node = omega (arith, h .first); end = omega (arith, h .second) },
-        record { first = omega (arith, h .first); second = omega arith },
+        t .pre .0,
+        t .pre .1,
+        hand-kept (a .w .now) (x .w) (a .q .now) (a .s) (a .p) (a .k) (a .b) (t .pre .0) (t .pre .1) (h .hand) (h .from) (x .inv .3 (t .pre .0) (t .pre .1) h .besides),
+        record { node = omega (arith, n, h .first); end = omega (arith, n, h .second) },
+        record { first = omega (arith, n, h .first); second = omega (arith, n, v) },
       ),
       fs .far-square .ensures,
     )
@@ -61,69 +79,105 @@ is-choice-requires c κs =
 add-requires : tie.Need-add-requires Inv-loop μ-loop
 add-requires c κs =
     let i = c .before .before .before in
-    let l = i .before in
+    let l = i .before .before in
     let x = l .loop in
-    let fs = l .before in
+    let sf = l .before in
+    let fs = sf .before .before in
     let t = fs .before .before .before in
     let a = t .args in
     let h = t .pre .2 in
+    let y = sf .span-for .ensures (a .q .now) (t .pre .0) (t .pre .1) (h .hand) (omega (arith, h .first, h .count)) in
+    let n : a .n ≡ length (t .pre .0 .points) = h .count in
+    let v : x .v < a .n = omega (arith, i .if1 .taken, y .known, n) in
     let r = h .hand .rep in
     record {
-      fits = omega (arith, x .inv .0, x .inv .1, i .loop-test .taken, h .count, r .points, h .to, r .room .fits);
-      small = omega (arith, i .loop-test .taken, h .count, r .points, r .room .small);
+      fits = omega (arith, x .inv .0, x .inv .1, v, n, r .points, h .to, r .room .fits);
+      small = omega (arith, v, n, r .points, r .room .small);
     }
 
 add-v : tie.Need-add-v Inv-loop μ-loop
-add-v c = search needs
+add-v c =
+    let i = c .before .before .before .before .before .before in
+    let l = i .before .before in
+    let x = l .loop in
+    let sf = l .before in
+    let fs = sf .before .before in
+    let t = fs .before .before .before in
+    let a = t .args in
+    let h = t .pre .2 in
+    let y = sf .span-for .ensures (a .q .now) (t .pre .0) (t .pre .1) (h .hand) (omega (arith, h .first, h .count)) in
+    let n : a .n ≡ length (t .pre .0 .points) = h .count in
+    let v : x .v < a .n = omega (arith, i .if1 .taken, y .known, n) in
+    let r = h .hand .rep in
+    omega (arith, v, n, r .points, r .room .small)
 
 loop-less : tie.Need-loop-less Inv-loop μ-loop
 loop-less c =
     let i = c .before .before .before .before .before .before in
-    omega (arith, i .loop-test .taken)
+    let l = i .before .before in
+    let x = l .loop in
+    let sf = l .before in
+    let fs = sf .before .before in
+    let t = fs .before .before .before in
+    let a = t .args in
+    let h = t .pre .2 in
+    let y = sf .span-for .ensures (a .q .now) (t .pre .0) (t .pre .1) (h .hand) (omega (arith, h .first, h .count)) in
+    let n : a .n ≡ length (t .pre .0 .points) = h .count in
+    let v : x .v < a .n = omega (arith, i .if1 .taken, y .known, n) in
+    omega (arith, v)
 
 loop-again : tie.Need-loop-again Inv-loop μ-loop
 loop-again c =
     let ad = c .before .before in
     let ic = ad .before .before in
     let i = ic .before .before in
-    let l = i .before in
+    let l = i .before .before in
     let x = l .loop in
-    let fs = l .before in
+    let sf = l .before in
+    let fs = sf .before .before in
     let t = fs .before .before .before in
     let a = t .args in
+    let h = t .pre .2 in
+    let y = sf .span-for .ensures (a .q .now) (t .pre .0) (t .pre .1) (h .hand) (omega (arith, h .first, h .count)) in
+    let n : a .n ≡ length (t .pre .0 .points) = h .count in
+    let v : x .v < a .n = omega (arith, i .if1 .taken, y .known, n) in
     let e = ad .add .ensures in (
       ad .add .kept .0 ∙ x .inv .0,
       omega (arith, e .most, x .inv .1),
-      omega (arith, i .loop-test .taken),
-      λ m g h.
-          let y = x .inv .3 m g h in
-          let r = h .hand .rep in
-          let n : a .n ≡ length (m .points) = h .count in
-          let v : x .v < a .n = i .loop-test .taken in
-          listing-more (a .w .now) (x .w) (a .p) (a .b) (x .v) (x .r) (is-choice (turn (a .left)) m (a .a) (a .other) (vec (a .normal)) (a .target) g) y (x .inv .1) (omega (arith, r .points)) (omega (arith, x .inv .0, h .to, r .room .fits)) (ad .add .last .0) (ic .is-choice .result) (ad .add .result)
-          (ic .is-choice .ensures m g (hand-kept (a .w .now) (x .w) (a .q .now) (a .s) (a .p) (a .k) (a .b) m g (h .hand) (h .from) (y .besides)) (record { node = omega (arith, h .first); end = omega (arith, h .second) }) (record { first = omega (arith, h .first); second = omega arith })) e,
+      omega (arith, v),
+      λ m region k.
+          let z = x .inv .3 m region k in
+          let r = k .hand .rep in
+          let o : a .n ≡ length (m .points) = k .count in
+          listing-more (a .w .now) (x .w) (a .p) (a .b) (x .v) (x .r) (is-choice (turn (a .left)) m (a .a) (a .other) (vec (a .normal)) (a .target) region) z (x .inv .1) (omega (arith, v, o, r .points)) (omega (arith, x .inv .0, k .to, r .room .fits)) (ad .add .last .0) (ic .is-choice .result) (ad .add .result)
+          (ic .is-choice .ensures m region (hand-kept (a .w .now) (x .w) (a .q .now) (a .s) (a .p) (a .k) (a .b) m region (k .hand) (k .from) (z .besides)) (record { node = omega (arith, o, k .first); end = omega (arith, o, k .second) }) (record { first = omega (arith, o, k .first); second = omega (arith, o, v) })) e,
     )
 
 same-length : tie.Need-same-length Inv-loop μ-loop
 same-length c =
     let i = c in
-    i .before .loop .inv .0
+    i .before .before .loop .inv .0
 
 returns : tie.Need-returns Inv-loop μ-loop
 returns c =
     let i = c in
-    let l = i .before in
+    let l = i .before .before in
     let x = l .loop in
-    let fs = l .before in
+    let sf = l .before in
+    let fs = sf .before .before in
     let t = fs .before .before .before in
     let a = t .args in
-    λ m g h. listing-end (a .w .now) (x .w) (a .p) (a .n) (a .b) (x .v) (x .r) (is-choice (turn (a .left)) m (a .a) (a .other) (vec (a .normal)) (a .target) g) (x .inv .3 m g h) (x .inv .1) (x .inv .2) (i .loop-test .left)
+    λ m region h.
+    let y = sf .span-for .ensures (a .q .now) m region (h .hand) (omega (arith, h .first, h .count)) in
+    listing-end (a .w .now) (x .w) (a .p) (a .n) (a .b) (x .v) (x .r) (is-choice (turn (a .left)) m (a .a) (a .other) (vec (a .normal)) (a .target) region) (x .inv .3 m region h) (x .inv .1) (x .inv .2)
+    (λ u k. choice-behind (turn (a .left)) m (a .a) (a .other) (vec (a .normal)) (a .target) region u (sf .span-for .result) y (omega (arith, k, i .if1 .left)))
 
 pub scan-spec : {M : Type 1} → statement M
 scan-spec =
     tie.close
     (tie.spec Inv-loop μ-loop
     far-square-requires
+    span-for-requires
     loop-holds
     is-choice-requires
     add-requires

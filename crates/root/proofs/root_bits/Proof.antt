@@ -29,17 +29,8 @@ shifted-requires c κs = search needs
 evened-requires : tie.Need-evened-requires
 evened-requires c κs = search needs
 
-add-whole-root : tie.Need-add-whole-root
-add-whole-root c = search needs
-
-mul-whole-root : tie.Need-mul-whole-root
-mul-whole-root c = search needs
-
-add-whole-root-2 : tie.Need-add-whole-root-2
-add-whole-root-2 c = search needs
-
-whole-root-requires : tie.Need-whole-root-requires
-whole-root-requires c κs = search needs
+by-digits-requires : tie.Need-by-digits-requires
+by-digits-requires c κs = search needs
 
 add-result : tie.Need-add-result
 add-result c = search needs
@@ -53,7 +44,7 @@ rounded-requires c κs = search needs
 -- the bits at the end
 at-end : (c : tie.After-rounded) → RootBits (c .before .before .before .before .before .before .before .args .b) (c .before .before .before .before .before .spare .result) (c .before .before .before .before .exponent .result) (c .rounded .result)
 at-end c =
-    let whole = c .before .whole-root in
+    let whole = c .before .by-digits in
     let even = c .before .before .evened in
     let shift = c .before .before .before .shifted in
     let ex = c .before .before .before .before .exponent in
@@ -80,13 +71,10 @@ root-bits-spec =
     add-g
     sub-g
     shifted-requires
-    evened-requires
-    add-whole-root
-    mul-whole-root
-    add-whole-root-2
-    whole-root-requires
     add-result
     mul-result
+    evened-requires
+    by-digits-requires
     rounded-requires
     add-result-2
     returns)

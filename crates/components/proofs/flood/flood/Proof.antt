@@ -6,8 +6,8 @@ use native.Mathlib.Omega.{arith}
 use lib.ListN.{length}
 use Rattle.definition.specs.Cells.{Mesh, Live}
 use Rattle.cells.specs.Rep.{TriIn}
-use Rattle.components.specs.Flood.{Marked, tri-live}
-use Rattle.components.proofs.Floods.{Flooding, flood-start, begin-can, begin-more, begun-state, flooded-from, flood-few, flood-can, popped, popped-tri, flood-end, flood-on}
+use Rattle.components.specs.Flood.{Marked, tri-live, Flooding}
+use Rattle.components.proofs.Floods.{flood-start, begin-can, begin-more, begun-state, flooded-from, flood-few, flood-can, popped, popped-tri, flood-end, flood-on}
 use Rattle.components.proofs.flood.flood.Statement.{statement}
 use Rattle.components.proofs.flood.flood.Tie as tie
 use Rattle.components.proofs.flood.flood.Reads as reads

@@ -1,162 +1,62 @@
-use borrow.Author.Needs.{needs}
-use mathlib.Core.Path.{_≡_, refl, _∙_}
-use mathlib.Core.List.{List, _++_}
-use Prim.Native.Nat.{_+_, _-_, _/_, _^_, _≤_}
+-- By the note, or by floods.
+use mathlib.Core.Path.{_≡_, refl, ap, sym, _∙_, subst}
+use Prim.Native.Nat.{ℕ, _+_, _*_, _%_, _<_, _≤_}
 use native.Mathlib.Omega.{arith}
-use lib.ListN.{length}
-use Rattle.definition.specs.Cells.{Mesh, Live}
-use Rattle.components.specs.Flood.{Marked}
-use Rattle.components.proofs.Sweeps.{joined}
-use Rattle.components.proofs.Odds.{Evens, evens-start, taken-least, evens-on, odd-found, none-odd}
+use borrow.Author.Needs.{needs}
+use Rattle.cells.proofs.Frames.{even-noted}
+use Rattle.components.proofs.Odds.{listed-slot}
 use Rattle.components.proofs.odd.leaves_odd.Statement.{statement}
 use Rattle.components.proofs.odd.leaves_odd.Tie as tie
 use Rattle.components.proofs.odd.leaves_odd.Reads as reads
 use Rattle.components.proofs.odd.leaves_odd.Lts as lts
-use Rattle.components.proofs.flood.take_component.Reads as take-component-reads
-use Rattle.components.proofs.marks.mark_listed.Reads as mark-listed-reads
+use Rattle.cells.proofs.evens.is_even.Reads as is-even-reads
+use Rattle.components.proofs.near.leaves_odd_near.Reads as leaves-odd-near-reads
+use Rattle.components.proofs.odd.leaves_odd_anywhere.Reads as leaves-odd-anywhere-reads
 
-abbrev Inv-loop : tie.InvT-loop
-Inv-loop w₀ s p used n k₀ i₀ w k i =
-    (length w ≡ length w₀) × (used ≤ s) × (s ≤ 2 ^ 32)
-    × ((m : Mesh) (xs : List Live) → Marked w₀ s p n m xs → m .used ≡ used → Evens w₀ w s p k i m xs)
-
-abbrev μ-loop : tie.MeasureT-loop
-μ-loop w₀ s p used n k₀ i₀ w k i = used - i
-
--- src/odd.rt:32:5
-mark-listed-requires : tie.Need-mark-listed-requires Inv-loop μ-loop
-mark-listed-requires c κs =
-    let t = c .before .before in
-    (t .pre .0, t .pre .1, t .pre .2)
-
--- src/odd.rt:35:5
-loop-holds : tie.Need-loop-holds Inv-loop μ-loop
-loop-holds c =
-    let d = c .before .before in
-    let t = d .before .before .before in
-    let a = t .args in (
-      refl,
-      omega (arith, t .pre .2 .rep .used, t .pre .3),
-      omega (arith, t .pre .2 .rep .room .small),
-      λ m xs h e. evens-start (d .mark-listed .last .0) (a .s) (a .p) (a .n) m xs h,
-    )
-
--- src/odd.rt:36:13
-take-component-requires : tie.Need-take-component-requires Inv-loop μ-loop
-take-component-requires c κs =
-    let i = c .before in
-    let l = i .before in
-    let d = l .before .before .before in
-    let t = d .before .before .before in
+is-even-requires : tie.Need-is-even-requires
+is-even-requires c κs =
+    let t = c .before .before .before in
     let a = t .args in
-    let w1 = d .mark-listed .last .0 in
-    let m = t .pre .0 in
-    let xs = t .pre .1 in
-    let h = d .mark-listed .ensures m xs (t .pre .2) in
-    let g = l .loop .inv .3 m xs (h .state) (t .pre .3) in
-    ((m, xs ++ joined (g .pieces), g .sweep .state), omega (arith, i .loop-test .taken, l .loop .inv .1))
+    let h = t .pre .2 in
+    (h .rep .room, listed-slot (a .w .now) (a .s) (a .p) (a .n) (t .pre .0) (t .pre .1) h)
 
--- src/odd.rt:37:13
-sub-if1 : tie.Need-sub-if1 Inv-loop μ-loop
-sub-if1 c =
-    let o = c .before .before in
-    let i = o .before .before in
-    let l = i .before in
-    let d = l .before .before .before in
-    let t = d .before .before .before in
+leaves-odd-near-requires : tie.Need-leaves-odd-near-requires
+leaves-odd-near-requires c κs =
+    let t = c .before .before .before .before .before .before in
     let a = t .args in
-    let w1 = d .mark-listed .last .0 in
-    let m = t .pre .0 in
-    let xs = t .pre .1 in
-    let h = d .mark-listed .ensures m xs (t .pre .2) in
-    let g = l .loop .inv .3 m xs (h .state) (t .pre .3) in
-    taken-least w1 (l .loop .w) (a .s) (a .p) (l .loop .k) (l .loop .i) m xs g (o .take-component .last .0) (o .take-component .result) (o .take-component .ensures m (xs ++ joined (g .pieces)) (g .sweep .state)) .0
+    let h = t .pre .2 in
+    let e = c .before .before .is-even in
+    let one = listed-slot (a .w .now) (a .s) (a .p) (a .n) (t .pre .0) (t .pre .1) h in
+    ((t .pre .0, t .pre .1, h, even-noted (a .w .now) (a .s) (a .p) (t .pre .0) (e .result) one (e .ensures) (c .before .if2 .taken) (h .rep)), c .before .before .before .before .if1 .taken)
 
--- src/odd.rt:38:13
-same-length : tie.Need-same-length Inv-loop μ-loop
-same-length c =
-    let o = c .before .before .before in
-    let i = o .before .before in
-    let l = i .before in
-    let d = l .before .before .before in
-    o .take-component .kept .0 ∙ l .loop .inv .0 ∙ d .mark-listed .kept .0
+same-length : tie.Need-same-length
+same-length c = search needs
 
--- src/odd.rt:38:13
-returns : tie.Need-returns Inv-loop μ-loop
+returns : tie.Need-returns
 returns c =
-    λ m xs hs e.
-    let o = c .before .before .before in
-    let i = o .before .before in
-    let l = i .before in
-    let d = l .before .before .before in
-    let t = d .before .before .before in
+    let t = c .before .before .before .before .before .before .before .before .before in
     let a = t .args in
-    let w1 = d .mark-listed .last .0 in
-    let h = d .mark-listed .ensures m xs hs in
-    let g = l .loop .inv .3 m xs (h .state) e in
-    odd-found w1 (l .loop .w) (a .s) (a .p) (l .loop .k) (l .loop .i) m xs g (o .take-component .last .0) (o .take-component .result) (o .take-component .ensures m (xs ++ joined (g .pieces)) (g .sweep .state)) (c .if1 .taken) (a .w .now) (a .n) hs (h .aside)
+    let e = c .before .before .before .before .before .is-even in
+    λ m xs h u.
+    c .before .before .leaves-odd-near .ensures m xs h (even-noted (a .w .now) (a .s) (a .p) m (e .result) (listed-slot (a .w .now) (a .s) (a .p) (a .n) m xs h) (e .ensures) (c .before .before .before .before .if2 .taken) (h .rep))
 
--- src/odd.rt:41:9
-add-i : tie.Need-add-i Inv-loop μ-loop
-add-i c = search needs
+leaves-odd-anywhere-requires : tie.Need-leaves-odd-anywhere-requires
+leaves-odd-anywhere-requires c κs = search needs
 
--- src/odd.rt:35:5
-loop-less : tie.Need-loop-less Inv-loop μ-loop
-loop-less c = search needs
+same-length-2 : tie.Need-same-length-2
+same-length-2 c = search needs
 
--- src/odd.rt:35:5
-loop-again : tie.Need-loop-again Inv-loop μ-loop
-loop-again c =
-    let o = c .before .before .before in
-    let i = o .before .before in
-    let l = i .before in
-    let d = l .before .before .before in
-    let t = d .before .before .before in
-    let a = t .args in
-    let w1 = d .mark-listed .last .0 in (
-      o .take-component .kept .0 ∙ l .loop .inv .0,
-      l .loop .inv .1,
-      l .loop .inv .2,
-      λ m xs h e.
-          let g = l .loop .inv .3 m xs h e in
-          evens-on w1 (l .loop .w) (a .s) (a .p) (l .loop .k) (l .loop .i) m xs g (o .take-component .last .0) (o .take-component .result) (o .take-component .ensures m (xs ++ joined (g .pieces)) (g .sweep .state)) (c .if1 .left),
-    )
-
--- src/odd.rt:28:1
-same-length-2 : tie.Need-same-length-2 Inv-loop μ-loop
-same-length-2 c =
-    let l = c .before in
-    let d = l .before .before .before in
-    l .loop .inv .0 ∙ d .mark-listed .kept .0
-
--- src/odd.rt:28:1
-returns-2 : tie.Need-returns-2 Inv-loop μ-loop
-returns-2 c =
-    λ m xs hs e.
-    let i = c in
-    let l = i .before in
-    let d = l .before .before .before in
-    let t = d .before .before .before in
-    let a = t .args in
-    let w1 = d .mark-listed .last .0 in
-    let h = d .mark-listed .ensures m xs hs in
-    let g = l .loop .inv .3 m xs (h .state) e in
-    none-odd w1 (l .loop .w) (a .s) (a .p) (l .loop .k) (l .loop .i) m xs g (omega (arith, c .loop-test .left, e)) (a .w .now) (a .n) hs (h .aside)
+returns-2 : tie.Need-returns-2
+returns-2 c = search needs
 
 pub leaves-odd-spec : {M : Type 1} → statement M
 leaves-odd-spec =
     tie.close
     (tie.spec
-    Inv-loop
-    μ-loop
-    mark-listed-requires
-    loop-holds
-    take-component-requires
-    sub-if1
+    is-even-requires
+    leaves-odd-near-requires
     same-length
     returns
-    add-i
-    loop-less
-    loop-again
+    leaves-odd-anywhere-requires
     same-length-2
     returns-2)

@@ -5,16 +5,16 @@ use native.Mathlib.Omega.{arith}
 use lib.ListN.{length}
 use borrow.Author.Tests.{not-true, not-false}
 use Rattle.definition.specs.Cells.{Tri, Mesh}
-use Rattle.definition.specs.Flips.{third, convex-pair}
+use Rattle.definition.specs.Flips.{third, flipped, convex-pair}
 use Rattle.plane.specs.Points.{Within}
 use Rattle.cells.specs.Layout.{mesh-end}
 use Rattle.cells.specs.Rep.{Rep, Pts}
 use Rattle.cells.proofs.Frames.{keeps-refl}
 use Rattle.cells.proofs.Slots.{rep-see}
 use Rattle.flips.specs.Nodes.{tri-read}
-use Rattle.flips.specs.Flip.{TwinsAt, CanTurn}
+use Rattle.flips.specs.Flip.{TwinsAt, IsFlip}
 use Rattle.flips.specs.Twins.{IsTwins}
-use Rattle.flips.proofs.Flips.{Third, Twin, twin1, twin2, flip-none, flip-flat, flip-done, can-turn, convex-apart, within, four}
+use Rattle.flips.proofs.Flips.{Third, Twin, twin1, twin2, flip-flat, flip-turned, flip-none, flip-some, can-turn, convex-apart, within, four}
 use borrow.Author.Needs.{needs}
 use Rattle.flips.proofs.flip.flip.Statement.{statement}
 use Rattle.flips.proofs.flip.flip.Tie as tie
@@ -73,13 +73,22 @@ module _ (v : tie.After-convex-pair) (m : Mesh) (r : Rep (top (known (v .before)
       let f = third1 (v .before) m r in
       v .convex-pair .ensures m (four (a .q .now) (a .p) m q (a .u) (a .v) (node1 (v .before)) (node2 (v .before)) (f .u-known) (f .v-known) (f .x-known) (third2 (v .before) m r .x-known))
 
-  can : v .convex-pair .result ≡ true
-      → CanTurn m (top (known (v .before)) .args .u) (top (known (v .before)) .args .v) (slot1 (known (v .before))) (slot2 (known (v .before))) (node1 (v .before)) (node2 (v .before))
-  can h =
-      let a = top (known (v .before)) .args in
+  -- the turn is the flip
+  flips : v .convex-pair .result ≡ true
+      → IsFlip (top (known (v .before)) .args .w .now) (top (known (v .before)) .args .s) m (top (known (v .before)) .args .u) (top (known (v .before)) .args .v) (slot1 (known (v .before))) (slot2 (known (v .before))) (node1 (v .before)) (node2 (v .before))
+  flips h =
       let n = v .before in
-      can-turn m (a .u) (a .v) (slot1 (known n)) (slot2 (known n)) (node1 n) (node2 n) (one (known n) m r .given) (two (known n) m r .given) (third1 n m r) (third2 n m r)
-      (convex-apart m (a .u) (a .v) (node1 n) (node2 n) (sym is-convex ∙ h))
+      let k = known n in
+      let a = top k .args in
+      record {
+        can =
+            can-turn m (a .u) (a .v) (slot1 k) (slot2 k) (node1 n) (node2 n) (one k m r .given) (two k m r .given) (third1 n m r) (third2 n m r)
+            (convex-apart m (a .u) (a .v) (node1 n) (node2 n) (sym is-convex ∙ h));
+        up = top k .pre .1 .up;
+        is =
+            flip-turned m (a .u) (a .v) (slot1 k) (slot2 k) (top k .pre .1 .up) (twins k m r) (node1 n) (node2 n) (is1 n m r) (is2 n m r)
+            (v .convex-pair .result) is-convex h (tri-read (a .w .now) (a .s) (slot1 k)) (one k m r .read);
+      }
 
 two-tris-requires : tie.Need-two-tris-requires
 two-tris-requires c κs = search needs
@@ -142,17 +151,18 @@ returns-2 c =
     let a = top k .args in
     record {
       is = λ m r q.
-          flip-flat (a .s) (a .p) m (a .u) (a .v) (slot1 k) (slot2 k) (top k .pre .1 .up) (twins k m r) (node1 n) (node2 n) (is1 n m r) (is2 n m r)
-          (v .convex-pair .result) (is-convex v m r q) (a .w .now) (not-true (v .convex-pair .result) (c .if1 .taken)) r;
+          flip-none (a .w .now) (a .s) (a .p) m (a .u) (a .v)
+          (flip-flat m (a .u) (a .v) (slot1 k) (slot2 k) (top k .pre .1 .up) (twins k m r) (node1 n) (node2 n) (is1 n m r) (is2 n m r)
+          (v .convex-pair .result) (is-convex v m r q) (not-true (v .convex-pair .result) (c .if1 .taken))) r;
       keeps = keeps-refl (a .w .now) (mesh-end (a .s) (a .p));
     }
 
-turn-requires : tie.Need-turn-requires
-turn-requires c κs =
+turn-evenly-requires : tie.Need-turn-evenly-requires
+turn-evenly-requires c κs =
     let e = c .before in
     let v = e .before in
     let t = top (known (v .before)) in
-    (t .pre .0 .0, t .pre .0 .1, can v (t .pre .0 .0) (t .pre .0 .1) (t .pre .0 .2) (not-false (v .convex-pair .result) (e .if1 .left)))
+    (t .pre .0 .0, t .pre .0 .1, flips v (t .pre .0 .0) (t .pre .0 .1) (t .pre .0 .2) (not-false (v .convex-pair .result) (e .if1 .left)))
 
 same-length-3 : tie.Need-same-length-3
 same-length-3 c = search needs
@@ -165,13 +175,12 @@ returns-3 c =
     let n = v .before in
     let k = known n in
     let a = top k .args in
-    let yes = not-false (v .convex-pair .result) (e .if1 .left) in
     record {
       is = λ m r q.
-          flip-done (a .s) (a .p) m (a .u) (a .v) (slot1 k) (slot2 k) (top k .pre .1 .up) (twins k m r) (node1 n) (node2 n) (is1 n m r) (is2 n m r)
-          (v .convex-pair .result) (is-convex v m r q) (s .turn .last .0) yes (tri-read (a .w .now) (a .s) (slot1 k)) (one k m r .read)
-          (s .turn .ensures .rep m r (can v m r q yes));
-      keeps = s .turn .ensures .keeps;
+          let h = flips v m r q (not-false (v .convex-pair .result) (e .if1 .left)) in
+          flip-some (s .turn-evenly .last .0) (a .s) (a .p) m (flipped m (a .u, a .v) (slot1 k) (tri-read (a .w .now) (a .s) (slot1 k)) (slot2 k) (node1 n) (node2 n)) (a .u) (a .v)
+          (h .is) (s .turn-evenly .ensures .rep m r h);
+      keeps = s .turn-evenly .ensures .keeps;
     }
 
 pub flip-spec : {M : Type 1} → statement M
@@ -188,6 +197,6 @@ flip-spec =
     convex-pair-requires
     same-length-2
     returns-2
-    turn-requires
+    turn-evenly-requires
     same-length-3
     returns-3)

@@ -165,7 +165,7 @@ link-requires-2 c κs =
     let st = t .pre .3 in
     let e = t .pre .4 in
     let h = t .pre .5 in
-    can-link-in (set (a .w .now) (19 * a .s + 3 * a .p + a .j) 1) (a .s) (a .p) (a .j) (without (a .j) (rev (slots st))) (simp length-set (h .hold .fits)) (h .hold .rep .room .small) (h .inside) (ring-first (a .w .now) (a .s) (a .p) (a .j) m out seen st e h (e1 .if1 .left) (e3 .if3 .left))
+    can-link-in (set (a .w .now) (20 * a .s + 3 * a .p + a .j) 1) (a .s) (a .p) (a .j) (without (a .j) (rev (slots st))) (simp length-set (h .hold .fits)) (h .hold .rep .room .small) (h .inside) (ring-first (a .w .now) (a .s) (a .p) (a .j) m out seen st e h (e1 .if1 .left) (e3 .if3 .left))
 
 same-length-2 : tie.Need-same-length-2
 same-length-2 c =

@@ -5,8 +5,8 @@ use Prim.Native.Nat.{ℕ, suc, _+_, _-_, _*_, _/_, _<_, _≤_}
 use native.Mathlib.Omega.{arith}
 use borrow.Author.Needs.{needs}
 use lib.ListN.{length, getD, set, length-set}
-use Rattle.cells.specs.Layout.{fronts-at, mesh-end}
-use Rattle.cells.proofs.Frames.{keeps-more, keeps-trans}
+use Rattle.cells.specs.Layout.{fronts-at}
+use Rattle.cells.proofs.Frames.{keeps-trans}
 use Rattle.meshes.proofs.Puts.{forget-filling, place-can, place-done, place-keeps}
 use Rattle.meshes.proofs.store.place.Statement.{statement}
 use Rattle.meshes.proofs.store.place.Tie as tie
@@ -93,12 +93,12 @@ returns c =
     let a = t .args in
     let g = c .before .before .before .before .before .before .forget in
     let q = c .before .before .link in
-    let e = mesh-end (a .s) (a .p) in
+    let e = fronts-at (a .s) (a .p) in
     record {
       is = λ n m ns f z.
           let h = forget-filling (a .w .now) (g .last .0) (a .s) (a .p) n (a .i) (a .a) m ns (omega (arith, z, t .pre .few)) (g .ensures) f in
           place-done (g .last .0) (a .s) (a .p) n (a .i) (a .k) (a .a) m ns h z (t .pre .few) (t .pre .node) (q .last .0) (q .ensures) (g .ensures .none);
-      keeps = keeps-trans (a .w .now) (g .last .0) (q .last .0) e (keeps-more (a .w .now) (g .last .0) (fronts-at (a .s) (a .p)) e (omega arith) (g .ensures .keeps))
+      keeps = keeps-trans (a .w .now) (g .last .0) (q .last .0) e (g .ensures .keeps)
           (place-keeps (g .last .0) (q .last .0) (a .s) (a .p) (a .i) (a .k) (a .a) (t .pre .is .inside) (t .pre .few) (q .ensures));
     }
 

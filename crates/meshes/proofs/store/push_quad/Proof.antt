@@ -1,44 +1,59 @@
--- A push puts the cell into the next slot.
+-- What was noted of the components is forgotten; a push puts the cell into the next slot.
 use mathlib.Core.Path.{_≡_, refl, ap, sym, _∙_, subst}
 use mathlib.Core.List.{List, [], _∷_, _++_}
 use Prim.Native.Nat.{ℕ, suc, _+_, _-_, _*_, _/_, _<_, _≤_}
 use native.Mathlib.Omega.{arith}
 use borrow.Author.Needs.{needs}
 use lib.ListN.{length, getD, set, length-set}
-use Rattle.definition.specs.Cells.{Mesh, push-cell, set-cell, remove-cell, with-live}
+use Rattle.definition.specs.Cells.{Mesh, remove-cell}
 use Rattle.cells.specs.Layout.{mesh-end}
+use Rattle.cells.proofs.Frames.{keeps-trans}
 use Rattle.meshes.specs.Changes.{tri-of-nodes, quad-of-nodes}
+use Rattle.meshes.proofs.Evens.{forgotten-rep, forgotten-none, forgotten-keeps, forgotten-length}
 use Rattle.meshes.proofs.Puts.{push-put, push-is}
 use Rattle.meshes.proofs.store.push_quad.Statement.{statement}
 use Rattle.meshes.proofs.store.push_quad.Tie as tie
 use Rattle.meshes.proofs.store.push_quad.Reads as reads
 use Rattle.meshes.proofs.store.push_quad.Lts as lts
+use Rattle.cells.proofs.evens.forget_even.Reads as forget-even-reads
 use Rattle.meshes.proofs.store.put_quad.Reads as put-quad-reads
 
--- src/store.rt:55:5
+forget-even-requires : tie.Need-forget-even-requires
+forget-even-requires c κs =
+    let t = c .before .before in
+    (t .pre .1 .room, omega (arith, t .pre .2 .free))
+
 put-quad-requires : tie.Need-put-quad-requires
 put-quad-requires c κs =
-    let t = c .before .before in
+    let t = c .before .before .before .before .before .before in
     let a = t .args in
     let cell = quad-of-nodes (a .a) (a .b) (a .c) (a .d) in
-    (t .pre .0, suc (a .i), t .pre .1, push-put (a .w .now) (a .s) (a .p) (a .i) (t .pre .0) cell (t .pre .1) (t .pre .2))
+    let g = c .before .before .before .forget-even in
+    let one : 1 ≤ a .s = omega (arith, t .pre .2 .free) in
+    let r = forgotten-rep (a .w .now) (g .last .0) (a .s) (a .p) one (g .ensures) (t .pre .0) (t .pre .1) in
+    ((t .pre .0, suc (a .i), r, push-put (g .last .0) (a .s) (a .p) (a .i) (t .pre .0) cell r (t .pre .2)), forgotten-none (a .w .now) (g .last .0) (a .s) (a .p) one (g .ensures) (t .pre .1 .room))
 
--- src/store.rt:51:1
 same-length : tie.Need-same-length
 same-length c =
-    c .before .before .put-quad .ensures .keeps .len
+    let t = c .before .before .before .before .before .before .before .before .before in
+    let a = t .args in
+    let g = c .before .before .before .before .before .before .forget-even in
+    c .before .before .put-quad .ensures .keeps .len ∙ forgotten-length (a .w .now) (g .last .0) (a .s) (a .p) (omega (arith, t .pre .2 .free)) (g .ensures)
 
--- src/store.rt:51:1
 returns : tie.Need-returns
 returns c =
-    let t = c .before .before .before .before .before in
+    let t = c .before .before .before .before .before .before .before .before .before in
     let a = t .args in
     let cell = quad-of-nodes (a .a) (a .b) (a .c) (a .d) in
+    let g = c .before .before .before .before .before .before .forget-even in
     let q = c .before .before .put-quad .ensures in
+    let one : 1 ≤ a .s = omega (arith, t .pre .2 .free) in
     record {
-      rep = λ m r o. push-is (a .s) (a .p) (a .i) m cell _ o (q .rep m (suc (a .i)) r (push-put (a .w .now) (a .s) (a .p) (a .i) m cell r o));
-      keeps = q .keeps;
+      rep = λ m r o.
+          let z = forgotten-rep (a .w .now) (g .last .0) (a .s) (a .p) one (g .ensures) m r in
+          push-is (a .s) (a .p) (a .i) m cell _ o (q .rep m (suc (a .i)) z (push-put (g .last .0) (a .s) (a .p) (a .i) m cell z o));
+      keeps = keeps-trans (a .w .now) (g .last .0) (c .before .before .put-quad .last .0) (mesh-end (a .s) (a .p)) (forgotten-keeps (a .w .now) (g .last .0) (a .s) (a .p) one (g .ensures)) (q .keeps);
     }
 
 pub push-quad-spec : {M : Type 1} → statement M
-push-quad-spec = tie.close (tie.spec put-quad-requires same-length returns)
+push-quad-spec = tie.close (tie.spec forget-even-requires put-quad-requires same-length returns)

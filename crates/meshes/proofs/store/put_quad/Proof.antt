@@ -6,10 +6,10 @@ use native.Mathlib.Omega.{arith}
 use borrow.Author.Needs.{needs}
 use lib.ListN.{length, getD, set, length-set}
 use Rattle.definition.specs.Cells.{Mesh, nodes, tri-nodes, quad-nodes, new-tri, new-quad}
-use Rattle.cells.specs.Layout.{mesh-end}
+use Rattle.cells.specs.Layout.{fronts-at, mesh-end}
 use Rattle.meshes.specs.Changes.{tri-of-nodes, quad-of-nodes}
 use Rattle.meshes.proofs.Puts.{put-start, put-done, known-at}
-use Rattle.cells.proofs.Frames.{keeps-set, keeps-trans}
+use Rattle.cells.proofs.Frames.{keeps-set, keeps-trans, keeps-more}
 use Rattle.meshes.proofs.store.put_quad.Statement.{statement}
 use Rattle.meshes.proofs.store.put_quad.Tie as tie
 use Rattle.meshes.proofs.store.put_quad.Reads as reads
@@ -30,10 +30,10 @@ unfolding nodes quad-nodes new-quad
 place-requires c κs =
     let t = c .before .before in
     let a = t .args in
-    let m = t .pre .0 in
-    let n = t .pre .1 in
-    let r = t .pre .2 in
-    let o = t .pre .3 in
+    let m = t .pre .0 .0 in
+    let n = t .pre .0 .1 in
+    let r = t .pre .0 .2 in
+    let o = t .pre .0 .3 in
     let cell = quad-of-nodes (a .a) (a .b) (a .c) (a .d) in
     let f0 = put-start (a .w .now) (a .s) (a .p) (a .i) n m cell r o 4 in
     record { n = 4; m = m; ns = []; is = f0; many = refl; few = omega arith; node = known-at r o 0 (omega arith) }
@@ -44,10 +44,10 @@ unfolding nodes quad-nodes new-quad
 place-requires-2 c κs =
     let t = c .before .before .before .before .before .before in
     let a = t .args in
-    let m = t .pre .0 in
-    let n = t .pre .1 in
-    let r = t .pre .2 in
-    let o = t .pre .3 in
+    let m = t .pre .0 .0 in
+    let n = t .pre .0 .1 in
+    let r = t .pre .0 .2 in
+    let o = t .pre .0 .3 in
     let cell = quad-of-nodes (a .a) (a .b) (a .c) (a .d) in
     let f0 = put-start (a .w .now) (a .s) (a .p) (a .i) n m cell r o 4 in
     let f1 = c .before .before .before .place .ensures .is 4 m [] f0 refl in
@@ -59,10 +59,10 @@ unfolding nodes quad-nodes new-quad
 place-requires-3 c κs =
     let t = c .before .before .before .before .before .before .before .before .before .before in
     let a = t .args in
-    let m = t .pre .0 in
-    let n = t .pre .1 in
-    let r = t .pre .2 in
-    let o = t .pre .3 in
+    let m = t .pre .0 .0 in
+    let n = t .pre .0 .1 in
+    let r = t .pre .0 .2 in
+    let o = t .pre .0 .3 in
     let cell = quad-of-nodes (a .a) (a .b) (a .c) (a .d) in
     let f0 = put-start (a .w .now) (a .s) (a .p) (a .i) n m cell r o 4 in
     let f1 = c .before .before .before .before .before .before .before .place .ensures .is 4 m [] f0 refl in
@@ -75,10 +75,10 @@ unfolding nodes quad-nodes new-quad
 place-requires-4 c κs =
     let t = c .before .before .before .before .before .before .before .before .before .before .before .before .before .before in
     let a = t .args in
-    let m = t .pre .0 in
-    let n = t .pre .1 in
-    let r = t .pre .2 in
-    let o = t .pre .3 in
+    let m = t .pre .0 .0 in
+    let n = t .pre .0 .1 in
+    let r = t .pre .0 .2 in
+    let o = t .pre .0 .3 in
     let cell = quad-of-nodes (a .a) (a .b) (a .c) (a .d) in
     let f0 = put-start (a .w .now) (a .s) (a .p) (a .i) n m cell r o 4 in
     let f1 = c .before .before .before .before .before .before .before .before .before .before .before .place .ensures .is 4 m [] f0 refl in
@@ -98,7 +98,8 @@ returns c =
     let t = c .before .before .before .before .before .before .before .before .before .before .before .before .before .before .before .before .before in
     let a = t .args in
     let cell = quad-of-nodes (a .a) (a .b) (a .c) (a .d) in
-    let e = mesh-end (a .s) (a .p) in
+    let e = fronts-at (a .s) (a .p) in
+    let k = keeps-trans (a .w .now) (c .before .before .before .before .before .before .place3 .last .0) (c .before .before .place4 .last .0) e (keeps-trans (a .w .now) (c .before .before .before .before .before .before .before .before .before .before .place2 .last .0) (c .before .before .before .before .before .before .place3 .last .0) e (keeps-trans (a .w .now) (c .before .before .before .before .before .before .before .before .before .before .before .before .before .before .place .last .0) (c .before .before .before .before .before .before .before .before .before .before .place2 .last .0) e (keeps-trans (a .w .now) (set (a .w .now) (a .i) 4) (c .before .before .before .before .before .before .before .before .before .before .before .before .before .before .place .last .0) e (keeps-set (a .w .now) e (a .i) 4 (omega (arith, t .pre .0 .3 .given, t .pre .0 .3 .fits))) (c .before .before .before .before .before .before .before .before .before .before .before .before .before .before .place .ensures .keeps)) (c .before .before .before .before .before .before .before .before .before .before .place2 .ensures .keeps)) (c .before .before .before .before .before .before .place3 .ensures .keeps)) (c .before .before .place4 .ensures .keeps) in
     record {
       rep = λ m n r o.
           let f0 = put-start (a .w .now) (a .s) (a .p) (a .i) n m cell r o 4 in
@@ -106,8 +107,8 @@ returns c =
           let f2 = c .before .before .before .before .before .before .before .before .before .before .place2 .ensures .is 4 m (a .a ∷ []) f1 refl in
           let f3 = c .before .before .before .before .before .before .place3 .ensures .is 4 m (a .a ∷ a .b ∷ []) f2 refl in
           let f4 = c .before .before .place4 .ensures .is 4 m (a .a ∷ a .b ∷ a .c ∷ []) f3 refl in
-          put-done (a .w .now) (a .s) (a .p) (a .i) n m cell r o (c .before .before .place4 .last .0) f4;
-      keeps = keeps-trans (a .w .now) (c .before .before .before .before .before .before .place3 .last .0) (c .before .before .place4 .last .0) e (keeps-trans (a .w .now) (c .before .before .before .before .before .before .before .before .before .before .place2 .last .0) (c .before .before .before .before .before .before .place3 .last .0) e (keeps-trans (a .w .now) (c .before .before .before .before .before .before .before .before .before .before .before .before .before .before .place .last .0) (c .before .before .before .before .before .before .before .before .before .before .place2 .last .0) e (keeps-trans (a .w .now) (set (a .w .now) (a .i) 4) (c .before .before .before .before .before .before .before .before .before .before .before .before .before .before .place .last .0) e (keeps-set (a .w .now) e (a .i) 4 (omega (arith, t .pre .3 .given, t .pre .3 .fits))) (c .before .before .before .before .before .before .before .before .before .before .before .before .before .before .place .ensures .keeps)) (c .before .before .before .before .before .before .before .before .before .before .place2 .ensures .keeps)) (c .before .before .before .before .before .before .place3 .ensures .keeps)) (c .before .before .place4 .ensures .keeps);
+          put-done (a .w .now) (a .s) (a .p) (a .i) n m cell r o (c .before .before .place4 .last .0) (t .pre .1) k f4;
+      keeps = keeps-more (a .w .now) (c .before .before .place4 .last .0) e (mesh-end (a .s) (a .p)) (omega arith) k;
     }
 
 pub put-quad-spec : {M : Type 1} → statement M

@@ -6,10 +6,10 @@ use native.Mathlib.Omega.{arith}
 use borrow.Author.Needs.{needs}
 use lib.ListN.{length, getD, set, length-set}
 use Rattle.definition.specs.Cells.{Mesh, nodes, tri-nodes, quad-nodes, new-tri, new-quad}
-use Rattle.cells.specs.Layout.{mesh-end}
+use Rattle.cells.specs.Layout.{fronts-at, mesh-end}
 use Rattle.meshes.specs.Changes.{tri-of-nodes, quad-of-nodes}
 use Rattle.meshes.proofs.Puts.{put-start, put-done, known-at}
-use Rattle.cells.proofs.Frames.{keeps-set, keeps-trans}
+use Rattle.cells.proofs.Frames.{keeps-set, keeps-trans, keeps-more}
 use Rattle.meshes.proofs.store.put_tri.Statement.{statement}
 use Rattle.meshes.proofs.store.put_tri.Tie as tie
 use Rattle.meshes.proofs.store.put_tri.Reads as reads
@@ -30,10 +30,10 @@ unfolding nodes tri-nodes new-tri
 place-requires c κs =
     let t = c .before .before in
     let a = t .args in
-    let m = t .pre .0 in
-    let n = t .pre .1 in
-    let r = t .pre .2 in
-    let o = t .pre .3 in
+    let m = t .pre .0 .0 in
+    let n = t .pre .0 .1 in
+    let r = t .pre .0 .2 in
+    let o = t .pre .0 .3 in
     let cell = tri-of-nodes (a .a) (a .b) (a .c) in
     let f0 = put-start (a .w .now) (a .s) (a .p) (a .i) n m cell r o 3 in
     record { n = 3; m = m; ns = []; is = f0; many = refl; few = omega arith; node = known-at r o 0 (omega arith) }
@@ -44,10 +44,10 @@ unfolding nodes tri-nodes new-tri
 place-requires-2 c κs =
     let t = c .before .before .before .before .before .before in
     let a = t .args in
-    let m = t .pre .0 in
-    let n = t .pre .1 in
-    let r = t .pre .2 in
-    let o = t .pre .3 in
+    let m = t .pre .0 .0 in
+    let n = t .pre .0 .1 in
+    let r = t .pre .0 .2 in
+    let o = t .pre .0 .3 in
     let cell = tri-of-nodes (a .a) (a .b) (a .c) in
     let f0 = put-start (a .w .now) (a .s) (a .p) (a .i) n m cell r o 3 in
     let f1 = c .before .before .before .place .ensures .is 3 m [] f0 refl in
@@ -59,10 +59,10 @@ unfolding nodes tri-nodes new-tri
 place-requires-3 c κs =
     let t = c .before .before .before .before .before .before .before .before .before .before in
     let a = t .args in
-    let m = t .pre .0 in
-    let n = t .pre .1 in
-    let r = t .pre .2 in
-    let o = t .pre .3 in
+    let m = t .pre .0 .0 in
+    let n = t .pre .0 .1 in
+    let r = t .pre .0 .2 in
+    let o = t .pre .0 .3 in
     let cell = tri-of-nodes (a .a) (a .b) (a .c) in
     let f0 = put-start (a .w .now) (a .s) (a .p) (a .i) n m cell r o 3 in
     let f1 = c .before .before .before .before .before .before .before .place .ensures .is 3 m [] f0 refl in
@@ -81,15 +81,16 @@ returns c =
     let t = c .before .before .before .before .before .before .before .before .before .before .before .before .before in
     let a = t .args in
     let cell = tri-of-nodes (a .a) (a .b) (a .c) in
-    let e = mesh-end (a .s) (a .p) in
+    let e = fronts-at (a .s) (a .p) in
+    let k = keeps-trans (a .w .now) (c .before .before .before .before .before .before .place2 .last .0) (c .before .before .place3 .last .0) e (keeps-trans (a .w .now) (c .before .before .before .before .before .before .before .before .before .before .place .last .0) (c .before .before .before .before .before .before .place2 .last .0) e (keeps-trans (a .w .now) (set (a .w .now) (a .i) 3) (c .before .before .before .before .before .before .before .before .before .before .place .last .0) e (keeps-set (a .w .now) e (a .i) 3 (omega (arith, t .pre .0 .3 .given, t .pre .0 .3 .fits))) (c .before .before .before .before .before .before .before .before .before .before .place .ensures .keeps)) (c .before .before .before .before .before .before .place2 .ensures .keeps)) (c .before .before .place3 .ensures .keeps) in
     record {
       rep = λ m n r o.
           let f0 = put-start (a .w .now) (a .s) (a .p) (a .i) n m cell r o 3 in
           let f1 = c .before .before .before .before .before .before .before .before .before .before .place .ensures .is 3 m [] f0 refl in
           let f2 = c .before .before .before .before .before .before .place2 .ensures .is 3 m (a .a ∷ []) f1 refl in
           let f3 = c .before .before .place3 .ensures .is 3 m (a .a ∷ a .b ∷ []) f2 refl in
-          put-done (a .w .now) (a .s) (a .p) (a .i) n m cell r o (c .before .before .place3 .last .0) f3;
-      keeps = keeps-trans (a .w .now) (c .before .before .before .before .before .before .place2 .last .0) (c .before .before .place3 .last .0) e (keeps-trans (a .w .now) (c .before .before .before .before .before .before .before .before .before .before .place .last .0) (c .before .before .before .before .before .before .place2 .last .0) e (keeps-trans (a .w .now) (set (a .w .now) (a .i) 3) (c .before .before .before .before .before .before .before .before .before .before .place .last .0) e (keeps-set (a .w .now) e (a .i) 3 (omega (arith, t .pre .3 .given, t .pre .3 .fits))) (c .before .before .before .before .before .before .before .before .before .before .place .ensures .keeps)) (c .before .before .before .before .before .before .place2 .ensures .keeps)) (c .before .before .place3 .ensures .keeps);
+          put-done (a .w .now) (a .s) (a .p) (a .i) n m cell r o (c .before .before .place3 .last .0) (t .pre .1) k f3;
+      keeps = keeps-more (a .w .now) (c .before .before .place3 .last .0) e (mesh-end (a .s) (a .p)) (omega arith) k;
     }
 
 pub put-tri-spec : {M : Type 1} → statement M

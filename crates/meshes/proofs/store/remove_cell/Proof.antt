@@ -1,232 +1,53 @@
--- The loop's invariant: the first k corners of the slot were taken out of their rings, and nothing is noted of their nodes. The measure is how many are left.
+-- What was noted of the components is forgotten, then the cell is taken out.
 use mathlib.Core.Path.{_≡_, refl, ap, sym, _∙_, subst}
 use mathlib.Core.List.{List, [], _∷_, _++_}
 use Prim.Native.Nat.{ℕ, suc, _+_, _-_, _*_, _/_, _<_, _≤_}
 use native.Mathlib.Omega.{arith}
 use borrow.Author.Needs.{needs}
 use lib.ListN.{length, getD, set, length-set}
-use Rattle.definition.specs.Cells.{Mesh}
-use Rattle.cells.specs.Layout.{rings-at, codes, fronts-at, mesh-end}
-use Rattle.cells.specs.Rep.{Rep}
-use Rattle.cells.specs.Frames.{Keeps}
-use Rattle.meshes.proofs.Removes.{Lifting, lift-start, lift-can-forget, lift-can, lift-more, lift-done, kind-most}
-use Rattle.cells.proofs.Frames.{keeps-refl, keeps-trans, keeps-kept, keeps-more, keeps-set}
+use Rattle.definition.specs.Cells.{Mesh, remove-cell}
+use Rattle.cells.specs.Layout.{mesh-end}
+use Rattle.cells.proofs.Frames.{keeps-trans}
+use Rattle.meshes.specs.Changes.{tri-of-nodes, quad-of-nodes}
+use Rattle.meshes.proofs.Evens.{forgotten-rep, forgotten-none, forgotten-keeps, forgotten-length}
 use Rattle.meshes.proofs.store.remove_cell.Statement.{statement}
 use Rattle.meshes.proofs.store.remove_cell.Tie as tie
 use Rattle.meshes.proofs.store.remove_cell.Reads as reads
 use Rattle.meshes.proofs.store.remove_cell.Lts as lts
-use Rattle.meshes.proofs.store.forget.Reads as forget-reads
-use Rattle.rings.proofs.unlink.Reads as unlink-reads
-use Rattle.rings.proofs.wide.Reads as wide-reads
+use Rattle.cells.proofs.evens.forget_even.Reads as forget-even-reads
+use Rattle.meshes.proofs.store.take_out.Reads as take-out-reads
 
-abbrev Inv-loop : tie.InvT-loop
-Inv-loop w₀ s p i n k₀ w k =
-    (k ≤ n) × Keeps w₀ w (fronts-at s p) × ((m : Mesh) → Rep w₀ s p m → Lifting w₀ w s p i k (m .live))
+forget-even-requires : tie.Need-forget-even-requires
+forget-even-requires c κs =
+    let t = c .before .before in
+    (t .pre .0 .1 .room, omega (arith, t .pre .1))
 
-abbrev μ-loop : tie.MeasureT-loop
-μ-loop w₀ s p i n k₀ w k = n - k
-
--- src/store.rt:91:18
-mul-wide : tie.Need-mul-wide Inv-loop μ-loop
-mul-wide c = search needs
-
--- src/store.rt:91:18
-slice-read-wide : tie.Need-slice-read-wide Inv-loop μ-loop
-slice-read-wide c = search needs
-
--- src/store.rt:91:9
-wide-requires : tie.Need-wide-requires Inv-loop μ-loop
-wide-requires c κs = search needs
-
--- src/store.rt:93:5
-loop-holds : tie.Need-loop-holds Inv-loop μ-loop
-loop-holds c =
-    let t = c .before .before .before in
-    let a = t .args in
-    (omega arith, keeps-refl (a .w .now) (fronts-at (a .s) (a .p)), λ m r. lift-start (a .w .now) (a .s) (a .p) (a .i) m r (t .pre .1))
-
--- src/store.rt:94:28
-mul-wide-2 : tie.Need-mul-wide-2 Inv-loop μ-loop
-mul-wide-2 c =
-    let t = c .before .before .before .before .before in
-    let a = t .args in
-    let x = c .before .loop in
-    let q = kind-most (a .w .now) (a .s) (a .p) (a .i) (t .pre .0 .0) (t .pre .0 .1) (t .pre .1) in
-    omega (arith, x .inv .1 .len, t .pre .0 .1 .room .fits, t .pre .1, c .before .before .wide .ensures, c .loop-test .taken)
-
--- src/store.rt:94:24
-add-wide : tie.Need-add-wide Inv-loop μ-loop
-add-wide c =
-    let t = c .before .before .before .before .before in
-    let a = t .args in
-    let x = c .before .loop in
-    let q = kind-most (a .w .now) (a .s) (a .p) (a .i) (t .pre .0 .0) (t .pre .0 .1) (t .pre .1) in
-    omega (arith, x .inv .1 .len, t .pre .0 .1 .room .fits, t .pre .1, c .before .before .wide .ensures, c .loop-test .taken)
-
--- src/store.rt:94:24
-add-wide-2 : tie.Need-add-wide-2 Inv-loop μ-loop
-add-wide-2 c =
-    let t = c .before .before .before .before .before in
-    let a = t .args in
-    let x = c .before .loop in
-    let q = kind-most (a .w .now) (a .s) (a .p) (a .i) (t .pre .0 .0) (t .pre .0 .1) (t .pre .1) in
-    omega (arith, x .inv .1 .len, t .pre .0 .1 .room .fits, t .pre .1, c .before .before .wide .ensures, c .loop-test .taken)
-
--- src/store.rt:94:22
-mul-wide-3 : tie.Need-mul-wide-3 Inv-loop μ-loop
-mul-wide-3 c =
-    let t = c .before .before .before .before .before in
-    let a = t .args in
-    let x = c .before .loop in
-    let q = kind-most (a .w .now) (a .s) (a .p) (a .i) (t .pre .0 .0) (t .pre .0 .1) (t .pre .1) in
-    omega (arith, x .inv .1 .len, t .pre .0 .1 .room .fits, t .pre .1, c .before .before .wide .ensures, c .loop-test .taken)
-
--- src/store.rt:94:22
-slice-read-wide-2 : tie.Need-slice-read-wide-2 Inv-loop μ-loop
-slice-read-wide-2 c =
+take-out-requires : tie.Need-take-out-requires
+take-out-requires c κs =
     let t = c .before .before .before .before .before .before in
     let a = t .args in
-    let x = c .before .before .loop in
-    let q = kind-most (a .w .now) (a .s) (a .p) (a .i) (t .pre .0 .0) (t .pre .0 .1) (t .pre .1) in
-    omega (arith, x .inv .1 .len, t .pre .0 .1 .room .fits, t .pre .1, c .before .before .before .wide .ensures, c .before .loop-test .taken)
+    let g = c .before .before .before .forget-even in
+    let one : 1 ≤ a .s = omega (arith, t .pre .1) in
+    ((t .pre .0 .0, forgotten-rep (a .w .now) (g .last .0) (a .s) (a .p) one (g .ensures) (t .pre .0 .0) (t .pre .0 .1)), (t .pre .1, forgotten-none (a .w .now) (g .last .0) (a .s) (a .p) one (g .ensures) (t .pre .0 .1 .room)))
 
--- src/store.rt:94:13
-wide-requires-2 : tie.Need-wide-requires-2 Inv-loop μ-loop
-wide-requires-2 c κs = search needs
-
--- src/store.rt:95:9
-forget-requires : tie.Need-forget-requires Inv-loop μ-loop
-forget-requires c κs =
-    let t = c .before .before .before .before .before .before .before .before in
+same-length : tie.Need-same-length
+same-length c =
+    let t = c .before .before .before .before .before .before .before .before .before in
     let a = t .args in
-    let x = c .before .before .before .before .loop in
-    let y = c .before .wide2 in
-    let m = t .pre .0 .0 in
-    lift-can-forget (a .w .now) (a .s) (a .p) (a .i) m (t .pre .0 .1) (t .pre .1) (x .w) (x .k) (x .inv .2 m (t .pre .0 .1)) (omega (arith, c .before .before .before .before .before .wide .ensures, c .before .before .before .loop-test .taken))
-    (y .result) (y .ensures)
+    let g = c .before .before .before .before .before .before .forget-even in
+    c .before .before .take-out .ensures .keeps .len ∙ forgotten-length (a .w .now) (g .last .0) (a .s) (a .p) (omega (arith, t .pre .1)) (g .ensures)
 
--- src/store.rt:96:19
-mul-unlink : tie.Need-mul-unlink Inv-loop μ-loop
-mul-unlink c =
-    omega (arith, c .before .before .before .before .before .before .before .before .loop .inv .1 .len, c .before .before .before .before .before .before .before .before .before .before .before .before .pre .0 .1 .room .fits)
-
--- src/store.rt:96:31
-mul-unlink-2 : tie.Need-mul-unlink-2 Inv-loop μ-loop
-mul-unlink-2 c =
-    omega (arith, c .before .before .before .before .before .before .before .before .loop .inv .1 .len, c .before .before .before .before .before .before .before .before .before .before .before .before .pre .0 .1 .room .fits)
-
--- src/store.rt:96:31
-add-unlink : tie.Need-add-unlink Inv-loop μ-loop
-add-unlink c =
-    omega (arith, c .before .before .before .before .before .before .before .before .loop .inv .1 .len, c .before .before .before .before .before .before .before .before .before .before .before .before .pre .0 .1 .room .fits)
-
--- src/store.rt:96:48
-mul-unlink-3 : tie.Need-mul-unlink-3 Inv-loop μ-loop
-mul-unlink-3 c =
-    omega (arith, c .before .before .before .before .before .before .before .before .loop .inv .1 .len, c .before .before .before .before .before .before .before .before .before .before .before .before .pre .0 .1 .room .fits)
-
--- src/store.rt:96:48
-add-unlink-2 : tie.Need-add-unlink-2 Inv-loop μ-loop
-add-unlink-2 c =
-    let t = c .before .before .before .before .before .before .before .before .before .before .before .before in
-    let a = t .args in
-    let q = kind-most (a .w .now) (a .s) (a .p) (a .i) (t .pre .0 .0) (t .pre .0 .1) (t .pre .1) in
-    omega (arith, t .pre .0 .1 .room .fits, c .before .before .before .before .before .before .before .before .before .wide .ensures, c .before .before .before .before .before .before .before .loop-test .taken)
-
--- src/store.rt:96:9
-unlink-requires : tie.Need-unlink-requires Inv-loop μ-loop
-unlink-requires c κs =
-    let t = c .before .before .before .before .before .before .before .before .before .before .before .before in
-    let a = t .args in
-    let x = c .before .before .before .before .before .before .before .before .loop in
-    let y = c .before .before .before .before .before .wide2 in
-    let g = c .before .before .before .forget in
-    let m = t .pre .0 .0 in
-    lift-can (a .w .now) (a .s) (a .p) (a .i) m (t .pre .0 .1) (t .pre .1) (x .w) (x .k) (x .inv .2 m (t .pre .0 .1)) (omega (arith, c .before .before .before .before .before .before .before .before .before .wide .ensures, c .before .before .before .before .before .before .before .loop-test .taken))
-    (g .last .0) (y .result) (y .ensures) (g .ensures)
-
--- src/store.rt:97:9
-add-k : tie.Need-add-k Inv-loop μ-loop
-add-k c =
-    omega (arith, c .before .before .before .before .before .before .before .before .before .before .loop-test .taken)
-
--- src/store.rt:93:5
-loop-less : tie.Need-loop-less Inv-loop μ-loop
-loop-less c =
-    omega (arith, c .before .before .before .before .before .before .before .before .before .before .loop-test .taken)
-
--- src/store.rt:93:5
-loop-again : tie.Need-loop-again Inv-loop μ-loop
-loop-again c =
-    let t = c .before .before .before .before .before .before .before .before .before .before .before .before .before .before .before in
-    let a = t .args in
-    let x = c .before .before .before .before .before .before .before .before .before .before .before .loop in
-    let y = c .before .before .before .before .before .before .before .before .wide2 in
-    let g = c .before .before .before .before .before .before .forget in
-    let q = c .before .before .unlink in
-    let e = fronts-at (a .s) (a .p) in (
-      omega (arith, c .before .before .before .before .before .before .before .before .before .before .loop-test .taken),
-      keeps-trans (a .w .now) (x .w) (q .last .0) e (x .inv .1)
-          (keeps-trans (x .w) (g .last .0) (q .last .0) e (g .ensures .keeps)
-          (keeps-kept (g .last .0) (q .last .0) (rings-at (a .s)) (codes (a .s) (a .p)) e (omega arith) (q .ensures .kept))),
-      λ m r. lift-more (a .w .now) (a .s) (a .p) (a .i) m r (t .pre .1) (x .w) (x .k) (x .inv .2 m r) (omega (arith, c .before .before .before .before .before .before .before .before .before .before .before .before .wide .ensures, c .before .before .before .before .before .before .before .before .before .before .loop-test .taken))
-          (g .last .0) (y .result) (y .ensures) (g .ensures) (q .last .0) (q .ensures),
-    )
-
--- src/store.rt:99:5
-mul-w : tie.Need-mul-w Inv-loop μ-loop
-mul-w c = search needs
-
--- src/store.rt:99:5
-slice-write-w : tie.Need-slice-write-w Inv-loop μ-loop
-slice-write-w c =
-    omega (arith, c .before .loop .inv .1 .len, c .before .before .before .before .before .pre .0 .1 .room .fits, c .before .before .before .before .before .pre .1)
-
--- src/store.rt:86:1
-same-length : tie.Need-same-length Inv-loop μ-loop
-same-length c = simp length-set (c .before .loop .inv .1 .len)
-
--- src/store.rt:86:1
-returns : tie.Need-returns Inv-loop μ-loop
+returns : tie.Need-returns
 returns c =
-    let t = c .before .before .before .before .before in
+    let t = c .before .before .before .before .before .before .before .before .before in
     let a = t .args in
-    let x = c .before .loop in
-    let n : getD (a .w .now) (a .i) 0 ≡ x .k = omega (arith, c .before .before .wide .ensures, c .loop-test .left, x .inv .0) in
-    let e = mesh-end (a .s) (a .p) in
+    let g = c .before .before .before .before .before .before .forget-even in
+    let q = c .before .before .take-out .ensures in
+    let one : 1 ≤ a .s = omega (arith, t .pre .1) in
     record {
-      rep = λ m r y. lift-done (a .w .now) (a .s) (a .p) (a .i) m r (t .pre .1) (x .w) (x .k) n (x .inv .1) (x .inv .2 m r);
-      keeps = keeps-trans (a .w .now) (x .w) (set (x .w) (a .i) 0) e (keeps-more (a .w .now) (x .w) (fronts-at (a .s) (a .p)) e (omega arith) (x .inv .1))
-          (keeps-set (x .w) e (a .i) 0 (omega (arith, t .pre .1)));
+      rep = λ m r y. q .rep m (forgotten-rep (a .w .now) (g .last .0) (a .s) (a .p) one (g .ensures) m r) y;
+      keeps = keeps-trans (a .w .now) (g .last .0) (c .before .before .take-out .last .0) (mesh-end (a .s) (a .p)) (forgotten-keeps (a .w .now) (g .last .0) (a .s) (a .p) one (g .ensures)) (q .keeps);
     }
 
 pub remove-cell-spec : {M : Type 1} → statement M
-remove-cell-spec =
-    tie.close
-    (tie.spec
-    Inv-loop
-    μ-loop
-    mul-wide
-    slice-read-wide
-    wide-requires
-    loop-holds
-    mul-wide-2
-    add-wide
-    add-wide-2
-    mul-wide-3
-    slice-read-wide-2
-    wide-requires-2
-    forget-requires
-    mul-unlink
-    mul-unlink-2
-    add-unlink
-    mul-unlink-3
-    add-unlink-2
-    unlink-requires
-    add-k
-    loop-less
-    loop-again
-    mul-w
-    slice-write-w
-    same-length
-    returns)
+remove-cell-spec = tie.close (tie.spec forget-even-requires take-out-requires same-length returns)

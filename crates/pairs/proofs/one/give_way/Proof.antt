@@ -45,8 +45,8 @@ returns-2 c =
     (k .refuses-odd .ensures m xs (g .listed) (sym (g .ready .counted .used))) size m₀ (e1 .if1 .left) (c .if2 .taken)
 
 -- src/one.rt:93:5
-place-quad-requires : tie.Need-place-quad-requires
-place-quad-requires c κs =
+place-noted-requires : tie.Need-place-noted-requires
+place-noted-requires c κs =
     let e2 = c .before in
     let k = e2 .before .before .before .before .before in
     let t = k .before .before .before in
@@ -83,8 +83,8 @@ returns-3 c =
     let a = k .before .before .before .args in
     λ m xs q bucket size m₀ g.
     give-made (a .w .now) q (a .s) (a .p) bucket (a .c) (a .n) (a .a) (a .b) (a .d) (a .e) m xs g (k .refuses-odd .last .0) (a .even) (k .refuses-odd .result)
-    (k .refuses-odd .ensures m xs (g .listed) (sym (g .ready .counted .used))) size m₀ (e1 .if1 .left) (e2 .if2 .left) (pq .place-quad .last .0)
-    (pq .place-quad .ensures) (c .placed .result) (c .placed .ensures)
+    (k .refuses-odd .ensures m xs (g .listed) (sym (g .ready .counted .used))) size m₀ (e1 .if1 .left) (e2 .if2 .left) (pq .place-noted .last .0)
+    (pq .place-noted .ensures) (c .placed .result) (c .placed .ensures)
 
 pub give-way-spec : {M : Type 1} → statement M
 give-way-spec =
@@ -96,7 +96,7 @@ give-way-spec =
     add-if2
     same-length-2
     returns-2
-    place-quad-requires
+    place-noted-requires
     placed-requires
     same-length-3
     returns-3)

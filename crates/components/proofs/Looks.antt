@@ -1,0 +1,152 @@
+-- A look for a triangle that is not listed: at one cell, in the ring of a node, beside a triangle and around a region. Where none is found, as many are listed as before.
+use mathlib.Core.Path.{_≡_, refl, ap, sym, _∙_, subst}
+use mathlib.Core.Logic.{inl, inr}
+use mathlib.Core.Bool.{true}
+use mathlib.Core.List.{List, [], _∷_, _++_, append-nil, append-assoc}
+use Prim.Native.Nat.{ℕ, _+_, _≤_, _<_}
+use native.Mathlib.Omega.{arith}
+use native.Mathlib.Decide.{decLe}
+use lib.ListN.{length, getD, length-append}
+use borrow.Author.Tests.{eq-eqb}
+use Rattle.rings.specs.Rings.{Out}
+use Rattle.definition.specs.Cells.{Tri, Live, Mesh, live-tri}
+use Rattle.account.specs.Lists.{In, in-left, in-right, in-either}
+use Rattle.account.specs.Triangles.{Shares}
+use Rattle.cells.specs.Layout.{list-at, marks-at}
+use Rattle.cells.specs.Rep.{TriIn, slots}
+use Rattle.regions.specs.Listing.{Stored, CanList}
+use Rattle.components.specs.Flood.{body, Marked, Seen, Met, At, Beside}
+use Rattle.components.specs.Near.{BesideOne, Looked, nobody, somebody, Around}
+use Rattle.components.proofs.Members.{Nodes, out-not, out-from, tris-at}
+use Rattle.components.proofs.Grows.{inside, fresh, kind, few, can-list}
+use Rattle.components.proofs.Meets.{met-none, met-both}
+use Rattle.components.proofs.Floods.{stored-at, tri-at}
+
+-- ---- found or not
+
+-- nothing came: those that P speaks of were listed
+pub met-looked : (w : List ℕ) (s p n r : ℕ) (m : Mesh) (xs : List Live) (P : Live → Type 0) → Marked w s p n m xs → Met w w s p n m xs P → s ≤ r → Looked s r m xs P
+met-looked w s p n r m xs P h f l = nobody l (go (f .new) (omega (arith, h .len, f .state .len, length-append xs (f .new))) (f .all))
+  where
+    go : (new : List Live) → length new ≡ 0 → ((y : Live) → In y (m .live) → live-tri y ≡ true → P y → In y (xs ++ new)) → (y : Live) → In y (m .live) → live-tri y ≡ true → P y → In y xs
+    go [] e g y i t q = rw (append-nil xs) at (g y i t q)
+    go (z ∷ new) e g y i t q = absurd (omega (arith, e))
+
+pub looked-met : (w : List ℕ) (s p n r : ℕ) (m : Mesh) (xs : List Live) (P : Live → Type 0) → Marked w s p n m xs → Looked s r m xs P → s ≤ r → Met w w s p n m xs P
+looked-met w s p n r m xs P h (nobody k f) l = met-none w s p n m xs P h f
+looked-met w s p n r m xs P h (somebody y i t e k o) l = absurd (omega (arith, k, l))
+
+-- one found is not among the first of them either
+pub looked-found : (s r : ℕ) (m : Mesh) (xs new : List Live) (P Q : Live → Type 0) → Looked s r m (xs ++ new) P → r < s → Looked s r m xs Q
+looked-found s r m xs new P Q (nobody k f) l = absurd (omega (arith, k, l))
+looked-found s r m xs new P Q (somebody y i t e k o) l = somebody y i t e k (out-from r xs (λ z j. out-not r z (xs ++ new) o (in-left z xs new j)))
+
+pub looked-other : (s r : ℕ) (m : Mesh) (xs : List Live) (P Q : Live → Type 0) → Looked s r m xs P → r < s → Looked s r m xs Q
+looked-other s r m xs P Q (nobody k f) l = absurd (omega (arith, k, l))
+looked-other s r m xs P Q (somebody y i t e k o) l = somebody y i t e k o
+
+-- it is a triangle of the mesh, and not listed
+pub found-tri : (s r : ℕ) (m : Mesh) (xs : List Live) (P : Live → Type 0) → Looked s r m xs P → r < s → TriIn m r × Out r (slots xs)
+found-tri s r m xs P (nobody k f) l = absurd (omega (arith, k, l))
+found-tri s r m xs P (somebody y i t e k o) l = (tri-at m r y i t (sym e), o)
+
+-- none was found
+pub none-found : (s r : ℕ) (m : Mesh) (xs : List Live) (P : Live → Type 0) → Looked s r m xs P → s ≤ r → (y : Live) → In y (m .live) → live-tri y ≡ true → P y → In y xs
+none-found s r m xs P (nobody k f) l = f
+none-found s r m xs P (somebody y i t e k o) l = absurd (omega (arith, k, l))
+
+-- beside a triangle: none at its first node, then a look at the second
+pub looked-both : (w : List ℕ) (s p n r r2 : ℕ) (m : Mesh) (xs : List Live) (t : Tri) (x y z u v : ℕ) → Nodes p x y z t → u ≡ x → v ≡ y → Marked w s p n m xs → Looked s r m xs (At u y z) → s ≤ r
+    → ((zs : List Live) → Marked w s p n m zs → Looked s r2 m zs (At v z z)) → Looked s r2 m xs (Beside t)
+looked-both w s p n r r2 m xs t x y z u v k eu ev h a l b = elim (decLe s r2) [
+  | yes e ↦
+      let f = looked-met w s p n r m xs (At u y z) h a l in
+      met-looked w s p n r2 m xs (Beside t) h (met-both w w w s p n n m xs t x y z u v k eu ev f (looked-met w s p n r2 m (xs ++ f .new) (At v z z) (f .state) (b (xs ++ f .new) (f .state)) e)) e
+  | no e ↦ looked-other s r2 m xs (At v z z) (Beside t) (b xs h) (omega (arith, e))
+]
+
+-- at one cell
+pub look-new : (w : List ℕ) (s p n j : ℕ) (m : Mesh) (xs : List Live) (x : Live) → Seen w s p n j m xs x → (P : Live → Type 0) → getD w j 0 ≡ 3 → getD w (marks-at s p + j) 0 ≡ 0 → Looked s j m xs P
+look-new w s p n j m xs x h P k z =
+    somebody x (h .live) (sym (kind w s p n j m xs x h) ∙ eq-eqb (getD w j 0) 3 k) (sym (h .slot)) (inside w s p n j m xs x h)
+    (subst (λ (v : ℕ). Out v (slots xs)) (sym (h .slot)) (fresh w s p n j m xs x h z))
+
+-- ---- around a region
+
+-- no triangle beside those of the first i places is left
+pub record Looking (i : ℕ) (m : Mesh) (region xs : List Live) : Type 0 where
+  pub done : List Live
+  pub todo : List Live
+  pub parts : region ≡ done ++ todo
+  pub at : i ≡ length done
+  pub so : (z : Live) → In z (m .live) → live-tri z ≡ true → BesideOne done z → In z xs
+
+pub looking-start : (m : Mesh) (region xs : List Live) → Looking 0 m region xs
+looking-start m region xs = record { done = []; todo = region; parts = refl; at = refl; so = λ z l t b. absurd (b .1) }
+
+-- the next of the region is y, in slot j
+pub record Facing (i j : ℕ) (m : Mesh) (region xs : List Live) : Type 0 where
+  pub done : List Live
+  pub y : Live
+  pub todo : List Live
+  pub parts : region ≡ done ++ y ∷ todo
+  pub at : i ≡ length done
+  pub so : (z : Live) → In z (m .live) → live-tri z ≡ true → BesideOne done z → In z xs
+  pub live : In y (m .live)
+  pub is-tri : live-tri y ≡ true
+  pub slot : j ≡ y .slot
+
+module _ (w : List ℕ) (s p k n i : ℕ) (m : Mesh) (region xs : List Live) (a : Around w s p k n m region xs) where
+  pub around-few : n ≤ s
+  around-few = omega (arith, few (a .state), a .state .rep .used, a .state .len, ap length (a .parts), length-append region (a .rest), a .len)
+
+  pub around-can : i < n → CanList w s p i
+  around-can l = can-list (a .state) i (omega (arith, l, around-few))
+
+  pub facing : Looking i m region xs → i < n → (j : ℕ) → j ≡ getD w (list-at s p + i) 0 → Facing i j m region xs
+  facing g l j q = go (g .done) (g .todo) (g .parts) (g .at) (g .so)
+    where
+      go : (done todo : List Live) → region ≡ done ++ todo → i ≡ length done → ((z : Live) → In z (m .live) → live-tri z ≡ true → BesideOne done z → In z xs) → Facing i j m region xs
+      go done [] e b f = absurd (omega (arith, a .len, ap length e, length-append done [], b, l))
+      go done (y ∷ todo) e b f =
+          let whole : xs ≡ done ++ y ∷ (todo ++ a .rest) = a .parts ∙ ap (λ (v : List Live). v ++ a .rest) e ∙ append-assoc done (y ∷ todo) (a .rest) in
+          let h : In y xs = subst (λ (v : List Live). In y v) (sym whole) (in-right y done (y ∷ (todo ++ a .rest)) (inl refl)) in
+          let st : getD w (list-at s p + length done) 0 ≡ y .slot =
+          stored-at w (list-at s p) done y (todo ++ a .rest) (subst (λ (v : List Live). Stored w (list-at s p) (slots v)) whole (a .state .stored)) in
+          record {
+            done = done;
+            y = y;
+            todo = todo;
+            parts = e;
+            at = b;
+            so = f;
+            live = a .state .live y h;
+            is-tri = tris-at xs (a .state .tris) y h;
+            slot = q ∙ ap (λ (v : ℕ). getD w (list-at s p + v) 0) b ∙ st;
+          }
+
+  pub looking-end : Looking i m region xs → n ≤ i → (r : ℕ) → s ≤ r → Looked s r m xs (BesideOne region)
+  looking-end g l r q = go (g .done) (g .todo) (g .parts) (g .at) (g .so)
+    where
+      go : (done todo : List Live) → region ≡ done ++ todo → i ≡ length done → ((z : Live) → In z (m .live) → live-tri z ≡ true → BesideOne done z → In z xs) → Looked s r m xs (BesideOne region)
+      go done [] e b f = nobody q (λ z v t h. f z v t (h .0, subst (λ (u : List Live). In (h .0) u) (e ∙ append-nil done) (h .1), h .2))
+      go done (y ∷ todo) e b f = absurd (omega (arith, a .len, ap length e, length-append done (y ∷ todo), b, l))
+
+module _ (i j : ℕ) (m : Mesh) (region xs : List Live) (b : Facing i j m region xs) where
+  pub facing-tri : TriIn m j
+  facing-tri = tri-at m j (b .y) (b .live) (b .is-tri) (b .slot)
+
+  pub looking-on : (s r : ℕ) → Looked s r m xs (Beside (facing-tri .t)) → s ≤ r → Looking (i + 1) m region xs
+  unfolding facing-tri tri-at
+  looking-on s r h l =
+      record {
+        done = b .done ++ b .y ∷ [];
+        todo = b .todo;
+        parts = b .parts ∙ sym (append-assoc (b .done) (b .y ∷ []) (b .todo));
+        at = omega (arith, b .at, length-append (b .done) (b .y ∷ []));
+        so = λ z v t u. elim (in-either (u .0) (b .done) (b .y ∷ []) (u .1)) [
+          | inl q ↦ b .so z v t (u .0, q, u .2)
+          | inr (inl q) ↦ none-found s r m xs (Beside (facing-tri .t)) h l z v t (subst (λ (o : Live). Shares (body o) (body z)) q (u .2))
+          | inr (inr q) ↦ absurd q
+        ];
+      }

@@ -1,0 +1,128 @@
+-- The flood goes on: what is listed and crossed is a flood from the same triangle, and never fewer are listed.
+use borrow.Author.Needs.{needs}
+use mathlib.Core.Path.{_≡_, refl, _∙_}
+use mathlib.Core.List.{List, _∷_, _++_}
+use Prim.Native.Nat.{_+_, _-_, _^_, _≤_}
+use native.Mathlib.Omega.{arith}
+use lib.ListN.{length}
+use Rattle.definition.specs.Cells.{Mesh, Live}
+use Rattle.components.specs.Flood.{Beside, Flooding}
+use Rattle.components.proofs.Floods.{flood-few, flood-can, popped, popped-tri, flood-on}
+use Rattle.components.proofs.Pieces.{met-more}
+use Rattle.components.proofs.near.spread.Statement.{statement}
+use Rattle.components.proofs.near.spread.Tie as tie
+use Rattle.components.proofs.near.spread.Reads as reads
+use Rattle.components.proofs.near.spread.Lts as lts
+use Rattle.components.proofs.flood.meet_tri.Reads as meet-tri-reads
+use Rattle.regions.proofs.lists.listed.Reads as listed-reads
+
+abbrev Inv-loop : tie.InvT-loop
+Inv-loop w₀ s p k from stop head₀ count₀ w head count =
+    (length w ≡ length w₀) × (from ≤ head) × (k ≤ count) × (count ≤ s) × (s ≤ 2 ^ 32)
+    × ((m : Mesh) (xs : List Live) (x : Live) → Flooding w₀ w₀ s p k from m xs x → Flooding w₀ w s p count head m xs x)
+
+abbrev μ-loop : tie.MeasureT-loop
+μ-loop w₀ s p k from stop head₀ count₀ w head count = stop - head
+
+loop-holds : tie.Need-loop-holds Inv-loop μ-loop
+loop-holds c =
+    let t = c .before in
+    let a = t .args in
+    let g = t .pre .0 .3 in (
+      refl,
+      omega arith,
+      omega arith,
+      flood-few (a .w .now) (a .w .now) (a .s) (a .p) (a .k) (a .from) (t .pre .0 .0) (t .pre .0 .1) (t .pre .0 .2) g,
+      omega (arith, g .state .rep .room .small),
+      λ m xs x h. h,
+    )
+
+same-length : tie.Need-same-length Inv-loop μ-loop
+same-length c = c .before .before .loop .inv .0
+
+returns : tie.Need-returns Inv-loop μ-loop
+returns c =
+    let l = c .before .before in
+    let t = l .before .before in
+    (λ m xs x h. l .loop .inv .5 m xs x h, omega (arith, c .if1 .taken, l .loop .inv .2, t .pre .1 .0))
+
+listed-requires : tie.Need-listed-requires Inv-loop μ-loop
+listed-requires c κs =
+    let e = c .before in
+    let l = e .before .before in
+    let t = l .before .before in
+    let a = t .args in
+    let m = t .pre .0 .0 in
+    let xs = t .pre .0 .1 in
+    let x = t .pre .0 .2 in
+    flood-can (a .w .now) (l .loop .w) (a .s) (a .p) (l .loop .count) (l .loop .head) m xs x (l .loop .inv .5 m xs x (t .pre .0 .3)) (e .if1 .left)
+
+meet-tri-requires : tie.Need-meet-tri-requires Inv-loop μ-loop
+meet-tri-requires c κs =
+    let d = c .before in
+    let e = d .before .before in
+    let l = e .before .before in
+    let t = l .before .before in
+    let a = t .args in
+    let m = t .pre .0 .0 in
+    let xs = t .pre .0 .1 in
+    let x = t .pre .0 .2 in
+    let b = popped (a .w .now) (l .loop .w) (a .s) (a .p) (l .loop .count) (l .loop .head) m xs x (l .loop .inv .5 m xs x (t .pre .0 .3)) (e .if1 .left) (d .listed .result) (d .listed .ensures) in
+    (m, xs ++ (b .done ++ b .y ∷ b .todo), b .state, popped-tri (a .w .now) (l .loop .w) (a .s) (a .p) (l .loop .count) (l .loop .head) m xs x (d .listed .result) b)
+
+add-head : tie.Need-add-head Inv-loop μ-loop
+add-head c = search needs
+
+loop-less : tie.Need-loop-less Inv-loop μ-loop
+loop-less c = search needs
+
+loop-again : tie.Need-loop-again Inv-loop μ-loop
+loop-again c =
+    let o = c .before .before in
+    let d = o .before .before in
+    let e = d .before .before in
+    let l = e .before .before in
+    let t = l .before .before in
+    let a = t .args in
+    let m = t .pre .0 .0 in
+    let xs = t .pre .0 .1 in
+    let x = t .pre .0 .2 in
+    let b = popped (a .w .now) (l .loop .w) (a .s) (a .p) (l .loop .count) (l .loop .head) m xs x (l .loop .inv .5 m xs x (t .pre .0 .3)) (e .if1 .left) (d .listed .result) (d .listed .ensures) in
+    let u = popped-tri (a .w .now) (l .loop .w) (a .s) (a .p) (l .loop .count) (l .loop .head) m xs x (d .listed .result) b in
+    let f = o .meet-tri .ensures m (xs ++ (b .done ++ b .y ∷ b .todo)) (b .state) u in (
+      o .meet-tri .kept .0 ∙ l .loop .inv .0,
+      omega (arith, l .loop .inv .1),
+      omega (arith, l .loop .inv .2, met-more (l .loop .w) (o .meet-tri .last .0) (a .s) (a .p) (l .loop .count) (o .meet-tri .result) m (xs ++ (b .done ++ b .y ∷ b .todo)) (Beside (u .t)) (b .state) f),
+      flood-few (a .w .now) (o .meet-tri .last .0) (a .s) (a .p) (o .meet-tri .result) (l .loop .head + 1) m xs x (flood-on (a .w .now) (l .loop .w) (a .s) (a .p) (l .loop .count) (l .loop .head) m xs x (d .listed .result) b (o .meet-tri .last .0) (o .meet-tri .result) f),
+      l .loop .inv .4,
+      λ m xs x h.
+          let b = popped (a .w .now) (l .loop .w) (a .s) (a .p) (l .loop .count) (l .loop .head) m xs x (l .loop .inv .5 m xs x h) (e .if1 .left) (d .listed .result) (d .listed .ensures) in
+          let f = o .meet-tri .ensures m (xs ++ (b .done ++ b .y ∷ b .todo)) (b .state) (popped-tri (a .w .now) (l .loop .w) (a .s) (a .p) (l .loop .count) (l .loop .head) m xs x (d .listed .result) b) in
+          flood-on (a .w .now) (l .loop .w) (a .s) (a .p) (l .loop .count) (l .loop .head) m xs x (d .listed .result) b (o .meet-tri .last .0) (o .meet-tri .result) f,
+    )
+
+same-length-2 : tie.Need-same-length-2 Inv-loop μ-loop
+same-length-2 c = c .before .loop .inv .0
+
+returns-2 : tie.Need-returns-2 Inv-loop μ-loop
+returns-2 c =
+    let l = c .before in
+    let t = l .before .before in
+    (λ m xs x h. l .loop .inv .5 m xs x h, omega (arith, c .loop-test .left, t .pre .1 .1))
+
+pub spread-spec : {M : Type 1} → statement M
+spread-spec =
+    tie.close
+    (tie.spec
+    Inv-loop
+    μ-loop
+    loop-holds
+    same-length
+    returns
+    listed-requires
+    meet-tri-requires
+    add-head
+    loop-less
+    loop-again
+    same-length-2
+    returns-2)
