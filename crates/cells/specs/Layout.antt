@@ -40,7 +40,7 @@ fronts-at s p = 13 * s + 3 * p
 abbrev pub boxes-at : ℕ → ℕ → ℕ
 boxes-at s p = 15 * s + 3 * p
 
--- a word that is 1 only where no component of the triangles is odd, with room for one of each slot
+-- a word that is 1 only where no component of the triangles is odd; the first of s words, which without a slot are none
 abbrev pub even-at : ℕ → ℕ → ℕ
 even-at s p = 19 * s + 3 * p
 
