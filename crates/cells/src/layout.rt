@@ -8,6 +8,9 @@ pub const CORNERS: usize = 4;
 // Words a slot before the rings of corners: the kind and the nodes.
 pub const BEFORE: usize = 5;
 
+// Records of refused edges a slot.
+pub const RECORDS: usize = 3;
+
 // A note for each point: what is known of its front edges and of its neighbours.
 pub fn notes_at(s: usize, p: usize) -> usize
     requires { ⌜ Sizes s p ⌝ }

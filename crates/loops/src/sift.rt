@@ -1,6 +1,7 @@
 // The loops that have an edge that is not blocked.
 use crate::measure::end_of;
 use blocks::is_blocked;
+use cells::layout::RECORDS;
 use cells::layout::front_u_at;
 use cells::layout::front_v_at;
 use cells::layout::order_at;
@@ -17,9 +18,6 @@ ghost use Rattle.cells.specs.Rep.{Room};
 ghost use Rattle.edges.specs.Stored.{edge-on};
 ghost use Rattle.loops.specs.Sift.{some-open, CanSift, SiftedTo};
 ghost use Rattle.loops.specs.Keep.{Open, OpenLoop, Moved, CanKeep, KeepTo, Sifting, SiftTo};
-
-// Records of refused edges a slot.
-const RECORDS: usize = 3;
 
 // How many loops and edges are left.
 pub struct Sifted {

@@ -1,4 +1,4 @@
-// A guess at a root by floats, and what it leaves over, in two halves. Floats give only the guess: what it leaves over is worked out in whole numbers.
+// What the square of a guess at a root leaves over, worked out in whole numbers by two halves.
 ghost use mathlib.Core.Path.{_≡_};
 ghost use Prim.Native.Nat.{_*_, _^_, _<_};
 ghost use Rattle.root.specs.Exact.{LeftOver};
@@ -8,19 +8,6 @@ use crate::LEAD;
 const HALF: u64 = 1 << 26;
 
 const MUCH: u64 = 1 << 30;
-
-// A guess at the root of the double with the bits `hint`, for a number from 1 to 4: a curve that is within 2^-15 of it, rounded to 26 binary digits so that its square is exact,
-// and a step of the fourth order. Nothing is promised of it: what is made of it is tested.
-pub fn guess(hint: u64) -> f64
-    requires { ⌜ hint < 2047 * 2 ^ 52 ⌝ }
-{
-    let v = f64::from_bits(hint);
-    let near = 201326593.27382 + v * (0.270158 - 0.00803243 * v)
-        - 1.17232 / (v + 1.1875)
-        - 201326592.0;
-    let square = near * near;
-    near + (v - square) * (3.0 * square + v) / (4.0 * near * (square + v))
-}
 
 // `a * b`, for the halves of a root.
 fn product(a: u64, b: u64) -> u64

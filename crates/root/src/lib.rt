@@ -133,13 +133,26 @@ fn rounded(w: Whole) -> u64
     half + half % 2
 }
 
+// A guess at the root of the double with the bits `hint`, for a number from 1 to 4: a curve that is within 2^-15 of it, rounded to 26 binary digits so that its square is exact,
+// and a step of the fourth order. Nothing is promised of it: what is made of it is tested.
+fn guess(hint: u64) -> f64
+    requires { ⌜ hint < 2047 * 2 ^ 52 ⌝ }
+{
+    let v = f64::from_bits(hint);
+    let near = 201326593.27382 + v * (0.270158 - 0.00803243 * v)
+        - 1.17232 / (v + 1.1875)
+        - 201326592.0;
+    let square = near * near;
+    near + (v - square) * (3.0 * square + v) / (4.0 * near * (square + v))
+}
+
 // The root of `r * 2^52`, rounded to nearest: the guess where its square leaves over what it may, its neighbour where that one's does, and otherwise digit by digit.
 // `hint` has the bits of a double near `r / 2^52`.
 fn nearest_root(r: u64, hint: u64) -> u64
     requires { ⌜ (0 < r) × (r < 2 ^ 54) × (hint < 2047 * 2 ^ 52) ⌝ }
     ensures { λ q. ⌜ Nearest (r * 2 ^ 52) q ⌝ }
 {
-    let near = halves::guess(hint);
+    let near = guess(hint);
     if near >= 1.0 {
         let s = f64::to_bits(near) % PAIR;
         let d = halves::left_over(r, s);

@@ -2,8 +2,8 @@
 use crate::rounds::round;
 use blocks::open;
 use cells::counters::Counters;
+use cells::layout::RECORDS;
 use cells::layout::refused_at;
-use settling::settle::RECORDS;
 use settling::standing::Finish;
 use settling::standing::Going;
 use settling::standing::Run;

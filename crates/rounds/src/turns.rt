@@ -1,12 +1,12 @@
 // A loop's turn: its open edges by length, one attempt each, until one gives a quad.
 use blocks::is_blocked;
 use cells::find::is_front;
+use cells::layout::RECORDS;
 use cells::layout::refused_at;
 use cells::layout::tried_at;
 use picks::order::first_on;
 use picks::order::second_on;
 use picks::pick_edge;
-use settling::settle::RECORDS;
 use settling::standing::Going;
 use settling::standing::Standing;
 use settling::standing::Step;

@@ -9,6 +9,7 @@ use crate::standing::sort_of;
 use crate::standing::tried;
 use blocks::block;
 use blocks::free;
+use cells::layout::RECORDS;
 use cells::layout::refused_at;
 use lending::Tried;
 ghost use mathlib.Core.Path.{_≡_};
@@ -21,9 +22,6 @@ ghost use Rattle.settling.specs.Settles.{four, Words, CanPut, PutTo, Can
 
 // Words a quad.
 pub const QUAD: usize = 4;
-
-// Edges with a record of refusal, for each slot.
-pub const RECORDS: usize = 3;
 
 // A quad's four numbers at the front of a part of the quad slice.
 fn write_quad(quads: &mut [u32], n0: usize, n1: usize, n2: usize, n3: usize)
