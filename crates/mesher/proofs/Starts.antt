@@ -4,7 +4,6 @@ use mathlib.Core.List.{List, [], _∷_}
 use mathlib.Core.Option.{none}
 use Prim.Native.Nat.{ℕ, suc, _+_, _*_, _<_}
 use native.Mathlib.Omega.{arith}
-use lib.Dec.{eqb}
 use lib.ListN.{length, getD}
 use lib.Ieee.{Float}
 use Rattle.definition.specs.Lists.{filter}
@@ -12,6 +11,8 @@ use Rattle.definition.specs.Numbers.{base, max-attempts}
 use Rattle.definition.specs.Cells.{Tri, tri, Mesh, new-live, nodes, tri-nodes, new-tri, live-tri, is-tri, live-tris}
 use Rattle.definition.specs.Front.{State, Progress, stuck, progressed, limited, stopped, in-slots, new-mesh, start, front-loop}
 use Rattle.definition.specs.Call.{Asked, Lent, tri-at, first-points, given-points, given-tris, bad-size, settings}
+use Rattle.rules.specs.declared.Rules.{Rules}
+use Rattle.rules.specs.Settings.{settings-of}
 use Rattle.account.specs.Lists.{all-from}
 use Rattle.account.specs.Finished.{sized, given-proper, given-within, points-number, tris-number}
 use Rattle.cells.specs.Rep.{Shape, Rep, Pts}
@@ -19,10 +20,10 @@ use Rattle.cells.specs.declared.counters.Counters.{Counters}
 use Rattle.meshes.specs.Build.{Given, IsNew, Builds, CanBuild}
 use Rattle.checks.specs.Passed.{Apart}
 use Rattle.checks.specs.Refusals.{first-refusal, passed, none-holds}
-use Rattle.lending.specs.Ready.{lent, Small}
+use Rattle.lending.specs.Ready.{Small}
 use Rattle.settling.specs.declared.standing.Run.{Run}
 use Rattle.rounds.specs.Loop.{CanRun, LeftRun, RunTo}
-use Rattle.mesher.specs.Parts.{bucket-of, progress-of, CanMesh}
+use Rattle.mesher.specs.Parts.{bucket-of, rules-with, rules-of, progress-of, CanMesh}
 
 -- ---- the mesh of the given triangles
 
@@ -63,7 +64,7 @@ module _ (a : Asked) (l : Lent) (h : first-refusal a l ≡ 0) where
 
   -- the mesh that the run starts from
   abbrev pub first-mesh : Mesh
-  first-mesh = start (lent (a .slots) (a .capacity) (a .size) (eqb (a .stop) 1)) (given-tris a l) (given-points a l) .mesh
+  first-mesh = start (settings-of (rules-of a)) (given-tris a l) (given-points a l) .mesh
 
   pub is-new : IsNew first-mesh (l .triangles) (a .count) (a .given)
   unfolding start new-mesh given-tris
@@ -86,14 +87,14 @@ module _ (a : Asked) (l : Lent) (h : first-refusal a l ≡ 0) where
   live-count = live-new 0 (given-tris a l) ∙ tris-number a l (none-holds a l h)
 
   side-is : first-mesh .bucket ≡ bucket-of (a .size)
-  unfolding start new-mesh
+  unfolding start new-mesh settings-of
   side-is = refl
 
   -- what `front_loop` asks
   pub can-run : (w' : List ℕ) (c : Counters) → Rep w' (a .slots) (a .capacity) first-mesh
       → (c .live ≡ a .count) × (c .used ≡ a .count) × (c .points ≡ a .given) × (c .attempts ≡ 0)
-      → CanRun w' (l .points) (l .float-work) (l .quads) (a .slots) (a .capacity) (a .count) (bucket-of (a .size)) (a .size) (eqb (a .stop) 1) c (given-tris a l) (given-points a l)
-  unfolding bad-size
+      → CanRun w' (l .points) (l .float-work) (l .quads) (rules-of a) c (given-tris a l) (given-points a l)
+  unfolding bad-size max-attempts base
   can-run w' c r n =
       let p = passed a l h in
       let o = none-holds a l h in
@@ -113,6 +114,7 @@ module _ (a : Asked) (l : Lent) (h : first-refusal a l ≡ 0) where
         proper = given-proper a l o;
         is-given = sym (tris-number a l o);
         few = p .limited .count;
+        attempts = refl;
         points = omega (arith, points-number a l o, p .roomy .given);
         slots = omega (arith, tris-number a l o, p .roomy .count);
         fresh = attempts;
@@ -124,18 +126,18 @@ module _ (a : Asked) (l : Lent) (h : first-refusal a l ≡ 0) where
 
 -- ---- by the slices of the call
 
-left-from : (w₁ w w' : List ℕ) (q q' f f' : List Float) (quads quads' : List ℕ) (s p : ℕ) (b : Float) (st : State) (r : Run) → length w₁ ≡ length w
-    → LeftRun w₁ w' q q' f f' quads quads' s p b st r → LeftRun w w' q q' f f' quads quads' s p b st r
-left-from w₁ w w' q q' f f' quads quads' s p b st r e h =
+left-from : (w₁ w w' : List ℕ) (q q' f f' : List Float) (quads quads' : List ℕ) (rules : Rules) (st : State) (r : Run) → length w₁ ≡ length w
+    → LeftRun w₁ w' q q' f f' quads quads' rules st r → LeftRun w w' q q' f f' quads quads' rules st r
+left-from w₁ w w' q q' f f' quads quads' rules st r e h =
     record { ready = h .ready; counts = h .counts; number = h .number; text = h .text; behind = h .behind; words = h .words ∙ e; reals = h .reals }
 
 -- only the length of the memory at the start counts
-run-from : (w₁ w w' : List ℕ) (q q' f f' : List Float) (quads quads' : List ℕ) (s p : ℕ) (b : Float) (pr : Progress) (r : Run) → length w₁ ≡ length w
-    → RunTo w₁ w' q q' f f' quads quads' s p b pr r → RunTo w w' q q' f f' quads quads' s p b pr r
-run-from w₁ w w' q q' f f' quads quads' s p b (stuck st) r e h = (h .0, left-from w₁ w w' q q' f f' quads quads' s p b st r e (h .1))
-run-from w₁ w w' q q' f f' quads quads' s p b (progressed st) r e h = (h .0, left-from w₁ w w' q q' f f' quads quads' s p b st r e (h .1))
-run-from w₁ w w' q q' f f' quads quads' s p b (limited st) r e h = (h .0, left-from w₁ w w' q q' f f' quads quads' s p b st r e (h .1))
-run-from w₁ w w' q q' f f' quads quads' s p b (stopped wt st) r e h = (h .0, left-from w₁ w w' q q' f f' quads quads' s p b st r e (h .1))
+run-from : (w₁ w w' : List ℕ) (q q' f f' : List Float) (quads quads' : List ℕ) (rules : Rules) (pr : Progress) (r : Run) → length w₁ ≡ length w
+    → RunTo w₁ w' q q' f f' quads quads' rules pr r → RunTo w w' q q' f f' quads quads' rules pr r
+run-from w₁ w w' q q' f f' quads quads' rules (stuck st) r e h = (h .0, left-from w₁ w w' q q' f f' quads quads' rules st r e (h .1))
+run-from w₁ w w' q q' f f' quads quads' rules (progressed st) r e h = (h .0, left-from w₁ w w' q q' f f' quads quads' rules st r e (h .1))
+run-from w₁ w w' q q' f f' quads quads' rules (limited st) r e h = (h .0, left-from w₁ w w' q q' f f' quads quads' rules st r e (h .1))
+run-from w₁ w w' q q' f f' quads quads' rules (stopped wt st) r e h = (h .0, left-from w₁ w w' q q' f f' quads quads' rules st r e (h .1))
 
 module _ (q : List Float) (ts qs w : List ℕ) (f : List Float) (a : Asked) (l : Lent) (h : CanMesh q ts qs w f a l) where
   pub mesh-build : CanBuild w (a .slots) (a .capacity) ts (a .count) (a .given)
@@ -146,10 +148,10 @@ module _ (q : List Float) (ts qs w : List ℕ) (f : List Float) (a : Asked) (l :
   module _ (b : Float) (e : b ≡ bucket-of (a .size)) where
     pub mesh-run : (w' : List ℕ) (c : Counters) → Builds w w' (a .slots) (a .capacity) ts (a .count) (a .given)
         → (c .live ≡ a .count) × (c .used ≡ a .count) × (c .points ≡ a .given) × (c .attempts ≡ 0)
-        → CanRun w' q f qs (a .slots) (a .capacity) (a .count) b (a .size) (eqb (a .stop) 1) c (given-tris a l) (given-points a l)
+        → CanRun w' q f qs (rules-with a b) c (given-tris a l) (given-points a l)
     mesh-run w' c k n =
         let can : (q f : List Float) (qs : List ℕ) (b : Float) → Type 0 =
-        λ q f qs b. CanRun w' q f qs (a .slots) (a .capacity) (a .count) b (a .size) (eqb (a .stop) 1) c (given-tris a l) (given-points a l) in
+        λ q f qs b. CanRun w' q f qs (rules-with a b) c (given-tris a l) (given-points a l) in
         let new : IsNew (first-mesh a l (h .passed)) ts (a .count) (a .given) =
         subst (λ (z : List ℕ). IsNew (first-mesh a l (h .passed)) z (a .count) (a .given)) (h .triangles) (is-new a l (h .passed)) in
         subst (λ (z : Float). can q f qs z) (sym e)
@@ -160,11 +162,11 @@ module _ (q : List Float) (ts qs w : List ℕ) (f : List Float) (a : Asked) (l :
 
     -- the memory in which the mesh was built is as long as that lent
     pub mesh-ran : (w₁ w' : List ℕ) (q' f' : List Float) (quads' : List ℕ) (r : Run) → length w₁ ≡ length w
-        → RunTo w₁ w' q q' f f' qs quads' (a .slots) (a .capacity) b
-        (front-loop (max-attempts base (length (given-tris a l)) + 2) (lent (a .slots) (a .capacity) (a .size) (eqb (a .stop) 1)) (length (given-tris a l))
-        (start (lent (a .slots) (a .capacity) (a .size) (eqb (a .stop) 1)) (given-tris a l) (given-points a l))) r
-        → RunTo w w' q q' f f' qs quads' (a .slots) (a .capacity) (bucket-of (a .size)) (progress-of a l) r
-    unfolding settings
+        → RunTo w₁ w' q q' f f' qs quads' (rules-with a b)
+        (front-loop (max-attempts base (length (given-tris a l)) + 2) (settings-of (rules-with a b)) (length (given-tris a l))
+        (start (settings-of (rules-with a b)) (given-tris a l) (given-points a l))) r
+        → RunTo w w' q q' f f' qs quads' (rules-of a) (progress-of a l) r
+    unfolding settings settings-of
     mesh-ran w₁ w' q' f' quads' r d k =
-        subst (λ (z : Float). RunTo w w' q q' f f' qs quads' (a .slots) (a .capacity) z (progress-of a l) r) e
-        (run-from w₁ w w' q q' f f' qs quads' (a .slots) (a .capacity) b (progress-of a l) r d k)
+        subst (λ (z : Float). RunTo w w' q q' f f' qs quads' (rules-with a z) (progress-of a l) r) e
+        (run-from w₁ w w' q q' f f' qs quads' (rules-with a b) (progress-of a l) r d k)

@@ -3,6 +3,7 @@ use mathlib.Core.Path.{_≡_}
 use mathlib.Core.Bool.{cond}
 use mathlib.Core.List.{List}
 use Prim.Native.Nat.{ℕ, _+_, _*_, _≤_}
+use lib.Dec.{eqb}
 use lib.ListN.{length}
 use lib.Ieee.{Float}
 use Rattle.definition.specs.Lists.{flat-map}
@@ -13,6 +14,7 @@ use Rattle.definition.specs.Cells.{Mesh, tri-nodes, triangles}
 use Rattle.definition.specs.Components.{component-sizes}
 use Rattle.definition.specs.Front.{Progress, front-loop, start}
 use Rattle.definition.specs.Call.{Asked, Lent, given-points, given-tris, onto, settings}
+use Rattle.rules.specs.declared.Rules.{Rules}
 use Rattle.cells.specs.Rep.{Rep}
 use Rattle.checks.specs.Refusals.{first-refusal}
 use Rattle.mesher.specs.declared.Answer.{Answer}
@@ -37,6 +39,14 @@ finish-number finishes.NoSlots = 9
 -- the bucket's side: the size, or 1.0 without one
 abbrev pub bucket-of : Float → Float
 bucket-of size = cond (base .tiny-size ≺ size) size 1·0
+
+-- what the run of a call goes by, with this side of a bucket
+abbrev pub rules-with : Asked → Float → Rules
+rules-with a bucket = record { slots = a .slots; capacity = a .capacity; given = a .count; bucket = bucket; size = a .size; even = eqb (a .stop) 1; attempts = 200 * a .count + 10000 }
+
+-- and with its own
+abbrev pub rules-of : Asked → Rules
+rules-of a = rules-with a (bucket-of (a .size))
 
 -- ---- the run
 

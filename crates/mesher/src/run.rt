@@ -7,6 +7,7 @@ use components::sizes::component_sizes;
 use meshes::build::build;
 use results::write_triangles;
 use rounds::front::front_loop;
+use rules::Rules;
 use settling::standing::Finish;
 use settling::standing::Run;
 use settling::standing::Standing;
@@ -17,7 +18,7 @@ ghost use Rattle.definition.specs.Call.{Lent, call};
 ghost use Rattle.checks.specs.Refusals.{first-refusal};
 ghost use Rattle.rounds.specs.Loop.{RunTo};
 ghost use Rattle.mesher.specs.Promise.{asked-of, lent-of, Returns};
-ghost use Rattle.mesher.specs.Parts.{Refused, finish-number, bucket-of, progress-of, CanMesh, CanFinish, FinishTo};
+ghost use Rattle.mesher.specs.Parts.{Refused, finish-number, bucket-of, rules-of, progress-of, CanMesh, CanFinish, FinishTo};
 
 // A size up to this is none.
 const TINY_SIZE: f64 = 1e-9;
@@ -27,6 +28,11 @@ const NO_SIZE: f64 = 1.0;
 
 // The stop rule that keeps components even.
 const EVEN: u32 = 1;
+
+// The most attempts: so many for each given triangle, and so many more.
+const ATTEMPTS_EACH: usize = 200;
+
+const ATTEMPTS_MORE: usize = 10000;
 
 // A refusal: its number, nothing counted, no lists.
 pub fn refused(number: usize) -> Answer
@@ -86,25 +92,23 @@ fn mesh(
     stop: u32,
 ) -> Run
     requires { ⌜ ((l : Lent) × CanMesh (now points) (now triangles) (now quads) (now work) (now «float_work») (asked-of given capacity count slots size stop) l) ⌝ }
-    ensures { λ r. ⌜ ((l : Lent) → CanMesh (now (points .entry)) (now (triangles .entry)) (now (quads .entry)) (now (work .entry)) (now («float_work» .entry)) (asked-of given capacity count slots size stop) l → RunTo (now (work .entry)) (now (work .exit)) (now (points .entry)) (now (points .exit)) (now («float_work» .entry)) (now («float_work» .exit)) (now (quads .entry)) (now (quads .exit)) slots capacity (bucket-of size) (progress-of (asked-of given capacity count slots size stop) l) r) ⌝ }
+    ensures { λ r. ⌜ ((l : Lent) → CanMesh (now (points .entry)) (now (triangles .entry)) (now (quads .entry)) (now (work .entry)) (now («float_work» .entry)) (asked-of given capacity count slots size stop) l → RunTo (now (work .entry)) (now (work .exit)) (now (points .entry)) (now (points .exit)) (now («float_work» .entry)) (now («float_work» .exit)) (now (quads .entry)) (now (quads .exit)) (rules-of (asked-of given capacity count slots size stop)) (progress-of (asked-of given capacity count slots size stop) l) r) ⌝ }
 {
     build(work, triangles, slots, capacity, count, given);
     let counters = Counters::new(count, given);
     let bucket = bucket_of(size);
     let even = stop == EVEN;
-    front_loop(
-        work,
-        points,
-        float_work,
-        quads,
+    let attempts = ATTEMPTS_EACH * count + ATTEMPTS_MORE;
+    let rules = Rules {
         slots,
         capacity,
-        count,
+        given: count,
         bucket,
         size,
         even,
-        counters,
-    )
+        attempts,
+    };
+    front_loop(work, points, float_work, quads, rules, counters)
 }
 
 // The triangles that are left and the sizes of their components come to the front of their slices; the answer of the finished run.

@@ -14,6 +14,8 @@ use Rattle.definition.specs.Plane.{Node, Edge}
 use Rattle.definition.specs.Cells.{Tri, Mesh, front, quad-nodes}
 use Rattle.definition.specs.Front.{State, Progress, stuck, progressed, limited, stopped, round, front-loop, start, new-mesh}
 use Rattle.definition.specs.Call.{onto}
+use Rattle.rules.specs.declared.Rules.{Rules}
+use Rattle.rules.specs.Settings.{settings-of}
 use Rattle.account.specs.Lists.{never}
 use Rattle.account.specs.Reach.{begun}
 use Rattle.account.specs.Rounds.{tries, Gains, round-gains}
@@ -21,7 +23,7 @@ use Rattle.cells.specs.Layout.{mesh-end, refused-at}
 use Rattle.cells.specs.declared.counters.Counters.{Counters}
 use Rattle.blocks.specs.Records as Records
 use Rattle.blocks.specs.Blocks.{Blocks, OpenTo}
-use Rattle.lending.specs.Ready.{lent, Ready, Behind}
+use Rattle.lending.specs.Ready.{Ready, Behind}
 use Rattle.settling.specs.declared.standing.Standing.{Standing}
 use Rattle.settling.specs.declared.standing.Step.{Step}
 use Rattle.settling.specs.declared.standing.Going.{Going}
@@ -29,7 +31,7 @@ use Rattle.settling.specs.declared.standing.Going.the-variants as goings
 use Rattle.settling.specs.declared.standing.Run.{Run}
 use Rattle.settling.specs.Standings.{counts-of}
 use Rattle.settling.specs.Settles.{want-kind}
-use Rattle.steps.specs.Runs.{Begun, Setup, setup, settings-of, Fixed, Leaves, Goes}
+use Rattle.steps.specs.Runs.{Begun, Setup, setup, Fixed, Leaves, Goes}
 use Rattle.rounds.specs.Rounds.{Rounded}
 use Rattle.rounds.specs.Loop.{is-progressed, finish-of, want-finish, Finished, Begins, CanRun, LeftRun, RunTo}
 use Rattle.settling.proofs.Tallies.{same-counts}
@@ -57,14 +59,14 @@ want-finishes of-slots = refl
 
 -- it did not: the run ends
 end-case : (w : List ℕ) (q : List Float) (quads : List ℕ) (x : Setup) (given n : ℕ) (st : State) (p : Progress) (s' : Step) (r : Run) → Rounded w q quads x p s' → is-progressed (s' .kind) ≡ false
-    → round (settings-of x) given st (front (st .mesh)) ≡ p → r .finish ≡ finish-of (s' .kind) → r .standing ≡ s' .standing → Finished w q quads x (front-loop (suc n) (settings-of x) given st) r
+    → round (settings-of (x .rules)) given st (front (st .mesh)) ≡ p → r .finish ≡ finish-of (s' .kind) → r .standing ≡ s' .standing → Finished w q quads x (front-loop (suc n) (settings-of (x .rules)) given st) r
 unfolding front-loop
 end-case w q quads x given n st (stuck st') s' r h e g f k = rw (g, front-loop) (f ∙ ap finish-of (h .0), subst (λ (z : Standing). Leaves w q quads x z st') (sym k) (h .1))
 end-case w q quads x given n st (progressed st') s' r h e g f k = absurd (never (is-progressed (s' .kind)) (ap is-progressed (h .0)) e)
 end-case w q quads x given n st (limited st') s' r h e g f k = rw (g, front-loop) (f ∙ ap finish-of (h .0), subst (λ (z : Standing). Leaves w q quads x z st') (sym k) (h .1))
 end-case w q quads x given n st (stopped wt st') s' r h e g f k = rw (g, front-loop) (f ∙ ap finish-of (h .0) ∙ want-finishes wt, subst (λ (z : Standing). Leaves w q quads x z st') (sym k) (h .1))
 
-next-round : (x : Setup) (given n : ℕ) (st st' : State) → round (settings-of x) given st (front (st .mesh)) ≡ progressed st' → front-loop (suc n) (settings-of x) given st ≡ front-loop n (settings-of x) given st'
+next-round : (x : Setup) (given n : ℕ) (st st' : State) → round (settings-of (x .rules)) given st (front (st .mesh)) ≡ progressed st' → front-loop (suc n) (settings-of (x .rules)) given st ≡ front-loop n (settings-of (x .rules)) given st'
 unfolding front-loop
 next-round x given n st st' h = rw (h, front-loop) refl
 
@@ -73,11 +75,12 @@ pub record Running (w : List ℕ) (q : List Float) (quads : List ℕ) (x : Setup
   pub st : State
   pub fuel : ℕ
   pub goes : Goes w q quads x g st []
-  pub enough : max-attempts base (x .given) < fuel + st .counts .attempts
-  pub same : p ≡ front-loop fuel (settings-of x) (x .given) st
+  pub enough : max-attempts base (x .rules .given) < fuel + st .counts .attempts
+  pub same : p ≡ front-loop fuel (settings-of (x .rules)) (x .rules .given) st
 
 module _ (w : List ℕ) (q : List Float) (quads : List ℕ) (x : Setup) (g : Standing) (p : Progress) (t : Running w q quads x g p) where
-  tries-fit : t .st .counts .attempts ≤ max-attempts base (x .given)
+  tries-fit : t .st .counts .attempts ≤ max-attempts base (x .rules .given)
+  unfolding settings-of
   tries-fit =
       let f = t .goes .reaches .fixed in
       subst (λ (n : ℕ). t .st .counts .attempts ≤ max-attempts base n) (sym (f .given)) (sound x f (t .st) (t .goes .reaches .old) [] (t .goes .reaches .reach) .tries-fit)
@@ -85,25 +88,26 @@ module _ (w : List ℕ) (q : List Float) (quads : List ℕ) (x : Setup) (g : Sta
   fuel-is : (n : ℕ) × (t .fuel ≡ suc n)
   fuel-is = go (t .fuel) (t .enough)
     where
-      go : (k : ℕ) → max-attempts base (x .given) < k + t .st .counts .attempts → (n : ℕ) × (k ≡ suc n)
-      go zero h = let l : t .st .counts .attempts ≤ max-attempts base (x .given) = tries-fit in absurd (omega arith)
+      go : (k : ℕ) → max-attempts base (x .rules .given) < k + t .st .counts .attempts → (n : ℕ) × (k ≡ suc n)
+      go zero h = let l : t .st .counts .attempts ≤ max-attempts base (x .rules .given) = tries-fit in absurd (omega arith)
       go (suc n) h = (n, refl)
 
-  gains : Gains (max-attempts base (x .given)) (t .st .counts .attempts) (round (settings-of x) (x .given) (t .st) (front (t .st .mesh)))
-  gains = round-gains (settings-of x) (x .given) (t .st) (front (t .st .mesh)) tries-fit
+  gains : Gains (max-attempts base (x .rules .given)) (t .st .counts .attempts) (round (settings-of (x .rules)) (x .rules .given) (t .st) (front (t .st .mesh)))
+  unfolding settings-of
+  gains = round-gains (settings-of (x .rules)) (x .rules .given) (t .st) (front (t .st .mesh)) tries-fit
 
-  module _ (w' : List ℕ) (q' : List Float) (quads' : List ℕ) (s' : Step) (to : Rounded w' q' quads' x (round (settings-of x) (x .given) (t .st) (front (t .st .mesh))) s') where
+  module _ (w' : List ℕ) (q' : List Float) (quads' : List ℕ) (s' : Step) (to : Rounded w' q' quads' x (round (settings-of (x .rules)) (x .rules .given) (t .st) (front (t .st .mesh))) s') where
     pub ends-there : is-progressed (s' .kind) ≡ false → (r : Run) → r .finish ≡ finish-of (s' .kind) → r .standing ≡ s' .standing → Finished w' q' quads' x p r
     ends-there e r f k =
-        let end = end-case w' q' quads' x (x .given) (fuel-is .0) (t .st) (round (settings-of x) (x .given) (t .st) (front (t .st .mesh))) s' r to e refl f k in
-        subst (λ z. Finished w' q' quads' x z r) (sym (t .same ∙ ap (λ (n : ℕ). front-loop n (settings-of x) (x .given) (t .st)) (fuel-is .1))) end
+        let end = end-case w' q' quads' x (x .rules .given) (fuel-is .0) (t .st) (round (settings-of (x .rules)) (x .rules .given) (t .st) (front (t .st .mesh))) s' r to e refl f k in
+        subst (λ z. Finished w' q' quads' x z r) (sym (t .same ∙ ap (λ (n : ℕ). front-loop n (settings-of (x .rules)) (x .rules .given) (t .st)) (fuel-is .1))) end
 
     module _ (e : is-progressed (s' .kind) ≡ true) where
-      one : (st : State) × (round (settings-of x) (x .given) (t .st) (front (t .st .mesh)) ≡ progressed st) × Goes w' q' quads' x (s' .standing) st []
-      one = progress-case w' q' quads' x (round (settings-of x) (x .given) (t .st) (front (t .st .mesh))) s' to e
+      one : (st : State) × (round (settings-of (x .rules)) (x .rules .given) (t .st) (front (t .st .mesh)) ≡ progressed st) × Goes w' q' quads' x (s' .standing) st []
+      one = progress-case w' q' quads' x (round (settings-of (x .rules)) (x .rules .given) (t .st) (front (t .st .mesh))) s' to e
 
-      more : (t .st .counts .attempts < one .0 .counts .attempts) × (one .0 .counts .attempts ≤ max-attempts base (x .given))
-      more = subst (λ z. Gains (max-attempts base (x .given)) (t .st .counts .attempts) z) (one .1) gains
+      more : (t .st .counts .attempts < one .0 .counts .attempts) × (one .0 .counts .attempts ≤ max-attempts base (x .rules .given))
+      more = subst (λ z. Gains (max-attempts base (x .rules .given)) (t .st .counts .attempts) z) (one .1) gains
 
       pub goes-on : Running w' q' quads' x (s' .standing) p
       goes-on =
@@ -115,51 +119,51 @@ module _ (w : List ℕ) (q : List Float) (quads : List ℕ) (x : Setup) (g : Sta
             fuel = fuel-is .0;
             goes = one .2;
             enough = omega (arith, m, k, en);
-            same = t .same ∙ ap (λ (n : ℕ). front-loop n (settings-of x) (x .given) (t .st)) k ∙ next-round x (x .given) (fuel-is .0) (t .st) (one .0) (one .1);
+            same = t .same ∙ ap (λ (n : ℕ). front-loop n (settings-of (x .rules)) (x .rules .given) (t .st)) k ∙ next-round x (x .rules .given) (fuel-is .0) (t .st) (one .0) (one .1);
           }
 
-      pub fewer : 200 * x .given + 10001 - s' .standing .counters .attempts < 200 * x .given + 10001 - g .counters .attempts
+      pub fewer : 200 * x .rules .given + 10001 - s' .standing .counters .attempts < 200 * x .rules .given + 10001 - g .counters .attempts
       unfolding max-attempts base
       fewer =
           let m : t .st .counts .attempts < one .0 .counts .attempts = more .0 in
-          let l : one .0 .counts .attempts ≤ max-attempts base (x .given) = more .1 in
+          let l : one .0 .counts .attempts ≤ max-attempts base (x .rules .given) = more .1 in
           let a : g .counters .attempts ≡ t .st .counts .attempts = ap (λ c. c .attempts) (t .goes .holds .counts) in
           let b : s' .standing .counters .attempts ≡ one .0 .counts .attempts = ap (λ c. c .attempts) (one .2 .holds .counts) in
           omega (arith, m, l, a, b)
 
 -- ---- the start
 
-module _ (w : List ℕ) (q f : List Float) (quads : List ℕ) (s p given : ℕ) (bucket size : Float) (even : Bool) (c : Counters) (ts : List Tri) (ps : List Node) (k : CanRun w q f quads s p given bucket size even c ts ps) where
+module _ (w : List ℕ) (q f : List Float) (quads : List ℕ) (rules : Rules) (c : Counters) (ts : List Tri) (ps : List Node) (k : CanRun w q f quads rules c ts ps) where
   abbrev pub begun-with : Begun
   begun-with = record { ts = ts; ps = ps; floats = q; old = quads }
 
   abbrev x : Setup
-  x = setup s p given bucket size even (record { ts = ts; ps = ps; floats = q; old = quads })
+  x = setup rules (record { ts = ts; ps = ps; floats = q; old = quads })
 
   fixed : Fixed x
-  fixed = record { proper = k .proper; given = k .is-given; few = k .few; points = k .points; slots = k .slots; within = k .within; sized = k .sized; room = k .room }
+  fixed = record { proper = k .proper; given = k .is-given; few = k .few; attempts = k .attempts; points = k .points; slots = k .slots; within = k .within; sized = k .sized; room = k .room }
 
-  pub can-open : Records.Room w (refused-at s p) (3 * s) p
+  pub can-open : Records.Room w (refused-at (rules .slots) (rules .capacity)) (3 * rules .slots) (rules .capacity)
   can-open =
       let r = k .ready .rep .room .fits in
       let a = k .ready .small .slots in
       let b = k .ready .small .points in
       record { fits = omega arith; few-records = omega arith; few-nodes = omega arith }
 
-  module _ (w₁ : List ℕ) (to : OpenTo w w₁ (refused-at s p) (3 * s) p) (g : Standing) (b : Begins c g) where
-    begin-counts : counts-of g ≡ start (lent s p size even) ts ps .counts
+  module _ (w₁ : List ℕ) (to : OpenTo w w₁ (refused-at (rules .slots) (rules .capacity)) (3 * rules .slots) (rules .capacity)) (g : Standing) (b : Begins c g) where
+    begin-counts : counts-of g ≡ start (settings-of rules) ts ps .counts
     unfolding start no-counts tally
     begin-counts = same-counts (counts-of g) no-counts (b .front) (ap (λ z. z .attempts) (b .counters) ∙ k .fresh) (b .placement) (b .invalid) (b .recovery) (b .region) (b .odd) (b .insertions) (b .limit)
 
-    pub starts : Goes w₁ q quads x g (start (lent s p size even) ts ps) []
+    pub starts : Goes w₁ q quads x g (start (settings-of rules) ts ps) []
     unfolding start onto flat-map
     starts =
         let kept = to .kept in
         record {
           ever = [];
           holds = record {
-            ready = subst (λ (z : Counters). Ready w₁ q s p bucket z (start (lent s p size even) ts ps .mesh)) (sym (b .counters))
-                (ready-under w w₁ q s p bucket c (start (lent s p size even) ts ps .mesh) (record { len = kept .len; low = λ i l. kept .before i (omega arith) }) (k .ready));
+            ready = subst (λ (z : Counters). Ready w₁ q rules z (start (settings-of rules) ts ps .mesh)) (sym (b .counters))
+                (ready-under w w₁ q rules c (start (settings-of rules) ts ps .mesh) (record { len = kept .len; low = λ i l. kept .before i (omega arith) }) (k .ready));
             counts = begin-counts;
             behind = record { len = refl; rest = refl };
             so-far = record { blocks = to .blocks; records = b .records; number = b .quads; text = refl };
@@ -167,21 +171,21 @@ module _ (w : List ℕ) (q f : List Float) (quads : List ℕ) (s p given : ℕ) 
           reaches = record { fixed = fixed; old = []; reach = begun; sub = λ e i. i };
         }
 
-    pub fuel-enough : max-attempts base given < max-attempts base (length ts) + 2 + start (lent s p size even) ts ps .counts .attempts
+    pub fuel-enough : max-attempts base (rules .given) < max-attempts base (length ts) + 2 + start (settings-of rules) ts ps .counts .attempts
     fuel-enough = let e = ap (max-attempts base) (k .is-given) in omega (arith, e)
 
-    left : (w' : List ℕ) (q' f' : List Float) (quads' : List ℕ) (st : State) (r : Run) → length w' ≡ length w → length f' ≡ length f → Leaves w' q' quads' x (r .standing) st → LeftRun w w' q q' f f' quads quads' s p bucket st r
+    left : (w' : List ℕ) (q' f' : List Float) (quads' : List ℕ) (st : State) (r : Run) → length w' ≡ length w → length f' ≡ length f → Leaves w' q' quads' x (r .standing) st → LeftRun w w' q q' f f' quads quads' rules st r
     left w' q' f' quads' st r l m h = record { ready = h .ready; counts = h .counts; number = h .number; text = h .text; behind = h .behind; words = l; reals = m }
 
-    run-case : (w' : List ℕ) (q' f' : List Float) (quads' : List ℕ) (e : Progress) (r : Run) → length w' ≡ length w → length f' ≡ length f → Finished w' q' quads' x e r → RunTo w w' q q' f f' quads quads' s p bucket e r
+    run-case : (w' : List ℕ) (q' f' : List Float) (quads' : List ℕ) (e : Progress) (r : Run) → length w' ≡ length w → length f' ≡ length f → Finished w' q' quads' x e r → RunTo w w' q q' f f' quads quads' rules e r
     run-case w' q' f' quads' (stuck st) r l m h = (h .0, left w' q' f' quads' st r l m (h .1))
     run-case w' q' f' quads' (progressed st) r l m h = (h .0, left w' q' f' quads' st r l m (h .1))
     run-case w' q' f' quads' (limited st) r l m h = (h .0, left w' q' f' quads' st r l m (h .1))
     run-case w' q' f' quads' (stopped wt st) r l m h = (h .0, left w' q' f' quads' st r l m (h .1))
 
     pub runs-to : (w' : List ℕ) (q' f' : List Float) (quads' : List ℕ) (r : Run) → length w' ≡ length w → length f' ≡ length f
-        → Finished w' q' quads' x (front-loop (max-attempts base (length ts) + 2) (lent s p size even) given (start (lent s p size even) ts ps)) r
-        → RunTo w w' q q' f f' quads quads' s p bucket (front-loop (max-attempts base (length ts) + 2) (lent s p size even) (length ts) (start (lent s p size even) ts ps)) r
+        → Finished w' q' quads' x (front-loop (max-attempts base (length ts) + 2) (settings-of rules) (rules .given) (start (settings-of rules) ts ps)) r
+        → RunTo w w' q q' f f' quads quads' rules (front-loop (max-attempts base (length ts) + 2) (settings-of rules) (length ts) (start (settings-of rules) ts ps)) r
     runs-to w' q' f' quads' r l m h =
-        run-case w' q' f' quads' (front-loop (max-attempts base (length ts) + 2) (lent s p size even) (length ts) (start (lent s p size even) ts ps)) r l m
-        (subst (λ (n : ℕ). Finished w' q' quads' x (front-loop (max-attempts base (length ts) + 2) (lent s p size even) n (start (lent s p size even) ts ps)) r) (k .is-given) h)
+        run-case w' q' f' quads' (front-loop (max-attempts base (length ts) + 2) (settings-of rules) (length ts) (start (settings-of rules) ts ps)) r l m
+        (subst (λ (n : ℕ). Finished w' q' quads' x (front-loop (max-attempts base (length ts) + 2) (settings-of rules) n (start (settings-of rules) ts ps)) r) (k .is-given) h)

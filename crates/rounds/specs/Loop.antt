@@ -6,16 +6,19 @@ use Prim.Native.Nat.{ℕ, _+_, _*_, _≤_}
 use lib.ListN.{length}
 use lib.Ieee.{Float}
 use Rattle.definition.specs.Lists.{flat-map}
+use Rattle.definition.specs.Numbers.{base, max-attempts}
 use Rattle.definition.specs.Counts.{Want, of-points, of-slots}
 use Rattle.definition.specs.Plane.{Node}
 use Rattle.definition.specs.Cells.{Tri, quad-nodes}
 use Rattle.definition.specs.Front.{State, Progress, stuck, progressed, limited, stopped, start}
 use Rattle.definition.specs.Call.{onto}
 use Rattle.definition.specs.Account.{All}
+use Rattle.rules.specs.declared.Rules.{Rules}
+use Rattle.rules.specs.Settings.{settings-of}
 use Rattle.account.specs.Start.{Proper}
 use Rattle.exact.specs.Theorems.{Within}
 use Rattle.cells.specs.declared.counters.Counters.{Counters}
-use Rattle.lending.specs.Ready.{lent, Ready, Behind}
+use Rattle.lending.specs.Ready.{Ready, Behind}
 use Rattle.settling.specs.declared.standing.Tally.{Tally}
 use Rattle.settling.specs.declared.standing.Standing.{Standing}
 use Rattle.settling.specs.declared.standing.Going.{Going}
@@ -73,24 +76,25 @@ pub record Begins (c : Counters) (g : Standing) : Type 0 where
   pub records : g .records ≡ 0
 
 -- the slices stand for the given triangles ts and points ps, and have the room that document 01 says; refusals 1 to 7 were tested
-pub record CanRun (w : List ℕ) (q f : List Float) (quads : List ℕ) (s p given : ℕ) (bucket size : Float) (even : Bool) (c : Counters) (ts : List Tri) (ps : List Node) : Type 0 where
-  pub ready : Ready w q s p bucket c (start (lent s p size even) ts ps .mesh)
+pub record CanRun (w : List ℕ) (q f : List Float) (quads : List ℕ) (rules : Rules) (c : Counters) (ts : List Tri) (ps : List Node) : Type 0 where
+  pub ready : Ready w q rules c (start (settings-of rules) ts ps .mesh)
   pub proper : Proper ps ts
-  pub is-given : given ≡ length ts
-  pub few : given ≤ 4096
-  pub points : length ps ≤ p
-  pub slots : length ts ≤ s
+  pub is-given : rules .given ≡ length ts
+  pub few : rules .given ≤ 4096
+  pub attempts : rules .attempts ≡ max-attempts base (rules .given)
+  pub points : length ps ≤ rules .capacity
+  pub slots : length ts ≤ rules .slots
   pub fresh : c .attempts ≡ 0
   pub within : All Within ps
-  pub sized : Sized size
-  pub floats : 3 * s ≤ length f
-  pub room : 4 * s ≤ length quads
+  pub sized : Sized (rules .size)
+  pub floats : 3 * rules .slots ≤ length f
+  pub room : 4 * rules .slots ≤ length quads
 
 -- ---- the end
 
 -- the slices, the counters and the tally stand for the last state
-pub record LeftRun (w w' : List ℕ) (q q' f f' : List Float) (quads quads' : List ℕ) (s p : ℕ) (bucket : Float) (st : State) (r : Run) : Type 0 where
-  pub ready : Ready w' q' s p bucket (r .standing .counters) (st .mesh)
+pub record LeftRun (w w' : List ℕ) (q q' f f' : List Float) (quads quads' : List ℕ) (rules : Rules) (st : State) (r : Run) : Type 0 where
+  pub ready : Ready w' q' rules (r .standing .counters) (st .mesh)
   pub counts : counts-of (r .standing) ≡ st .counts
   pub number : r .standing .quads ≡ length (st .quads)
   pub text : quads' ≡ onto (flat-map quad-nodes (st .quads)) quads
@@ -99,8 +103,8 @@ pub record LeftRun (w w' : List ℕ) (q q' f f' : List Float) (quads quads' : Li
   pub reals : length f' ≡ length f
 
 -- by cases
-abbrev pub RunTo : List ℕ → List ℕ → List Float → List Float → List Float → List Float → List ℕ → List ℕ → ℕ → ℕ → Float → Progress → Run → Type 0
-RunTo w w' q q' f f' quads quads' s p bucket (stuck st) r = (r .finish ≡ finishes.Done) × LeftRun w w' q q' f f' quads quads' s p bucket st r
-RunTo w w' q q' f f' quads quads' s p bucket (progressed st) r = (r .finish ≡ finishes.Done) × LeftRun w w' q q' f f' quads quads' s p bucket st r
-RunTo w w' q q' f f' quads quads' s p bucket (limited st) r = (r .finish ≡ finishes.Done) × LeftRun w w' q q' f f' quads quads' s p bucket st r
-RunTo w w' q q' f f' quads quads' s p bucket (stopped wt st) r = (r .finish ≡ want-finish wt) × LeftRun w w' q q' f f' quads quads' s p bucket st r
+abbrev pub RunTo : List ℕ → List ℕ → List Float → List Float → List Float → List Float → List ℕ → List ℕ → Rules → Progress → Run → Type 0
+RunTo w w' q q' f f' quads quads' rules (stuck st) r = (r .finish ≡ finishes.Done) × LeftRun w w' q q' f f' quads quads' rules st r
+RunTo w w' q q' f f' quads quads' rules (progressed st) r = (r .finish ≡ finishes.Done) × LeftRun w w' q q' f f' quads quads' rules st r
+RunTo w w' q q' f f' quads quads' rules (limited st) r = (r .finish ≡ finishes.Done) × LeftRun w w' q q' f f' quads quads' rules st r
+RunTo w w' q q' f f' quads quads' rules (stopped wt st) r = (r .finish ≡ want-finish wt) × LeftRun w w' q q' f f' quads quads' rules st r

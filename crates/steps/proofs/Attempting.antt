@@ -19,6 +19,8 @@ use Rattle.definition.specs.Cells.{Mesh, Quad, new-quad, quad-nodes, key, is-fr
 use Rattle.definition.specs.Attempt.{Attempt, placed, refused, ended, try-quad}
 use Rattle.definition.specs.Front.{State, Progress, stuck, progressed, limited, stopped, counting, freed, after, make-attempt, past-limit, attempt}
 use Rattle.definition.specs.Account.{All, Pairwise}
+use Rattle.rules.specs.declared.Rules.{Rules}
+use Rattle.rules.specs.Settings.{settings-of}
 use Rattle.account.specs.Lists.{which, never, In, in-right, all-from, all-at, none-in}
 use Rattle.account.specs.Ends.{edge-self}
 use Rattle.account.specs.Run.{Progress-ok}
@@ -46,7 +48,7 @@ use Rattle.settling.specs.declared.standing.Going.the-variants as goings
 use Rattle.attempts.specs.Tries.{CanAttempt}
 use Rattle.settling.specs.Standings.{counts-of, sort-of, FewTally, CountedOne, CountsMore}
 use Rattle.settling.specs.Settles.{Kept-so-far, QuadFits, CanSettle, SettleTo, Placing, Refusing, Ending, Counted-on, want-kind}
-use Rattle.steps.specs.Runs.{Setup, settings-of, Fixed, Leaves, Holds, Reaches, Goes, FrontKept, Makes, Stepped, StepTo}
+use Rattle.steps.specs.Runs.{Setup, Fixed, Leaves, Holds, Reaches, Goes, FrontKept, Makes, Stepped, StepTo}
 use Rattle.settling.proofs.Texts.{numbers-length, onto-length}
 use Rattle.settling.proofs.Settling.{sort-of-refusal, sort-of-want, want-sort}
 use Rattle.steps.proofs.Reaching.{Fine, Q, R, All-within, Gets, sound, attempt-fine, reach-within, reach-never}
@@ -63,13 +65,12 @@ not-false false e = sym e
 
 -- ---- limits
 
-pub past-first : (given tries live : ℕ) → 200 * given + 10000 < tries → true ≡ (ltb (max-attempts base given) tries || ltb (max-triangles base given) live)
-unfolding max-attempts base
-past-first given tries live h = rw (lt-ltb (200 * given + 10000) tries h) refl
+pub past-first : (most given tries live : ℕ) → most < tries → true ≡ (ltb most tries || ltb (max-triangles base given) live)
+past-first most given tries live h = rw (lt-ltb most tries h) refl
 
-pub past-second : (given tries live : ℕ) → tries ≤ 200 * given + 10000 → ltb (4 * given + 100) live ≡ (ltb (max-attempts base given) tries || ltb (max-triangles base given) live)
-unfolding max-attempts max-triangles base
-past-second given tries live h = rw (le-ltb (200 * given + 10000) tries h) refl
+pub past-second : (most given tries live : ℕ) → tries ≤ most → ltb (4 * given + 100) live ≡ (ltb most tries || ltb (max-triangles base given) live)
+unfolding max-triangles base
+past-second most given tries live h = rw (le-ltb most tries h) refl
 
 -- ---- frames
 
@@ -81,9 +82,9 @@ kept-under : (w w' : List ℕ) (s p : ℕ) → Kept w w' (refused-at s p) (size 
 kept-under w w' s p h = record { len = h .len; low = λ i l. h .before i (omega arith) }
 
 -- the memory stands for the mesh as before
-pub ready-under : (w w' : List ℕ) (q : List Float) (s p : ℕ) (bucket : Float) (c : Counters) (m : Mesh) → Under w w' (mesh-end s p) → Ready w q s p bucket c m → Ready w' q s p bucket c m
-ready-under w w' q s p bucket c m h r =
-    record { rep = rep-under w w' s p h m (r .rep); pts = r .pts; side = r .side; counted = r .counted; live = r .live; attempts = r .attempts; small = r .small }
+pub ready-under : (w w' : List ℕ) (q : List Float) (rules : Rules) (c : Counters) (m : Mesh) → Under w w' (mesh-end (rules .slots) (rules .capacity)) → Ready w q rules c m → Ready w' q rules c m
+ready-under w w' q rules c m h r =
+    record { rep = rep-under w w' (rules .slots) (rules .capacity) h m (r .rep); pts = r .pts; side = r .side; counted = r .counted; live = r .live; attempts = r .attempts; small = r .small }
 
 -- an attempt and a change of the refused edges leave the front's areas
 pub front-kept : (w w' w'' : List ℕ) (s p : ℕ) → Beyond w w' s p → Kept w' w'' (refused-at s p) (size (3 * s) p) → FrontKept w w'' s p
@@ -129,16 +130,17 @@ few-from g c e n h l1 l2 l3 l4 l5 l6 l7 l8 =
       limit = omega (arith, ap (λ z. z .limit) e);
     }
 
-module _ (x : Setup) (st : State) (old es : List Edge) (f : Fixed x) (small : x .p ≤ 8192) (reach : Gets x f st old es) where
-  sd : Reached-state (settings-of x) (x .begun .ts) (x .begun .ps) st old es
+module _ (x : Setup) (st : State) (old es : List Edge) (f : Fixed x) (small : x .rules .capacity ≤ 8192) (reach : Gets x f st old es) where
+  sd : Reached-state (settings-of (x .rules)) (x .begun .ts) (x .begun .ps) st old es
   sd = sound x f st old es reach
 
   -- attempts and insertions are few
   pub tries-few : st .counts .attempts ≤ 829200
-  unfolding max-attempts base
+  unfolding max-attempts base settings-of
   tries-few = omega (arith, sd .tries-fit, f .given, f .few)
 
-  pub insertions-few : st .counts .mismatch-insertions ≤ x .p
+  pub insertions-few : st .counts .mismatch-insertions ≤ x .rules .capacity
+  unfolding settings-of
   insertions-few =
       let h = ap length (sd .counted .points-are) ∙ length-append (x .begun .ps) (sd .counted .added) in
       omega (arith, h, sd .counted .number, sd .good .fits .points)
@@ -148,7 +150,7 @@ module _ (x : Setup) (st : State) (old es : List Edge) (f : Fixed x) (small : x 
       let u = sd .counted .adds-up in
       let b : st .counts .attempts ≤ 829200 = tries-few in
       let z : st .counts .front-empty ≡ 0 = reach-never x f st old es reach in
-      let i : st .counts .mismatch-insertions ≤ 829200 = let j : st .counts .mismatch-insertions ≤ x .p = insertions-few in omega arith in
+      let i : st .counts .mismatch-insertions ≤ 829200 = let j : st .counts .mismatch-insertions ≤ x .rules .capacity = insertions-few in omega arith in
       few-from g (st .counts) e 829200 (omega arith) (omega arith) (omega arith) (omega arith) (omega arith)
       (omega arith) (omega arith) (omega arith) (omega arith)
 
@@ -158,7 +160,7 @@ module _ (x : Setup) (st : State) (old es : List Edge) (f : Fixed x) (small : x 
       let u = sd .counted .adds-up in
       let b : st .counts .attempts ≤ 829200 = tries-few in
       let z : st .counts .front-empty ≡ 0 = reach-never x f st old es reach in
-      let i : st .counts .mismatch-insertions ≤ 829200 = let j : st .counts .mismatch-insertions ≤ x .p = insertions-few in omega arith in
+      let i : st .counts .mismatch-insertions ≤ 829200 = let j : st .counts .mismatch-insertions ≤ x .rules .capacity = insertions-few in omega arith in
       few-from g (counting st one-attempt .counts) e 829200 (omega arith) (omega arith) (omega arith) (omega arith) (omega arith)
       (omega arith) (omega arith) (omega arith) (omega arith)
 
@@ -194,7 +196,7 @@ module _ (x : Setup) (w : List ℕ) (q : List Float) (quads : List ℕ) (g : Sta
   before : Gets x fx st (k .reaches .old) ((u, v) ∷ es)
   before = k .reaches .reach
 
-  sb : Reached-state (settings-of x) (x .begun .ts) (x .begun .ps) st (k .reaches .old) ((u, v) ∷ es)
+  sb : Reached-state (settings-of (x .rules)) (x .begun .ts) (x .begun .ps) st (k .reaches .old) ((u, v) ∷ es)
   sb = sound x fx st (k .reaches .old) ((u, v) ∷ es) before
 
   pub up : u < v
@@ -203,36 +205,36 @@ module _ (x : Setup) (w : List ℕ) (q : List Float) (quads : List ℕ) (g : Sta
   pub known : v < length (st .mesh .points)
   known = sb .good .tracked .each (u, v) (inl refl) .below
 
-  pub ready : Ready w q (x .s) (x .p) (x .bucket) (g .counters) (st .mesh)
+  pub ready : Ready w q (x .rules) (g .counters) (st .mesh)
   unfolding counting
   ready = k .holds .ready
 
-  points-fit : length (st .mesh .points) ≤ x .p
+  points-fit : length (st .mesh .points) ≤ x .rules .capacity
   points-fit = ready .rep .points
 
-  pub on-edge : Walk.IsEdge (x .p) u v
+  pub on-edge : Walk.IsEdge (x .rules .capacity) u v
   on-edge = record { node = omega (arith, up, known, points-fit); apart = λ z. omega (arith, up, z) }
 
-  is-edge : IsEdge (x .p) (u, v)
+  is-edge : IsEdge (x .rules .capacity) (u, v)
   is-edge = record { order = up; below = omega (arith, known, points-fit) }
 
-  pub can-attempt : CanAttempt w q (x .s) (x .p) (x .bucket) (g .counters) u v (st .mesh)
+  pub can-attempt : CanAttempt w q (x .rules) (g .counters) u v (st .mesh)
   can-attempt = record { ready = ready; up = up; known = omega (arith, known, ready .counted .points) }
 
   -- an attempt not past the limits is made
-  made : attempt (settings-of x) (x .given) st (u, v) ≡ make-attempt (settings-of x) (counting st one-attempt) (u, v)
-  unfolding attempt
+  made : attempt (settings-of (x .rules)) (x .rules .given) st (u, v) ≡ make-attempt (settings-of (x .rules)) (counting st one-attempt) (u, v)
+  unfolding attempt settings-of
   made = rw (k .below) refl
 
-  pub off-front : is-front (st .mesh) (u, v) ≡ false → attempt (settings-of x) (x .given) st (u, v) ≡ after (counting st one-attempt) (u, v) (refused Placement 0 (st .mesh))
+  pub off-front : is-front (st .mesh) (u, v) ≡ false → attempt (settings-of (x .rules)) (x .rules .given) st (u, v) ≡ after (counting st one-attempt) (u, v) (refused Placement 0 (st .mesh))
   unfolding make-attempt counting
   off-front h = made ∙ (rw h refl)
 
-  pub on-front : is-front (st .mesh) (u, v) ≡ true → attempt (settings-of x) (x .given) st (u, v) ≡ after (counting st one-attempt) (u, v) (try-quad (settings-of x) (st .mesh) (u, v))
+  pub on-front : is-front (st .mesh) (u, v) ≡ true → attempt (settings-of (x .rules)) (x .rules .given) st (u, v) ≡ after (counting st one-attempt) (u, v) (try-quad (settings-of (x .rules)) (st .mesh) (u, v))
   unfolding make-attempt counting
   on-front h = made ∙ (rw h refl)
 
-  blocks-before : Blocks w (refused-at (x .s) (x .p)) (3 * x .s) (x .p) (length (st .quads)) (k .ever) (st .blocked)
+  blocks-before : Blocks w (refused-at (x .rules .slots) (x .rules .capacity)) (3 * x .rules .slots) (x .rules .capacity) (length (st .quads)) (k .ever) (st .blocked)
   unfolding counting
   blocks-before = k .holds .so-far .blocks
 
@@ -248,7 +250,8 @@ module _ (x : Setup) (w : List ℕ) (q : List Float) (quads : List ℕ) (g : Sta
   unfolding counting
   behind-before = k .holds .behind
 
-  quads-few : length (st .quads) ≤ x .s
+  quads-few : length (st .quads) ≤ x .rules .slots
+  unfolding settings-of
   quads-few = omega (arith, sb .good .quads-fit, sb .good .fits .slots)
 
   quads-long : length quads ≡ length (x .begun .old)
@@ -257,23 +260,23 @@ module _ (x : Setup) (w : List ℕ) (q : List Float) (quads : List ℕ) (g : Sta
 
   -- ---- with its end
 
-  module _ (a : Attempt) (ran : attempt (settings-of x) (x .given) st (u, v) ≡ after (counting st one-attempt) (u, v) a) where
-    ran-given : attempt (settings-of x) (length (x .begun .ts)) st (u, v) ≡ after (counting st one-attempt) (u, v) a
-    ran-given = ap (λ (n : ℕ). attempt (settings-of x) n st (u, v)) (sym (fx .given)) ∙ ran
+  module _ (a : Attempt) (ran : attempt (settings-of (x .rules)) (x .rules .given) st (u, v) ≡ after (counting st one-attempt) (u, v) a) where
+    ran-given : attempt (settings-of (x .rules)) (length (x .begun .ts)) st (u, v) ≡ after (counting st one-attempt) (u, v) a
+    ran-given = ap (λ (n : ℕ). attempt (settings-of (x .rules)) n st (u, v)) (sym (fx .given)) ∙ ran
 
     fine : Progress-ok (Q (st .mesh .points) (st .counts .mismatch-insertions)) (R (st .mesh .points) (st .counts .mismatch-insertions)) es (after (counting st one-attempt) (u, v) a)
     fine =
         subst (λ p. Progress-ok (Q (st .mesh .points) (st .counts .mismatch-insertions)) (R (st .mesh .points) (st .counts .mismatch-insertions)) es p) ran-given
         (attempt-fine x (fx .sized) (k .reaches .old) st (u, v) es sb (reach-within x fx st (k .reaches .old) ((u, v) ∷ es) before))
 
-  fine-few : (points : List Node) (n j : ℕ) → Fine (st .mesh .points) (st .counts .mismatch-insertions) points j → j ≡ st .counts .mismatch-insertions + n → length points ≤ x .p
-      → (n ≤ x .p) × (length (st .mesh .points) ≤ length points)
+  fine-few : (points : List Node) (n j : ℕ) → Fine (st .mesh .points) (st .counts .mismatch-insertions) points j → j ≡ st .counts .mismatch-insertions + n → length points ≤ x .rules .capacity
+      → (n ≤ x .rules .capacity) × (length (st .mesh .points) ≤ length points)
   fine-few points n j h e l =
       let m = ap length (h .is) ∙ length-append (st .mesh .points) (h .new) in
       (omega (arith, m, h .number), omega (arith, m))
 
   -- a refusal
-  module _ (why : Refusal) (n : ℕ) (m : Mesh) (ran : attempt (settings-of x) (x .given) st (u, v) ≡ after (counting st one-attempt) (u, v) (refused why n m)) where
+  module _ (why : Refusal) (n : ℕ) (m : Mesh) (ran : attempt (settings-of (x .rules)) (x .rules .given) st (u, v) ≡ after (counting st one-attempt) (u, v) (refused why n m)) where
     abbrev refused-state : State
     refused-state = record { mesh = m; quads = st .quads; blocked = (u, v) ∷ st .blocked; counts = counting st one-attempt .counts ⊞ insertions n ⊞ refused-by why }
 
@@ -281,14 +284,15 @@ module _ (x : Setup) (w : List ℕ) (q : List Float) (quads : List ℕ) (g : Sta
     unfolding after counting
     refused-reach = by-refusal st refused-state (k .reaches .old) (u, v) es before (ran-given (refused why n m) ran)
 
-    refused-fine : length (m .points) ≤ x .p → (n ≤ x .p) × (length (st .mesh .points) ≤ length (m .points))
+    refused-fine : length (m .points) ≤ x .rules .capacity → (n ≤ x .rules .capacity) × (length (st .mesh .points) ≤ length (m .points))
     unfolding after counting
     refused-fine l = fine-few (m .points) n _ (fine (refused why n m) ran .1) (refused-number (st .counts) n why) l
 
-    refused-room : m .used ≤ x .s → length (with-edge (u, v) (k .ever)) ≤ 3 * x .s
+    refused-room : m .used ≤ x .rules .slots → length (with-edge (u, v) (k .ever)) ≤ 3 * x .rules .slots
+    unfolding settings-of
     refused-room l =
-        let b = records-fit (settings-of x) (x .begun .ts) (x .begun .ps) (fx .proper) (fx .points) (fx .slots) refused-state ((u, v) ∷ k .reaches .old) es (with-edge (u, v) (k .ever)) refused-reach
-        (pairwise-of (x .p) (with-edge (u, v) (k .ever)) (with-distinct (x .p) (u, v) (k .ever) is-edge (blocks-before .lists .distinct)))
+        let b = records-fit (settings-of (x .rules)) (x .begun .ts) (x .begun .ps) (fx .proper) (fx .points) (fx .slots) refused-state ((u, v) ∷ k .reaches .old) es (with-edge (u, v) (k .ever)) refused-reach
+        (pairwise-of (x .rules .capacity) (with-edge (u, v) (k .ever)) (with-distinct (x .rules .capacity) (u, v) (k .ever) is-edge (blocks-before .lists .distinct)))
         (λ f i. in-right f es ((u, v) ∷ k .reaches .old) (deeper f (with-in (u, v) (k .ever) f i))) in
         omega (arith, b, l)
       where
@@ -304,7 +308,7 @@ module _ (x : Setup) (w : List ℕ) (q : List Float) (quads : List ℕ) (g : Sta
         deeper (inr i) = inr (k .reaches .sub f i)
 
   -- a quad
-  module _ (n : ℕ) (m : Mesh) (h : Quad) (ran : attempt (settings-of x) (x .given) st (u, v) ≡ after (counting st one-attempt) (u, v) (placed n m h)) where
+  module _ (n : ℕ) (m : Mesh) (h : Quad) (ran : attempt (settings-of (x .rules)) (x .rules .given) st (u, v) ≡ after (counting st one-attempt) (u, v) (placed n m h)) where
     abbrev placed-state : State
     placed-state = record { mesh = m; quads = st .quads ++ (h ∷ []); blocked = freed h (st .blocked); counts = counting st one-attempt .counts ⊞ insertions n }
 
@@ -312,41 +316,42 @@ module _ (x : Setup) (w : List ℕ) (q : List Float) (quads : List ℕ) (g : Sta
     unfolding after counting
     placed-reach = by-quad st placed-state (k .reaches .old) (u, v) es before (ran-given (placed n m h) ran)
 
-    placed-fine : length (m .points) ≤ x .p → (n ≤ x .p) × (length (st .mesh .points) ≤ length (m .points))
+    placed-fine : length (m .points) ≤ x .rules .capacity → (n ≤ x .rules .capacity) × (length (st .mesh .points) ≤ length (m .points))
     unfolding after counting
     placed-fine l = fine-few (m .points) n _ (fine (placed n m h) ran .1) (made-number (st .counts) n) l
 
-    placed-fits : (a b c d : ℕ) → new-quad a b c d ≡ h → length (m .points) ≤ x .p → QuadFits quads (x .s) (x .p) (length (st .quads)) a b c d
+    placed-fits : (a b c d : ℕ) → new-quad a b c d ≡ h → length (m .points) ≤ x .rules .capacity → QuadFits quads (x .rules .slots) (x .rules .capacity) (length (st .quads)) a b c d
+    unfolding settings-of
     placed-fits a b c d e l =
         let sp = sound x fx placed-state (k .reaches .old) [] placed-reach in
         let below : All (λ i. i < length (m .points)) (quad-nodes (new-quad a b c d)) = subst (λ z. All (λ i. i < length (m .points)) (quad-nodes z)) (sym e) (sp .good .rated h (last-in (st .quads) h) .good .below) in
         let four = quad-below (length (m .points)) a b c d below in
-        let more : length (st .quads) < x .s = omega (arith, sp .good .quads-fit, sp .good .fits .slots, length-append (st .quads) (h ∷ [])) in
+        let more : length (st .quads) < x .rules .slots = omega (arith, sp .good .quads-fit, sp .good .fits .slots, length-append (st .quads) (h ∷ [])) in
         record { node0 = omega (arith, four .0); node1 = omega (arith, four .1); node2 = omega (arith, four .2); node3 = omega (arith, four .3); room = omega (arith, more, quads-long, fx .room); few = more }
 
   -- an end for want of lent memory
-  module _ (wt : Want) (n : ℕ) (m : Mesh) (ran : attempt (settings-of x) (x .given) st (u, v) ≡ after (counting st one-attempt) (u, v) (ended wt n m)) where
-    ended-fine : length (m .points) ≤ x .p → (n ≤ x .p) × (length (st .mesh .points) ≤ length (m .points))
+  module _ (wt : Want) (n : ℕ) (m : Mesh) (ran : attempt (settings-of (x .rules)) (x .rules .given) st (u, v) ≡ after (counting st one-attempt) (u, v) (ended wt n m)) where
+    ended-fine : length (m .points) ≤ x .rules .capacity → (n ≤ x .rules .capacity) × (length (st .mesh .points) ≤ length (m .points))
     unfolding after counting
     ended-fine l = fine-few (m .points) n _ (fine (ended wt n m) ran .1) (made-number (st .counts) n) l
 
   -- ---- what `settle` asks
 
-  mismatch-few : g .tally .«mismatch_insertions» ≤ x .p
+  mismatch-few : g .tally .«mismatch_insertions» ≤ x .rules .capacity
   mismatch-few =
       let e : g .tally .«mismatch_insertions» ≡ st .counts .mismatch-insertions = ap (λ c. c .mismatch-insertions) counts-before ∙ counted-number (st .counts) in
-      let i : st .counts .mismatch-insertions ≤ x .p = insertions-few x st (k .reaches .old) ((u, v) ∷ es) fx (ready .small .points) before in
+      let i : st .counts .mismatch-insertions ≤ x .rules .capacity = insertions-few x st (k .reaches .old) ((u, v) ∷ es) fx (ready .small .points) before in
       omega arith
 
-  inserted-few : (n r : ℕ) → r ≡ n → n ≤ x .p → g .tally .«mismatch_insertions» + r < 2 ^ 32
-  inserted-few n r e l = let i : g .tally .«mismatch_insertions» ≤ x .p = mismatch-few in let p = ready .small .points in omega arith
+  inserted-few : (n r : ℕ) → r ≡ n → n ≤ x .rules .capacity → g .tally .«mismatch_insertions» + r < 2 ^ 32
+  inserted-few n r e l = let i : g .tally .«mismatch_insertions» ≤ x .rules .capacity = mismatch-few in let p = ready .small .points in omega arith
 
-  module _ (w' : List ℕ) (q' : List Float) (t : Tried) (by : Beyond w w' (x .s) (x .p)) where
-    so-far : Kept-so-far w' quads (x .s) (x .p) g (k .ever) (st .blocked) (st .quads) (x .begun .old)
+  module _ (w' : List ℕ) (q' : List Float) (t : Tried) (by : Beyond w w' (x .rules .slots) (x .rules .capacity)) where
+    so-far : Kept-so-far w' quads (x .rules .slots) (x .rules .capacity) g (k .ever) (st .blocked) (st .quads) (x .begun .old)
     unfolding counting
     so-far =
         record {
-          blocks = framed w w' (refused-at (x .s) (x .p)) (3 * x .s) (x .p) (length (st .quads)) (k .ever) (st .blocked) (beyond-same w w' (x .s) (x .p) by) blocks-before;
+          blocks = framed w w' (refused-at (x .rules .slots) (x .rules .capacity)) (3 * x .rules .slots) (x .rules .capacity) (length (st .quads)) (k .ever) (st .blocked) (beyond-same w w' (x .rules .slots) (x .rules .capacity) by) blocks-before;
           records = k .holds .so-far .records;
           number = number-before;
           text = k .holds .so-far .text;
@@ -356,13 +361,13 @@ module _ (x : Setup) (w : List ℕ) (q : List Float) (quads : List ℕ) (g : Sta
     few = few-counted x st (k .reaches .old) ((u, v) ∷ es) fx (ready .small .points) before g (k .holds .counts)
 
     can-with : g .tally .«mismatch_insertions» + t .inserted < 2 ^ 32
-        → (t .end ≡ ends.Placed → QuadFits quads (x .s) (x .p) (length (st .quads)) (t .n0) (t .n1) (t .n2) (t .n3))
-        → ((why : Refusal) → t .end ≡ end-of why → length (with-edge (u, v) (k .ever)) ≤ 3 * x .s)
-        → CanSettle w' quads (x .s) (x .p) g t u v (k .ever) (st .blocked) (st .quads) (x .begun .old)
+        → (t .end ≡ ends.Placed → QuadFits quads (x .rules .slots) (x .rules .capacity) (length (st .quads)) (t .n0) (t .n1) (t .n2) (t .n3))
+        → ((why : Refusal) → t .end ≡ end-of why → length (with-edge (u, v) (k .ever)) ≤ 3 * x .rules .slots)
+        → CanSettle w' quads (x .rules .slots) (x .rules .capacity) g t u v (k .ever) (st .blocked) (st .quads) (x .begun .old)
     can-with i p r = record { small-slots = ready .small .slots; small-points = ready .small .points; so-far = so-far; few = few; inserted = i; edge = is-edge; placed = p; refused = r }
 
-    pub can-settle : (a : Attempt) → attempt (settings-of x) (x .given) st (u, v) ≡ after (counting st one-attempt) (u, v) a
-        → AttemptTo w' q q' (x .s) (x .p) (x .bucket) (g .counters) a t → CanSettle w' quads (x .s) (x .p) g t u v (k .ever) (st .blocked) (st .quads) (x .begun .old)
+    pub can-settle : (a : Attempt) → attempt (settings-of (x .rules)) (x .rules .given) st (u, v) ≡ after (counting st one-attempt) (u, v) a
+        → AttemptTo w' q q' (x .rules) (g .counters) a t → CanSettle w' quads (x .rules .slots) (x .rules .capacity) g t u v (k .ever) (st .blocked) (st .quads) (x .begun .old)
     can-settle (placed n m h) ran to =
         let l = to .2 .ready .rep .points in
         can-with (inserted-few n (t .inserted) (to .2 .inserted) (placed-fine n m h ran l .0))
@@ -383,17 +388,17 @@ module _ (x : Setup) (w : List ℕ) (q : List Float) (quads : List ℕ) (g : Sta
 
     -- ---- what is left
 
-    module _ (w'' quads'' : List ℕ) (r : Step) (set : SettleTo w' w'' quads'' (x .s) (x .p) g t u v (k .ever) (st .blocked) (st .quads) (x .begun .old) r) where
-      ready-after : (n : ℕ) (m : Mesh) → Left w' q q' (x .s) (x .p) (x .bucket) (g .counters) n m t → (c : Counters) → c ≡ t .counters → Ready w'' q' (x .s) (x .p) (x .bucket) c m
+    module _ (w'' quads'' : List ℕ) (r : Step) (set : SettleTo w' w'' quads'' (x .rules .slots) (x .rules .capacity) g t u v (k .ever) (st .blocked) (st .quads) (x .begun .old) r) where
+      ready-after : (n : ℕ) (m : Mesh) → Left w' q q' (x .rules) (g .counters) n m t → (c : Counters) → c ≡ t .counters → Ready w'' q' (x .rules) c m
       ready-after n m l c e =
-          subst (λ (z : Counters). Ready w'' q' (x .s) (x .p) (x .bucket) z m) (sym e)
-          (ready-under w' w'' q' (x .s) (x .p) (x .bucket) (t .counters) m (kept-under w' w'' (x .s) (x .p) (set .kept)) (l .ready))
+          subst (λ (z : Counters). Ready w'' q' (x .rules) z m) (sym e)
+          (ready-under w' w'' q' (x .rules) (t .counters) m (kept-under w' w'' (x .rules .slots) (x .rules .capacity) (set .kept)) (l .ready))
 
       counts-after : (n : ℕ) (d : Counts) (s' : Standing) → counts-of s' ≡ d → d ≡ counts-of g ⊞ insertions (t .inserted) → t .inserted ≡ n → counts-of s' ≡ st .counts ⊞ one-attempt ⊞ insertions n
       counts-after n d s' e f i = e ∙ f ∙ ap (λ z. z ⊞ insertions (t .inserted)) counts-before ∙ ap (λ (z : ℕ). st .counts ⊞ one-attempt ⊞ insertions z) i
 
-      pub stepped : (a : Attempt) → attempt (settings-of x) (x .given) st (u, v) ≡ after (counting st one-attempt) (u, v) a
-          → AttemptTo w' q q' (x .s) (x .p) (x .bucket) (g .counters) a t → Stepped w'' q' quads'' x es (after (counting st one-attempt) (u, v) a) r
+      pub stepped : (a : Attempt) → attempt (settings-of (x .rules)) (x .rules .given) st (u, v) ≡ after (counting st one-attempt) (u, v) a
+          → AttemptTo w' q q' (x .rules) (g .counters) a t → Stepped w'' q' quads'' x es (after (counting st one-attempt) (u, v) a) r
       unfolding after counting
       stepped (placed n m h) ran to =
           let p = set .placed (to .0) in
@@ -405,7 +410,7 @@ module _ (x : Setup) (w : List ℕ) (q : List Float) (quads : List ℕ) (g : Sta
                 ready = ready-after n m l (r .standing .counters) (p .counted .counters);
                 counts = counts-after n _ (r .standing) (p .counted .counts (l .attempts)) refl (l .inserted);
                 behind = behind-trans (x .begun .floats) q q' (length (st .mesh .points)) (length (m .points)) (placed-fine n m h ran (l .ready .rep .points) .1) behind-before (l .behind);
-                so-far = subst (λ (z : Quad). Kept-so-far w'' quads'' (x .s) (x .p) (r .standing) (k .ever) (freed z (st .blocked)) (st .quads ++ z ∷ []) (x .begun .old)) (to .1) (p .so-far);
+                so-far = subst (λ (z : Quad). Kept-so-far w'' quads'' (x .rules .slots) (x .rules .capacity) (r .standing) (k .ever) (freed z (st .blocked)) (st .quads ++ z ∷ []) (x .begun .old)) (to .1) (p .so-far);
               };
               reaches = record { fixed = fx; old = k .reaches .old; reach = placed-reach n m h ran; sub = k .reaches .sub };
             },
@@ -441,42 +446,42 @@ module _ (x : Setup) (w : List ℕ) (q : List Float) (quads : List ℕ) (g : Sta
 -- ---- the callees' answers
 
 module _ (x : Setup) (w : List ℕ) (q : List Float) (quads : List ℕ) (g : Standing) (st : State) (u v : ℕ) (es : List Edge) (k : Makes w q quads x g st (u, v) es) where
-  front-as : (b : Bool) → ((m : Mesh) → Rep w (x .s) (x .p) m → b ≡ is-front m (key u v)) → b ≡ is-front (st .mesh) (u, v)
+  front-as : (b : Bool) → ((m : Mesh) → Rep w (x .rules .slots) (x .rules .capacity) m → b ≡ is-front m (key u v)) → b ≡ is-front (st .mesh) (u, v)
   front-as b h = h (st .mesh) (ready x w q quads g st u v es k .rep) ∙ ap (is-front (st .mesh)) (key-up u v (up x w q quads g st u v es k))
 
-  pub was-off : (b : Bool) → ((m : Mesh) → Rep w (x .s) (x .p) m → b ≡ is-front m (key u v)) → not b ≡ true → is-front (st .mesh) (u, v) ≡ false
+  pub was-off : (b : Bool) → ((m : Mesh) → Rep w (x .rules .slots) (x .rules .capacity) m → b ≡ is-front m (key u v)) → not b ≡ true → is-front (st .mesh) (u, v) ≡ false
   was-off b h e = sym (front-as b h) ∙ not-true b e
 
-  pub was-front : (b : Bool) → ((m : Mesh) → Rep w (x .s) (x .p) m → b ≡ is-front m (key u v)) → not b ≡ false → is-front (st .mesh) (u, v) ≡ true
+  pub was-front : (b : Bool) → ((m : Mesh) → Rep w (x .rules .slots) (x .rules .capacity) m → b ≡ is-front m (key u v)) → not b ≡ false → is-front (st .mesh) (u, v) ≡ true
   was-front b h e = sym (front-as b h) ∙ not-false b e
 
   -- off the front nothing is tried
-  pub off-to : (t : Tried) → Plain ends.Placement (g .counters) 0 t → AttemptTo w q q (x .s) (x .p) (x .bucket) (g .counters) (refused Placement 0 (st .mesh)) t
+  pub off-to : (t : Tried) → Plain ends.Placement (g .counters) 0 t → AttemptTo w q q (x .rules) (g .counters) (refused Placement 0 (st .mesh)) t
   unfolding end-of
   off-to t h = (
     h .end,
     record {
-      ready = subst (λ (z : Counters). Ready w q (x .s) (x .p) (x .bucket) z (st .mesh)) (sym (h .counters)) (ready x w q quads g st u v es k);
+      ready = subst (λ (z : Counters). Ready w q (x .rules) z (st .mesh)) (sym (h .counters)) (ready x w q quads g st u v es k);
       inserted = h .inserted;
       attempts = ap (λ c. c .attempts) (h .counters);
       behind = record { len = refl; rest = refl };
     },
   )
 
-  pub step-is : (w' : List ℕ) (q' : List Float) (t : Tried) (by : Beyond w w' (x .s) (x .p)) (w'' quads'' : List ℕ) (r : Step)
-      → SettleTo w' w'' quads'' (x .s) (x .p) g t u v (k .ever) (st .blocked) (st .quads) (x .begun .old) r
-      → (a : Attempt) → attempt (settings-of x) (x .given) st (u, v) ≡ after (counting st one-attempt) (u, v) a
-      → AttemptTo w' q q' (x .s) (x .p) (x .bucket) (g .counters) a t → StepTo w w'' q' quads'' x es (attempt (settings-of x) (x .given) st (u, v)) r
+  pub step-is : (w' : List ℕ) (q' : List Float) (t : Tried) (by : Beyond w w' (x .rules .slots) (x .rules .capacity)) (w'' quads'' : List ℕ) (r : Step)
+      → SettleTo w' w'' quads'' (x .rules .slots) (x .rules .capacity) g t u v (k .ever) (st .blocked) (st .quads) (x .begun .old) r
+      → (a : Attempt) → attempt (settings-of (x .rules)) (x .rules .given) st (u, v) ≡ after (counting st one-attempt) (u, v) a
+      → AttemptTo w' q q' (x .rules) (g .counters) a t → StepTo w w'' q' quads'' x es (attempt (settings-of (x .rules)) (x .rules .given) st (u, v)) r
   step-is w' q' t by w'' quads'' r set a ran to =
       record {
         is = subst (λ p. Stepped w'' q' quads'' x es p r) (sym ran) (stepped x w q quads g st u v es k w' q' t by w'' quads'' r set a ran to);
-        front = front-kept w w' w'' (x .s) (x .p) by (set .kept);
+        front = front-kept w w' w'' (x .rules .slots) (x .rules .capacity) by (set .kept);
       }
 
 -- ---- the attempt is counted
 
-live-as : (w : List ℕ) (q : List Float) (s p : ℕ) (bucket : Float) (c d : Counters) (m : Mesh) → Attempted c d → c .attempts + 1 < 2 ^ 32 → Ready w q s p bucket c m → Ready w q s p bucket d m
-live-as w q s p bucket c d m h l r =
+live-as : (w : List ℕ) (q : List Float) (rules : Rules) (c d : Counters) (m : Mesh) → Attempted c d → c .attempts + 1 < 2 ^ 32 → Ready w q rules c m → Ready w q rules d m
+live-as w q rules c d m h l r =
     record {
       rep = r .rep;
       pts = r .pts;
@@ -496,39 +501,41 @@ module _ (x : Setup) (w : List ℕ) (q : List Float) (quads : List ℕ) (g₀ : 
       let tr : st .counts .attempts ≤ 829200 = tries-few x st (k .reaches .old) (e ∷ es) (k .reaches .fixed) (h .ready .small .points) (k .reaches .reach) in
       let same : g₀ .counters .attempts ≡ st .counts .attempts = ap (λ c. c .attempts) (h .counts) in
       record {
-        ready = live-as w q (x .s) (x .p) (x .bucket) (g₀ .counters) (g .counters) (st .mesh) (one .counters) (omega arith) (h .ready);
+        ready = live-as w q (x .rules) (g₀ .counters) (g .counters) (st .mesh) (one .counters) (omega arith) (h .ready);
         counts = one .counts ∙ ap (λ c. c ⊞ one-attempt) (h .counts);
         behind = h .behind;
         so-far = record { blocks = h .so-far .blocks; records = one .records ∙ h .so-far .records; number = one .quads ∙ h .so-far .number; text = h .so-far .text };
       }
 
   -- the limits' test is the definition's
-  pub past-is : (b : Bool) → b ≡ (ltb (max-attempts base (x .given)) (g .counters .attempts) || ltb (max-triangles base (x .given)) (g .counters .live)) → past-limit base (x .given) (counting st one-attempt) ≡ b
+  pub past-is : (b : Bool) → b ≡ (ltb (x .rules .attempts) (g .counters .attempts) || ltb (max-triangles base (x .rules .given)) (g .counters .live)) → past-limit base (x .rules .given) (counting st one-attempt) ≡ b
   unfolding past-limit counting
   past-is b h =
       let c = counted-holds in
       let tries : g .counters .attempts ≡ (st .counts ⊞ one-attempt) .attempts = ap (λ z. z .attempts) (c .counts) in
       let live : g .counters .live ≡ live-tris (st .mesh) = c .ready .counted .live in
-      sym (h ∙ ap (λ (n : ℕ). ltb (max-attempts base (x .given)) n || ltb (max-triangles base (x .given)) (g .counters .live)) tries
-      ∙ ap (λ (n : ℕ). ltb (max-attempts base (x .given)) ((st .counts ⊞ one-attempt) .attempts) || ltb (max-triangles base (x .given)) n) live)
+      let most = k .reaches .fixed .attempts in
+      sym (h ∙ ap (λ (n : ℕ). ltb n (g .counters .attempts) || ltb (max-triangles base (x .rules .given)) (g .counters .live)) most
+      ∙ ap (λ (n : ℕ). ltb (max-attempts base (x .rules .given)) n || ltb (max-triangles base (x .rules .given)) (g .counters .live)) tries
+      ∙ ap (λ (n : ℕ). ltb (max-attempts base (x .rules .given)) ((st .counts ⊞ one-attempt) .attempts) || ltb (max-triangles base (x .rules .given)) n) live)
 
-  pub makes : past-limit base (x .given) (counting st one-attempt) ≡ false → Makes w q quads x g st e es
+  pub makes : past-limit base (x .rules .given) (counting st one-attempt) ≡ false → Makes w q quads x g st e es
   makes b = record { ever = k .ever; holds = counted-holds; reaches = k .reaches; below = b }
 
   pub few-now : FewTally (g .tally)
   few-now = few-counted x st (k .reaches .old) (e ∷ es) (k .reaches .fixed) (k .holds .ready .small .points) (k .reaches .reach) g (counted-holds .counts)
 
   -- past a limit the attempt is not made
-  pub limited-step : past-limit base (x .given) (counting st one-attempt) ≡ true → (h : Standing) → CountsMore g at-limit h
-      → StepTo w w q quads x es (attempt (settings-of x) (x .given) st e) (record { kind = goings.Limited; standing = h })
-  unfolding attempt counting
+  pub limited-step : past-limit base (x .rules .given) (counting st one-attempt) ≡ true → (h : Standing) → CountsMore g at-limit h
+      → StepTo w w q quads x es (attempt (settings-of (x .rules)) (x .rules .given) st e) (record { kind = goings.Limited; standing = h })
+  unfolding attempt counting settings-of
   limited-step b h more =
       let c = counted-holds in
       record {
         is = rw (b, attempt) (
           refl,
           record {
-            ready = subst (λ (z : Counters). Ready w q (x .s) (x .p) (x .bucket) z (st .mesh)) (sym (more .counters)) (c .ready);
+            ready = subst (λ (z : Counters). Ready w q (x .rules) z (st .mesh)) (sym (more .counters)) (c .ready);
             counts = more .counts ∙ ap (λ z. z ⊞ at-limit) (c .counts);
             number = more .quads ∙ c .so-far .number;
             text = c .so-far .text;

@@ -4,6 +4,7 @@ use cells::counters::Counters;
 use cells::find::is_front;
 use lending::End;
 use lending::without_quad;
+use rules::Rules;
 use settling::settle::settle;
 use settling::standing::Going;
 use settling::standing::Standing;
@@ -15,16 +16,11 @@ ghost use mathlib.Core.Bool.{_||_};
 ghost use mathlib.Core.List.{List, _∷_};
 ghost use Prim.Native.Nat.{ℕ, _≤_};
 ghost use lib.Dec.{ltb};
-ghost use Rattle.definition.specs.Numbers.{base, max-attempts, max-triangles};
+ghost use Rattle.definition.specs.Numbers.{base, max-triangles};
 ghost use Rattle.definition.specs.Plane.{Edge};
 ghost use Rattle.definition.specs.Front.{State, attempt};
-ghost use Rattle.lending.specs.Ready.{lent};
+ghost use Rattle.rules.specs.Settings.{settings-of};
 ghost use Rattle.steps.specs.Runs.{Begun, setup, Goes, Makes, StepTo};
-
-// The most attempts: so many for each given triangle, and so many more.
-pub const ATTEMPTS_EACH: usize = 200;
-
-pub const ATTEMPTS_MORE: usize = 10000;
 
 // The most live triangles.
 pub const LIVE_EACH: usize = 4;
@@ -32,11 +28,11 @@ pub const LIVE_EACH: usize = 4;
 pub const LIVE_MORE: usize = 100;
 
 // A limit is passed, the attempt in hand counted.
-fn past_limit(given: usize, c: Counters) -> bool
+fn past_limit(most: usize, given: usize, c: Counters) -> bool
     requires { ⌜ given ≤ 4096 ⌝ }
-    ensures { λ r. ⌜ r ≡ (ltb (max-attempts base given) (c .attempts) || ltb (max-triangles base given) (c .live)) ⌝ }
+    ensures { λ r. ⌜ r ≡ (ltb most (c .attempts) || ltb (max-triangles base given) (c .live)) ⌝ }
 {
-    if c.attempts > ATTEMPTS_EACH * given + ATTEMPTS_MORE {
+    if c.attempts > most {
         return true;
     }
     c.live > LIVE_EACH * given + LIVE_MORE
@@ -47,26 +43,21 @@ fn make_attempt(
     w: &mut [u32],
     q: &mut [f64],
     quads: &mut [u32],
-    s: usize,
-    p: usize,
-    given: usize,
-    bucket: f64,
-    size: f64,
-    even: bool,
+    rules: Rules,
     g: Standing,
     u: usize,
     v: usize,
 ) -> Step
-    requires { ⌜ ((k : Begun) × (st : State) × (es : List Edge) × Makes (now w) (now q) (now quads) (setup s p given bucket size even k) g st (u, v) es) ⌝ }
-    ensures { λ r. ⌜ ((k : Begun) (st : State) (es : List Edge) → Makes (now (w .entry)) (now (q .entry)) (now (quads .entry)) (setup s p given bucket size even k) g st (u, v) es → StepTo (now (w .entry)) (now (w .exit)) (now (q .exit)) (now (quads .exit)) (setup s p given bucket size even k) es (attempt (lent s p size even) given st (u, v)) r) ⌝ }
+    requires { ⌜ ((k : Begun) × (st : State) × (es : List Edge) × Makes (now w) (now q) (now quads) (setup rules k) g st (u, v) es) ⌝ }
+    ensures { λ r. ⌜ ((k : Begun) (st : State) (es : List Edge) → Makes (now (w .entry)) (now (q .entry)) (now (quads .entry)) (setup rules k) g st (u, v) es → StepTo (now (w .entry)) (now (w .exit)) (now (q .exit)) (now (quads .exit)) (setup rules k) es (attempt (settings-of rules) (rules .given) st (u, v)) r) ⌝ }
 {
     let c = g.counters;
-    if !is_front(w, s, p, u, v) {
+    if !is_front(w, rules.slots, rules.capacity, u, v) {
         let off = without_quad(End::Placement, c, 0);
-        return settle(w, quads, s, p, g, off, u, v);
+        return settle(w, quads, rules.slots, rules.capacity, g, off, u, v);
     }
-    let t = try_quad(w, q, s, p, c, bucket, size, even, u, v);
-    settle(w, quads, s, p, g, t, u, v)
+    let t = try_quad(w, q, rules, c, u, v);
+    settle(w, quads, rules.slots, rules.capacity, g, t, u, v)
 }
 
 // One attempt on the edge u-v, from the standing `before`. The attempt that passes a limit is counted and not made.
@@ -74,27 +65,22 @@ pub fn attempt_one(
     w: &mut [u32],
     q: &mut [f64],
     quads: &mut [u32],
-    s: usize,
-    p: usize,
-    given: usize,
-    bucket: f64,
-    size: f64,
-    even: bool,
+    rules: Rules,
     before: Standing,
     u: usize,
     v: usize,
 ) -> Step
-    requires { ⌜ ((k : Begun) × (st : State) × (es : List Edge) × Goes (now w) (now q) (now quads) (setup s p given bucket size even k) before st ((u, v) ∷ es)) ⌝ }
-    ensures { λ r. ⌜ ((k : Begun) (st : State) (es : List Edge) → Goes (now (w .entry)) (now (q .entry)) (now (quads .entry)) (setup s p given bucket size even k) before st ((u, v) ∷ es) → StepTo (now (w .entry)) (now (w .exit)) (now (q .exit)) (now (quads .exit)) (setup s p given bucket size even k) es (attempt (lent s p size even) given st (u, v)) r) ⌝ }
+    requires { ⌜ ((k : Begun) × (st : State) × (es : List Edge) × Goes (now w) (now q) (now quads) (setup rules k) before st ((u, v) ∷ es)) ⌝ }
+    ensures { λ r. ⌜ ((k : Begun) (st : State) (es : List Edge) → Goes (now (w .entry)) (now (q .entry)) (now (quads .entry)) (setup rules k) before st ((u, v) ∷ es) → StepTo (now (w .entry)) (now (w .exit)) (now (q .exit)) (now (quads .exit)) (setup rules k) es (attempt (settings-of rules) (rules .given) st (u, v)) r) ⌝ }
 {
     let g = counted(before);
     let c = g.counters;
-    if past_limit(given, c) {
+    if past_limit(rules.attempts, rules.given, c) {
         let h = limited(g);
         return Step {
             kind: Going::Limited,
             standing: h,
         };
     }
-    make_attempt(w, q, quads, s, p, given, bucket, size, even, g, u, v)
+    make_attempt(w, q, quads, rules, g, u, v)
 }

@@ -1,10 +1,12 @@
 -- The mesh is built from slices of any content; the counters and the bucket are those of the definition's start.
-use lib.Dec.{eqb}
+use Prim.Native.Nat.{_≤_}
+use native.Mathlib.Omega.{arith}
 use borrow.Author.Needs.{needs}
 use Rattle.definition.specs.Call.{Asked, Lent, given-tris, given-points}
+use Rattle.checks.specs.Refusals.{passed}
 use Rattle.rounds.specs.Loop.{CanRun}
 use Rattle.mesher.specs.Promise.{asked-of}
-use Rattle.mesher.specs.Parts.{CanMesh}
+use Rattle.mesher.specs.Parts.{rules-with, CanMesh}
 use Rattle.mesher.proofs.Starts.{mesh-build, mesh-run, mesh-ran}
 use Rattle.mesher.proofs.run.mesh.Statement.{statement}
 use Rattle.mesher.proofs.run.mesh.Tie as tie
@@ -22,8 +24,7 @@ start b = built b .before .before .before .before .before .before .before
 -- the rounds can start, for whatever else the slices of the call hold
 can-run : (b : tie.After-bucket-of) (l : Lent)
     → CanMesh (start b .args .points .now) (start b .args .triangles .now) (start b .args .quads .now) (start b .args .work .now) (start b .args .float-work .now) (stated (start b)) l
-    → CanRun (built b .build .last .0) (start b .args .points .now) (start b .args .float-work .now) (start b .args .quads .now) (start b .args .slots) (start b .args .capacity)
-    (start b .args .count) (b .bucket-of .result) (start b .args .size) (eqb (start b .args .stop) 1) (b .before .new .result) (given-tris (stated (start b)) l) (given-points (stated (start b)) l)
+    → CanRun (built b .build .last .0) (start b .args .points .now) (start b .args .float-work .now) (start b .args .quads .now) (rules-with (stated (start b)) (b .bucket-of .result)) (b .before .new .result) (given-tris (stated (start b)) l) (given-points (stated (start b)) l)
 can-run b l m =
     let a = start b .args in
     mesh-run (a .points .now) (a .triangles .now) (a .quads .now) (a .work .now) (a .float-work .now) (stated (start b)) l m (b .bucket-of .result) (b .bucket-of .ensures)
@@ -40,6 +41,16 @@ new-requires c κs = search needs
 
 bucket-of-requires : tie.Need-bucket-of-requires
 bucket-of-requires c κs = search needs
+
+-- no more triangles than a call may have
+few : (t : tie.Start) → t .args .count ≤ 4096
+few t = passed (stated t) (t .pre .0) (t .pre .1 .passed) .limited .count
+
+mul-attempts : tie.Need-mul-attempts
+mul-attempts c = omega (arith, few (start c))
+
+add-attempts : tie.Need-add-attempts
+add-attempts c = omega (arith, few (start c))
 
 front-loop-requires : tie.Need-front-loop-requires
 front-loop-requires c κs =
@@ -78,6 +89,8 @@ mesh-spec =
     build-requires
     new-requires
     bucket-of-requires
+    mul-attempts
+    add-attempts
     front-loop-requires
     same-length
     same-length-2
