@@ -26,30 +26,6 @@ abbrev μ-loop : tie.MeasureT-loop
 loop-holds : tie.Need-loop-holds Inv-loop μ-loop
 loop-holds c = (omega arith, λ k h. absurd (not-suc-le-zero h))
 
-mul-outside : tie.Need-mul-outside Inv-loop μ-loop
-mul-outside c = omega arith
-
-mul-outside-2 : tie.Need-mul-outside-2 Inv-loop μ-loop
-mul-outside-2 c = omega arith
-
-shared-slice-read-outside : tie.Need-shared-slice-read-outside Inv-loop μ-loop
-shared-slice-read-outside c = omega arith
-
-mul-outside-3 : tie.Need-mul-outside-3 Inv-loop μ-loop
-mul-outside-3 c = omega arith
-
-add-outside : tie.Need-add-outside Inv-loop μ-loop
-add-outside c = omega arith
-
-mul-outside-4 : tie.Need-mul-outside-4 Inv-loop μ-loop
-mul-outside-4 c = omega arith
-
-shared-slice-read-outside-2 : tie.Need-shared-slice-read-outside-2 Inv-loop μ-loop
-shared-slice-read-outside-2 c = omega arith
-
-outside-requires : tie.Need-outside-requires Inv-loop μ-loop
-outside-requires c κs = search needs
-
 returns : tie.Need-returns Inv-loop μ-loop
 returns c =
     λ l e.
@@ -58,12 +34,6 @@ returns c =
     let i = g .loop .i in
     let o = c .before .outside .ensures (getD ps (3 * i + 2) 0·0) ∙ ap outside (read-point ps i (omega arith)) in
     sym (passes _ (λ f. never _ (sym o ∙ c .if1 .taken) ((rw e at (near-each (asked (g .before .before .args .a)) l f)) i (omega arith))))
-
-add-i : tie.Need-add-i Inv-loop μ-loop
-add-i c = omega arith
-
-loop-less : tie.Need-loop-less Inv-loop μ-loop
-loop-less c = omega arith
 
 loop-again : tie.Need-loop-again Inv-loop μ-loop
 loop-again c =
@@ -80,19 +50,5 @@ pub far-point-spec : {M : Type 1} → statement M
 far-point-spec =
     tie.close
     (tie.spec
-    Inv-loop
-    μ-loop
-    loop-holds
-    mul-outside
-    mul-outside-2
-    shared-slice-read-outside
-    mul-outside-3
-    add-outside
-    mul-outside-4
-    shared-slice-read-outside-2
-    outside-requires
-    returns
-    add-i
-    loop-less
-    loop-again
-    returns-2)
+    Inv-loop μ-loop loop-holds (λ c. omega arith) (λ c. omega arith) (λ c. omega arith) (λ c. omega arith) (λ c. omega arith) (λ c. omega arith)
+    (λ c. omega arith) (λ c κs. search needs) returns (λ c. omega arith) (λ c. omega arith) loop-again returns-2)

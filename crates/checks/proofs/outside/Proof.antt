@@ -5,12 +5,6 @@ use Rattle.definition.specs.Call.{outside}
 use Rattle.checks.proofs.outside.Statement.{statement}
 use Rattle.checks.proofs.outside.Tie as tie
 
-within-requires : tie.Need-within-requires
-within-requires c κs = search needs
-
-within-requires-2 : tie.Need-within-requires-2
-within-requires-2 c κs = search needs
-
 returns : tie.Need-returns
 unfolding outside
 returns c =
@@ -26,4 +20,4 @@ returns-2 c =
     rw e
 
 pub outside-spec : {M : Type 1} → statement M
-outside-spec = tie.close (tie.spec within-requires within-requires-2 returns returns-2)
+outside-spec = tie.close (tie.spec (λ c κs. search needs) (λ c κs. search needs) returns returns-2)

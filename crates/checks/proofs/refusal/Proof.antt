@@ -57,20 +57,11 @@ top6 c = c .before .before
 no-6 : (c : tie.Else6) (l : Lent) → l .triangles ≡ start (top5 (top6 c)) .args .triangles .now → repeated-node (asked (start (top5 (top6 c)) .args .a)) l ≡ false
 no-6 c l e = sym (c .before .repeated-node .ensures l e) ∙ c .if6 .left
 
-over-limit-requires : tie.Need-over-limit-requires
-over-limit-requires c κs = search needs
-
 returns : tie.Need-returns
 returns c = λ l h. rw (in-turn, sym (c .before .over-limit .ensures) ∙ c .if1 .taken)
 
-bad-size-requires : tie.Need-bad-size-requires
-bad-size-requires c κs = search needs
-
 returns-2 : tie.Need-returns-2
 returns-2 c = λ l h. rw (in-turn, no-1 (c .before .before), sym (c .before .bad-size .ensures) ∙ c .if2 .taken)
-
-bad-stop-requires : tie.Need-bad-stop-requires
-bad-stop-requires c κs = search needs
 
 returns-3 : tie.Need-returns-3
 returns-3 c = λ l h.
@@ -129,18 +120,5 @@ pub refusal-spec : {M : Type 1} → statement M
 refusal-spec =
     tie.close
     (tie.spec
-    over-limit-requires
-    returns
-    bad-size-requires
-    returns-2
-    bad-stop-requires
-    returns-3
-    too-short-requires
-    returns-4
-    unknown-node-requires
-    returns-5
-    repeated-node-requires
-    returns-6
-    far-point-requires
-    returns-7
-    returns-8)
+    (λ c κs. search needs) returns (λ c κs. search needs) returns-2 (λ c κs. search needs) returns-3 too-short-requires returns-4 unknown-node-requires
+    returns-5 repeated-node-requires returns-6 far-point-requires returns-7 returns-8)

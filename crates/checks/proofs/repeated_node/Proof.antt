@@ -23,42 +23,6 @@ abbrev μ-loop : tie.MeasureT-loop
 loop-holds : tie.Need-loop-holds Inv-loop μ-loop
 loop-holds c = (omega arith, λ k h. absurd (not-suc-le-zero h))
 
-mul-twice : tie.Need-mul-twice Inv-loop μ-loop
-mul-twice c = omega arith
-
-mul-twice-2 : tie.Need-mul-twice-2 Inv-loop μ-loop
-mul-twice-2 c = omega arith
-
-shared-slice-read-twice : tie.Need-shared-slice-read-twice Inv-loop μ-loop
-shared-slice-read-twice c = omega arith
-
-mul-twice-3 : tie.Need-mul-twice-3 Inv-loop μ-loop
-mul-twice-3 c = omega arith
-
-add-twice : tie.Need-add-twice Inv-loop μ-loop
-add-twice c = omega arith
-
-mul-twice-4 : tie.Need-mul-twice-4 Inv-loop μ-loop
-mul-twice-4 c = omega arith
-
-shared-slice-read-twice-2 : tie.Need-shared-slice-read-twice-2 Inv-loop μ-loop
-shared-slice-read-twice-2 c = omega arith
-
-mul-twice-5 : tie.Need-mul-twice-5 Inv-loop μ-loop
-mul-twice-5 c = omega arith
-
-add-twice-2 : tie.Need-add-twice-2 Inv-loop μ-loop
-add-twice-2 c = omega arith
-
-mul-twice-6 : tie.Need-mul-twice-6 Inv-loop μ-loop
-mul-twice-6 c = omega arith
-
-shared-slice-read-twice-3 : tie.Need-shared-slice-read-twice-3 Inv-loop μ-loop
-shared-slice-read-twice-3 c = omega arith
-
-twice-requires : tie.Need-twice-requires Inv-loop μ-loop
-twice-requires c κs = search needs
-
 returns : tie.Need-returns Inv-loop μ-loop
 unfolding tri-at
 returns c =
@@ -66,12 +30,6 @@ returns c =
     let g = c .before .before .before .before .before .before in
     let t = sym (c .before .twice .ensures) ∙ c .if1 .taken in
     sym (passes _ (λ f. never _ t ((rw e at (apart-each (asked (g .before .before .args .a)) l f)) (g .loop .i) (omega arith))))
-
-add-i : tie.Need-add-i Inv-loop μ-loop
-add-i c = omega arith
-
-loop-less : tie.Need-loop-less Inv-loop μ-loop
-loop-less c = omega arith
 
 loop-again : tie.Need-loop-again Inv-loop μ-loop
 unfolding tri-at
@@ -86,23 +44,6 @@ pub repeated-node-spec : {M : Type 1} → statement M
 repeated-node-spec =
     tie.close
     (tie.spec
-    Inv-loop
-    μ-loop
-    loop-holds
-    mul-twice
-    mul-twice-2
-    shared-slice-read-twice
-    mul-twice-3
-    add-twice
-    mul-twice-4
-    shared-slice-read-twice-2
-    mul-twice-5
-    add-twice-2
-    mul-twice-6
-    shared-slice-read-twice-3
-    twice-requires
-    returns
-    add-i
-    loop-less
-    loop-again
-    returns-2)
+    Inv-loop μ-loop loop-holds (λ c. omega arith) (λ c. omega arith) (λ c. omega arith) (λ c. omega arith) (λ c. omega arith) (λ c. omega arith)
+    (λ c. omega arith) (λ c. omega arith) (λ c. omega arith) (λ c. omega arith) (λ c. omega arith) (λ c κs. search needs) returns (λ c. omega arith)
+    (λ c. omega arith) loop-again returns-2)

@@ -7,26 +7,14 @@ use Rattle.checks.specs.Passed.{roomy, room-passes}
 use Rattle.checks.proofs.too_short.Statement.{statement}
 use Rattle.checks.proofs.too_short.Tie as tie
 
-mul-if1 : tie.Need-mul-if1
-mul-if1 c = omega arith
-
 returns : tie.Need-returns
 returns c = λ l h. sym (passes _ (λ e. too-small (roomy _ l e .points) (ap length (h .points)) (c .if1 .taken)))
-
-mul-if2 : tie.Need-mul-if2
-mul-if2 c = omega arith
 
 returns-2 : tie.Need-returns-2
 returns-2 c = λ l h. sym (passes _ (λ e. too-small (roomy _ l e .triangles) (ap length (h .triangles)) (c .if2 .taken)))
 
-mul-if3 : tie.Need-mul-if3
-mul-if3 c = omega arith
-
 returns-3 : tie.Need-returns-3
 returns-3 c = λ l h. sym (passes _ (λ e. too-small (roomy _ l e .quads) (h .quads) (c .if3 .taken)))
-
-mul-if4 : tie.Need-mul-if4
-mul-if4 c = omega arith
 
 returns-4 : tie.Need-returns-4
 returns-4 c = λ l h. sym (passes _ (λ e. too-small (roomy _ l e .triangles-out) (h .triangles-out) (c .if4 .taken)))
@@ -34,20 +22,8 @@ returns-4 c = λ l h. sym (passes _ (λ e. too-small (roomy _ l e .triangles-out
 returns-5 : tie.Need-returns-5
 returns-5 c = λ l h. sym (passes _ (λ e. too-small (roomy _ l e .components) (h .components) (c .if5 .taken)))
 
-mul-if6 : tie.Need-mul-if6
-mul-if6 c = omega arith
-
-mul-if6-2 : tie.Need-mul-if6-2
-mul-if6-2 c = omega arith
-
-add-if6 : tie.Need-add-if6
-add-if6 c = omega arith
-
 returns-6 : tie.Need-returns-6
 returns-6 c = λ l h. sym (passes _ (λ e. too-small (roomy _ l e .work) (h .work) (c .if6 .taken)))
-
-mul-if7 : tie.Need-mul-if7
-mul-if7 c = omega arith
 
 returns-7 : tie.Need-returns-7
 returns-7 c = λ l h. sym (passes _ (λ e. too-small (roomy _ l e .float-work) (h .float-work) (c .if7 .taken)))
@@ -86,21 +62,5 @@ pub too-short-spec : {M : Type 1} → statement M
 too-short-spec =
     tie.close
     (tie.spec
-    mul-if1
-    returns
-    mul-if2
-    returns-2
-    mul-if3
-    returns-3
-    mul-if4
-    returns-4
-    returns-5
-    mul-if6
-    mul-if6-2
-    add-if6
-    returns-6
-    mul-if7
-    returns-7
-    returns-8
-    returns-9
-    returns-10)
+    (λ c. omega arith) returns (λ c. omega arith) returns-2 (λ c. omega arith) returns-3 (λ c. omega arith) returns-4 returns-5 (λ c. omega arith)
+    (λ c. omega arith) (λ c. omega arith) returns-6 (λ c. omega arith) returns-7 returns-8 returns-9 returns-10)

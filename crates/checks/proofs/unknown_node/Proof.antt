@@ -17,33 +17,12 @@ Inv-loop triangles given n i₀ i = (i ≤ n) × ((k : ℕ) → k < i → getD t
 abbrev μ-loop : tie.MeasureT-loop
 μ-loop triangles given n i₀ i = n - i
 
-mul-n : tie.Need-mul-n Inv-loop μ-loop
-mul-n c = omega arith
-
-loop-holds : tie.Need-loop-holds Inv-loop μ-loop
-loop-holds c = omega arith
-
-mul-wide : tie.Need-mul-wide Inv-loop μ-loop
-mul-wide c = omega arith
-
-shared-slice-read-wide : tie.Need-shared-slice-read-wide Inv-loop μ-loop
-shared-slice-read-wide c = omega arith
-
-wide-requires : tie.Need-wide-requires Inv-loop μ-loop
-wide-requires c κs = search needs
-
 returns : tie.Need-returns Inv-loop μ-loop
 returns c =
     λ l e.
     let g = c .before .before .before .before in
     let w = c .before .wide .ensures in
     sym (passes _ (λ f. let h = (rw e at (known (asked (g .before .before .before .args .a)) l f)) (g .loop .i) (omega arith) in omega arith))
-
-add-i : tie.Need-add-i Inv-loop μ-loop
-add-i c = omega arith
-
-loop-less : tie.Need-loop-less Inv-loop μ-loop
-loop-less c = omega arith
 
 loop-again : tie.Need-loop-again Inv-loop μ-loop
 loop-again c =
@@ -58,15 +37,5 @@ pub unknown-node-spec : {M : Type 1} → statement M
 unknown-node-spec =
     tie.close
     (tie.spec
-    Inv-loop
-    μ-loop
-    mul-n
-    loop-holds
-    mul-wide
-    shared-slice-read-wide
-    wide-requires
-    returns
-    add-i
-    loop-less
-    loop-again
-    returns-2)
+    Inv-loop μ-loop (λ c. omega arith) (λ c. omega arith) (λ c. omega arith) (λ c. omega arith) (λ c κs. search needs) returns (λ c. omega arith)
+    (λ c. omega arith) loop-again returns-2)

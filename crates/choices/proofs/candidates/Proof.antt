@@ -8,10 +8,6 @@ use Rattle.choices.proofs.Tests.{region-of, chosen-are}
 use Rattle.choices.proofs.Lists.{can-scan, chosen-to}
 use Rattle.choices.proofs.candidates.Statement.{statement}
 use Rattle.choices.proofs.candidates.Tie as tie
-use Rattle.choices.proofs.candidates.Reads as reads
-use Rattle.choices.proofs.candidates.Lts as lts
-use Rattle.choices.proofs.region_around.Reads as region-around-reads
-use Rattle.choices.proofs.scan.Reads as scan-reads
 
 region-around-requires : tie.Need-region-around-requires
 region-around-requires c κs =

@@ -7,20 +7,6 @@ use Rattle.choices.proofs.Roots.{norm-root, far-from, far-endless, endl
 use borrow.Author.Needs.{needs}
 use Rattle.choices.proofs.far_square.Statement.{statement}
 use Rattle.choices.proofs.far_square.Tie as tie
-use Rattle.choices.proofs.far_square.Reads as reads
-use Rattle.choices.proofs.far_square.Lts as lts
-use Rattle.choices.proofs.square.Reads as square-reads
-use Rattle.choices.proofs.too_far.Reads as too-far-reads
-use Rattle.plane.proofs.vectors.norm.Reads as norm-reads
-
-square-requires : tie.Need-square-requires
-square-requires c κs = search needs
-
-norm-requires : tie.Need-norm-requires
-norm-requires c κs = search needs
-
-too-far-requires : tie.Need-too-far-requires
-too-far-requires c κs = search needs
 
 returns : tie.Need-returns
 unfolding _≺_ 0·0 f64
@@ -40,11 +26,4 @@ returns-2 c =
     subst (λ (x : Float). FarFrom x target) (sym endless) (far-endless target)
 
 pub far-square-spec : {M : Type 1} → statement M
-far-square-spec =
-    tie.close
-    (tie.spec
-    square-requires
-    norm-requires
-    too-far-requires
-    returns
-    returns-2)
+far-square-spec = tie.close (tie.spec (λ c κs. search needs) (λ c κs. search needs) (λ c κs. search needs) returns returns-2)

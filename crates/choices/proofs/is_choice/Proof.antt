@@ -15,13 +15,6 @@ use Rattle.choices.proofs.Roots.{norm-root, square-fits}
 use borrow.Author.Needs.{needs}
 use Rattle.choices.proofs.is_choice.Statement.{statement}
 use Rattle.choices.proofs.is_choice.Tie as tie
-use Rattle.choices.proofs.is_choice.Reads as reads
-use Rattle.choices.proofs.is_choice.Lts as lts
-use Rattle.candidates.proofs.sides.ahead.Reads as ahead-reads
-use Rattle.candidates.proofs.sides.side_candidate.Reads as side-candidate-reads
-use Rattle.choices.proofs.square.Reads as square-reads
-use Rattle.ideals.proofs.edge_candidate.Reads as edge-candidate-reads
-use Rattle.plane.proofs.vectors.from_to.Reads as from-to-reads
 
 from-to-requires : tie.Need-from-to-requires
 from-to-requires c κs =
@@ -29,9 +22,6 @@ from-to-requires c κs =
     let a = t .args in
     let y = within (a .q .now) (a .p) (t .pre .0 .0) (t .pre .0 .2 .pts) in
     (y (a .a) (t .pre .0 .4 .first), y (a .v) (t .pre .0 .4 .second))
-
-square-requires : tie.Need-square-requires
-square-requires c κs = search needs
 
 returns : tie.Need-returns
 unfolding _≺_
@@ -61,9 +51,6 @@ returns-2 c =
     λ m g h y e.
     choice-edge (turn (a .left)) m (a .a) (a .other) (vec (a .normal)) (a .target) g (a .v)
     (sym (c .if2 .taken) ∙ ec .edge-candidate .ensures m (h .rep) (h .pts) y (record { node = e .first; end = e .second }))
-
-ahead-requires : tie.Need-ahead-requires
-ahead-requires c κs = search needs
 
 returns-3 : tie.Need-returns-3
 returns-3 c =
@@ -103,12 +90,4 @@ pub is-choice-spec : {M : Type 1} → statement M
 is-choice-spec =
     tie.close
     (tie.spec
-    from-to-requires
-    square-requires
-    returns
-    edge-candidate-requires
-    returns-2
-    ahead-requires
-    returns-3
-    side-candidate-requires
-    returns-4)
+    from-to-requires (λ c κs. search needs) returns edge-candidate-requires returns-2 (λ c κs. search needs) returns-3 side-candidate-requires returns-4)

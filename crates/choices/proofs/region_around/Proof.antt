@@ -7,19 +7,6 @@ use Rattle.choices.proofs.Tests.{region-read}
 use borrow.Author.Needs.{needs}
 use Rattle.choices.proofs.region_around.Statement.{statement}
 use Rattle.choices.proofs.region_around.Tie as tie
-use Rattle.choices.proofs.region_around.Reads as reads
-use Rattle.choices.proofs.region_around.Lts as lts
-use Rattle.lives.proofs.live.live_region.Reads as live-region-reads
-use Rattle.plane.proofs.points.at.Reads as at-reads
-
-at-requires : tie.Need-at-requires
-at-requires c κs = search needs
-
-live-region-requires : tie.Need-live-region-requires
-live-region-requires c κs = search needs
-
-same-length : tie.Need-same-length
-same-length c = search needs
 
 returns : tie.Need-returns
 unfolding base _⊕_ _⊗_ 2·2 0·8 f64 node ground
@@ -33,4 +20,4 @@ returns c =
     (lr .live-region .ensures m l)
 
 pub region-around-spec : {M : Type 1} → statement M
-region-around-spec = tie.close (tie.spec at-requires live-region-requires same-length returns)
+region-around-spec = tie.close (tie.spec (λ c κs. search needs) (λ c κs. search needs) (λ c. search needs) returns)

@@ -13,12 +13,6 @@ use Rattle.choices.proofs.Growth.{choice-before, choice-behind}
 use borrow.Author.Needs.{needs}
 use Rattle.choices.proofs.scan.Statement.{statement}
 use Rattle.choices.proofs.scan.Tie as tie
-use Rattle.choices.proofs.scan.Reads as reads
-use Rattle.choices.proofs.scan.Lts as lts
-use Rattle.choices.proofs.add.Reads as add-reads
-use Rattle.choices.proofs.is_choice.Reads as is-choice-reads
-use Rattle.choices.proofs.far_square.Reads as far-square-reads
-use Rattle.choices.proofs.spans.span_for.Reads as span-for-reads
 
 abbrev Inv-loop : tie.InvT-loop
 Inv-loop w₀ q s p k n b left a other normal target far g r₀ v₀ w r v =
@@ -26,9 +20,6 @@ Inv-loop w₀ q s p k n b left a other normal target far g r₀ v₀ w r v =
 
 abbrev μ-loop : tie.MeasureT-loop
 μ-loop w₀ q s p k n b left a other normal target far g r₀ v₀ w r v = n - v
-
-far-square-requires : tie.Need-far-square-requires Inv-loop μ-loop
-far-square-requires c κs = search needs
 
 span-for-requires : tie.Need-span-for-requires Inv-loop μ-loop
 span-for-requires c κs =
@@ -175,14 +166,5 @@ returns c =
 pub scan-spec : {M : Type 1} → statement M
 scan-spec =
     tie.close
-    (tie.spec Inv-loop μ-loop
-    far-square-requires
-    span-for-requires
-    loop-holds
-    is-choice-requires
-    add-requires
-    add-v
-    loop-less
-    loop-again
-    same-length
-    returns)
+    (tie.spec
+    Inv-loop μ-loop (λ c κs. search needs) span-for-requires loop-holds is-choice-requires add-requires add-v loop-less loop-again same-length returns)

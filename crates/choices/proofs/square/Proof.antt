@@ -3,8 +3,6 @@ use Rattle.definition.specs.Floats.{_⊕_, _⊗_}
 use Rattle.plane.specs.Vectors.{vec}
 use Rattle.choices.proofs.square.Statement.{statement}
 use Rattle.choices.proofs.square.Tie as tie
-use Rattle.choices.proofs.square.Reads as reads
-use Rattle.choices.proofs.square.Lts as lts
 
 returns : tie.Need-returns
 unfolding _⊕_ _⊗_ vec

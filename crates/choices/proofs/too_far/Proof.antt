@@ -2,8 +2,6 @@ use Rattle.definition.specs.Floats.{_≺_, _⊗_, 2·2, 2·5, f64}
 use Rattle.definition.specs.Numbers.{base}
 use Rattle.choices.proofs.too_far.Statement.{statement}
 use Rattle.choices.proofs.too_far.Tie as tie
-use Rattle.choices.proofs.too_far.Reads as reads
-use Rattle.choices.proofs.too_far.Lts as lts
 
 returns : tie.Need-returns
 unfolding _≺_ _⊗_ base 2·2 2·5 f64

@@ -3,8 +3,6 @@ use Rattle.fronts.proofs.Copies.{copied-none, can-first, copied-one, ca
 use borrow.Author.Needs.{needs}
 use Rattle.fronts.proofs.copy_noted.Statement.{statement}
 use Rattle.fronts.proofs.copy_noted.Tie as tie
-use Rattle.fronts.proofs.copy_noted.Reads as reads
-use Rattle.fronts.proofs.copy_noted.Lts as lts
 
 returns : tie.Need-returns
 returns c = λ m h. let a = c .before .before .args in copied-none (a .w .now) (a .s) (a .p) (a .u) (a .from) (a .x) m h (c .if1 .taken)
@@ -15,20 +13,11 @@ copy-edge-requires c κs =
     let a = t .args in
     can-first (a .w .now) (a .s) (a .p) (a .u) (a .from) (a .x) (t .pre .0) (t .pre .1) (c .before .if1 .left)
 
-add-result : tie.Need-add-result
-add-result c = search needs
-
-same-length : tie.Need-same-length
-same-length c = search needs
-
 returns-2 : tie.Need-returns-2
 returns-2 c = λ m h.
     let o = c .before .before .before in
     let a = o .before .before .before .before .args in
     copied-one (a .w .now) (a .s) (a .p) (a .u) (a .from) (a .x) m h (o .copy-edge .last .0) (o .copy-edge .ensures) (c .if2 .taken)
-
-add-copy-edge : tie.Need-add-copy-edge
-add-copy-edge c = search needs
 
 copy-edge-requires-2 : tie.Need-copy-edge-requires-2
 copy-edge-requires-2 c κs =
@@ -37,12 +26,6 @@ copy-edge-requires-2 c κs =
     let t = e .before .before in
     let a = t .args in
     can-second (a .w .now) (a .s) (a .p) (a .u) (a .from) (a .x) (t .pre .0) (t .pre .1) (o .copy-edge .last .0) (o .copy-edge .ensures) (e .if1 .left) (c .before .if2 .left)
-
-add-result-2 : tie.Need-add-result-2
-add-result-2 c = search needs
-
-same-length-2 : tie.Need-same-length-2
-same-length-2 c = search needs
 
 returns-3 : tie.Need-returns-3
 returns-3 c = λ m h.
@@ -57,13 +40,5 @@ pub copy-noted-spec : {M : Type 1} → statement M
 copy-noted-spec =
     tie.close
     (tie.spec
-    returns
-    copy-edge-requires
-    add-result
-    same-length
-    returns-2
-    add-copy-edge
-    copy-edge-requires-2
-    add-result-2
-    same-length-2
-    returns-3)
+    returns copy-edge-requires (λ c. search needs) (λ c. search needs) returns-2 (λ c. search needs) copy-edge-requires-2 (λ c. search needs)
+    (λ c. search needs) returns-3)

@@ -7,10 +7,6 @@ use Rattle.fronts.proofs.Corners.{Walking, walking-more, here-start, he
 use Rattle.fronts.proofs.Puts.{beyond-refl}
 use Rattle.fronts.proofs.front_at.Statement.{statement}
 use Rattle.fronts.proofs.front_at.Tie as tie
-use Rattle.fronts.proofs.front_at.Reads as reads
-use Rattle.fronts.proofs.front_at.Lts as lts
-use Rattle.fronts.proofs.try_corner.Reads as try-corner-reads
-use Rattle.rings.proofs.next.Reads as next-reads
 
 abbrev Inv-loop : tie.InvT-loop
 Inv-loop w₀ s p u from k₀ c₀ w k c = (m : Mesh) → CanWalk w₀ s p u from m → Walking w₀ w s p u from k c m

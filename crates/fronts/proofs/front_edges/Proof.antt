@@ -9,9 +9,6 @@ use Rattle.cells.specs.Rep.{Rep}
 use Rattle.fronts.proofs.Fronts.{Sofar, sofar-start, sofar-more, sofar-end, can-walk}
 use Rattle.fronts.proofs.front_edges.Statement.{statement}
 use Rattle.fronts.proofs.front_edges.Tie as tie
-use Rattle.fronts.proofs.front_edges.Reads as reads
-use Rattle.fronts.proofs.front_edges.Lts as lts
-use Rattle.fronts.proofs.node_fronts.Reads as node-fronts-reads
 
 abbrev Inv-loop : tie.InvT-loop
 Inv-loop w₀ s p n k₀ u₀ w k u = (u ≤ n) × ((m : Mesh) → Rep w₀ s p m → n ≡ length (m .points) → Sofar w₀ w s p u k m)
@@ -31,12 +28,6 @@ node-fronts-requires c κs =
     let r = t .pre .1 in
     let e = t .pre .2 in
     (m, can-walk (a .w .now) (a .s) (a .p) m r (l .loop .w) (l .loop .u) (l .loop .k) (l .loop .inv .1 m r e) (omega (arith, e, c .before .loop-test .taken)))
-
-add-u : tie.Need-add-u Inv-loop μ-loop
-add-u c = search needs
-
-loop-less : tie.Need-loop-less Inv-loop μ-loop
-loop-less c = search needs
 
 loop-again : tie.Need-loop-again Inv-loop μ-loop
 loop-again c =
@@ -65,12 +56,4 @@ pub front-edges-spec : {M : Type 1} → statement M
 front-edges-spec =
     tie.close
     (tie.spec
-    Inv-loop
-    μ-loop
-    loop-holds
-    node-fronts-requires
-    add-u
-    loop-less
-    loop-again
-    same-length
-    returns)
+    Inv-loop μ-loop loop-holds node-fronts-requires (λ c. search needs) (λ c. search needs) loop-again same-length returns)

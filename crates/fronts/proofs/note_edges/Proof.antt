@@ -9,14 +9,6 @@ use Rattle.fronts.proofs.Noting.{note-left, note-done, none-is, one-is,
 use borrow.Author.Needs.{needs}
 use Rattle.fronts.proofs.note_edges.Statement.{statement}
 use Rattle.fronts.proofs.note_edges.Tie as tie
-use Rattle.fronts.proofs.note_edges.Reads as reads
-use Rattle.fronts.proofs.note_edges.Lts as lts
-
-note-none-requires : tie.Need-note-none-requires
-note-none-requires c κs = search needs
-
-same-length : tie.Need-same-length
-same-length c = search needs
 
 returns : tie.Need-returns
 returns c = λ m h.
@@ -29,15 +21,6 @@ returns c = λ m h.
 returns-2 : tie.Need-returns-2
 returns-2 c = λ m h. let a = c .before .before .before .args in note-left (a .w .now) (a .s) (a .p) (a .u) (a .from) (a .r) m h
 
-add-if3 : tie.Need-add-if3
-add-if3 c = search needs
-
-note-one-requires : tie.Need-note-one-requires
-note-one-requires c κs = search needs
-
-same-length-2 : tie.Need-same-length-2
-same-length-2 c = search needs
-
 returns-3 : tie.Need-returns-3
 returns-3 c = λ m h.
     let o = c .before .before in
@@ -47,15 +30,6 @@ returns-3 c = λ m h.
     let v = front-v-at (a .s) (a .p) + a .from in
     note-done (a .w .now) (o .note-one .last .0) (a .s) (a .p) (a .u) (a .from) (a .r) m h (getD (a .w .now) v 0 ∷ [])
     (one-is (a .w .now) (a .s) (a .p) (a .u) (a .from) (a .r) (h .vs) (h .run) (e .if3 .taken)) (omega arith) (λ d. omega (arith, b .if2 .left)) (o .note-one .ensures)
-
-add-if4 : tie.Need-add-if4
-add-if4 c = search needs
-
-note-two-requires : tie.Need-note-two-requires
-note-two-requires c κs = search needs
-
-same-length-3 : tie.Need-same-length-3
-same-length-3 c = search needs
 
 returns-4 : tie.Need-returns-4
 returns-4 c = λ m h.
@@ -74,16 +48,5 @@ pub note-edges-spec : {M : Type 1} → statement M
 note-edges-spec =
     tie.close
     (tie.spec
-    note-none-requires
-    same-length
-    returns
-    returns-2
-    add-if3
-    note-one-requires
-    same-length-2
-    returns-3
-    add-if4
-    note-two-requires
-    same-length-3
-    returns-4
-    returns-5)
+    (λ c κs. search needs) (λ c. search needs) returns returns-2 (λ c. search needs) (λ c κs. search needs) (λ c. search needs) returns-3
+    (λ c. search needs) (λ c κs. search needs) (λ c. search needs) returns-4 returns-5)

@@ -3,14 +3,6 @@ use Rattle.fronts.proofs.Noting.{none-written}
 use borrow.Author.Needs.{needs}
 use Rattle.fronts.proofs.note_none.Statement.{statement}
 use Rattle.fronts.proofs.note_none.Tie as tie
-use Rattle.fronts.proofs.note_none.Reads as reads
-use Rattle.fronts.proofs.note_none.Lts as lts
-
-mark-requires : tie.Need-mark-requires
-mark-requires c κs = search needs
-
-same-length : tie.Need-same-length
-same-length c = search needs
 
 returns : tie.Need-returns
 returns c =
@@ -20,4 +12,4 @@ returns c =
     none-written (a .w .now) (o .mark .last .0) (a .s) (a .p) (a .u) (t .pre) (o .mark .ensures)
 
 pub note-none-spec : {M : Type 1} → statement M
-note-none-spec = tie.close (tie.spec mark-requires same-length returns)
+note-none-spec = tie.close (tie.spec (λ c κs. search needs) (λ c. search needs) returns)

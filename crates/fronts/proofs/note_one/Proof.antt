@@ -7,35 +7,6 @@ use Rattle.fronts.proofs.Noting.{can-mark, one-written}
 use borrow.Author.Needs.{needs}
 use Rattle.fronts.proofs.note_one.Statement.{statement}
 use Rattle.fronts.proofs.note_one.Tie as tie
-use Rattle.fronts.proofs.note_one.Reads as reads
-use Rattle.fronts.proofs.note_one.Lts as lts
-
-front-v-at-requires : tie.Need-front-v-at-requires
-front-v-at-requires c κs = search needs
-
-add-v : tie.Need-add-v
-add-v c = search needs
-
-mul-v : tie.Need-mul-v
-mul-v c = search needs
-
-slice-read-v : tie.Need-slice-read-v
-slice-read-v c = search needs
-
-fronts-at-requires : tie.Need-fronts-at-requires
-fronts-at-requires c κs = search needs
-
-mul-w : tie.Need-mul-w
-mul-w c = search needs
-
-add-w : tie.Need-add-w
-add-w c = search needs
-
-mul-w-2 : tie.Need-mul-w-2
-mul-w-2 c = search needs
-
-slice-write-w : tie.Need-slice-write-w
-slice-write-w c = search needs
 
 mark-requires : tie.Need-mark-requires
 mark-requires c κs =
@@ -64,15 +35,5 @@ pub note-one-spec : {M : Type 1} → statement M
 note-one-spec =
     tie.close
     (tie.spec
-    front-v-at-requires
-    add-v
-    mul-v
-    slice-read-v
-    fronts-at-requires
-    mul-w
-    add-w
-    mul-w-2
-    slice-write-w
-    mark-requires
-    same-length
-    returns)
+    (λ c κs. search needs) (λ c. search needs) (λ c. search needs) (λ c. search needs) (λ c κs. search needs) (λ c. search needs) (λ c. search needs)
+    (λ c. search needs) (λ c. search needs) mark-requires same-length returns)

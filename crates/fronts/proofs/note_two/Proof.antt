@@ -7,50 +7,6 @@ use Rattle.fronts.proofs.Noting.{can-mark, two-written}
 use borrow.Author.Needs.{needs}
 use Rattle.fronts.proofs.note_two.Statement.{statement}
 use Rattle.fronts.proofs.note_two.Tie as tie
-use Rattle.fronts.proofs.note_two.Reads as reads
-use Rattle.fronts.proofs.note_two.Lts as lts
-
-front-v-at-requires : tie.Need-front-v-at-requires
-front-v-at-requires c κs = search needs
-
-add-j : tie.Need-add-j
-add-j c = search needs
-
-mul-x : tie.Need-mul-x
-mul-x c = search needs
-
-slice-read-x : tie.Need-slice-read-x
-slice-read-x c = search needs
-
-add-y : tie.Need-add-y
-add-y c = search needs
-
-mul-y : tie.Need-mul-y
-mul-y c = search needs
-
-slice-read-y : tie.Need-slice-read-y
-slice-read-y c = search needs
-
-fronts-at-requires : tie.Need-fronts-at-requires
-fronts-at-requires c κs = search needs
-
-mul-i : tie.Need-mul-i
-mul-i c = search needs
-
-add-i : tie.Need-add-i
-add-i c = search needs
-
-mul-w : tie.Need-mul-w
-mul-w c = search needs
-
-slice-write-w : tie.Need-slice-write-w
-slice-write-w c = search needs
-
-add-w : tie.Need-add-w
-add-w c = search needs
-
-mul-w-2 : tie.Need-mul-w-2
-mul-w-2 c = search needs
 
 slice-write-w-2 : tie.Need-slice-write-w-2
 slice-write-w-2 c =
@@ -89,21 +45,6 @@ pub note-two-spec : {M : Type 1} → statement M
 note-two-spec =
     tie.close
     (tie.spec
-    front-v-at-requires
-    add-j
-    mul-x
-    slice-read-x
-    add-y
-    mul-y
-    slice-read-y
-    fronts-at-requires
-    mul-i
-    add-i
-    mul-w
-    slice-write-w
-    add-w
-    mul-w-2
-    slice-write-w-2
-    mark-requires
-    same-length
-    returns)
+    (λ c κs. search needs) (λ c. search needs) (λ c. search needs) (λ c. search needs) (λ c. search needs) (λ c. search needs) (λ c. search needs)
+    (λ c κs. search needs) (λ c. search needs) (λ c. search needs) (λ c. search needs) (λ c. search needs) (λ c. search needs) (λ c. search needs)
+    slice-write-w-2 mark-requires same-length returns)

@@ -9,11 +9,6 @@ use Rattle.fronts.specs.Runs.{PutTo, InsertTo}
 use Rattle.fronts.proofs.Puts.{put-done}
 use Rattle.fronts.proofs.put_edge.Statement.{statement}
 use Rattle.fronts.proofs.put_edge.Tie as tie
-use Rattle.fronts.proofs.put_edge.Reads as reads
-use Rattle.fronts.proofs.put_edge.Lts as lts
-use Rattle.cells.proofs.layout.front_u_at.Reads as front-u-at-reads
-use Rattle.cells.proofs.layout.front_v_at.Reads as front-v-at-reads
-use Rattle.fronts.proofs.insert.Reads as insert-reads
 
 front-v-at-requires : tie.Need-front-v-at-requires
 front-v-at-requires c κs = let t = c .before in sizes (t .args .w .now) (t .args .s) (t .args .p) (t .pre .room)

@@ -3,21 +3,12 @@ use mathlib.Core.Path.{refl, sym, _∙_}
 use Rattle.fronts.proofs.Corners.{here-see, here-read, quad-step, can-x, can-y, tri-step}
 use Rattle.fronts.proofs.try_corner.Statement.{statement}
 use Rattle.fronts.proofs.try_corner.Tie as tie
-use Rattle.fronts.proofs.try_corner.Reads as reads
-use Rattle.fronts.proofs.try_corner.Lts as lts
-use Rattle.cells.proofs.find.kind.Reads as kind-reads
-use Rattle.cells.proofs.find.node_after.Reads as node-after-reads
-use Rattle.cells.proofs.find.node_before.Reads as node-before-reads
-use Rattle.fronts.proofs.try_edge.Reads as try-edge-reads
 
 kind-requires : tie.Need-kind-requires
 kind-requires c κs =
     let t = c .before .before in
     let a = t .args in
     here-see (a .w .now) (a .s) (a .p) (a .u) (a .from) (a .k) (a .c) (t .pre .0 .0) (t .pre .0 .1) (t .pre .1)
-
-same-length : tie.Need-same-length
-same-length c = refl
 
 returns : tie.Need-returns
 returns c = λ m h.
@@ -92,12 +83,4 @@ pub try-corner-spec : {M : Type 1} → statement M
 try-corner-spec =
     tie.close
     (tie.spec
-    kind-requires
-    same-length
-    returns
-    node-after-requires
-    node-before-requires
-    try-edge-requires
-    try-edge-requires-2
-    same-length-2
-    returns-2)
+    kind-requires (λ c. refl) returns node-after-requires node-before-requires try-edge-requires try-edge-requires-2 same-length-2 returns-2)

@@ -6,10 +6,6 @@ use borrow.Author.Tests.{not-true, not-false}
 use Rattle.fronts.specs.Runs.{passed, taken}
 use Rattle.fronts.proofs.try_edge.Statement.{statement}
 use Rattle.fronts.proofs.try_edge.Tie as tie
-use Rattle.fronts.proofs.try_edge.Reads as reads
-use Rattle.fronts.proofs.try_edge.Lts as lts
-use Rattle.cells.proofs.find.is_front.Reads as is-front-reads
-use Rattle.fronts.proofs.put_edge.Reads as put-edge-reads
 
 returns : tie.Need-returns
 returns c = λ m h. passed refl refl (λ g. omega (arith, g .up, c .if1 .taken))
@@ -18,9 +14,6 @@ is-front-requires : tie.Need-is-front-requires
 is-front-requires c κs =
     let t = c .before .before .before in
     ((t .pre .0, t .pre .1 .rep), record { node = t .pre .1 .first; apart = λ e. omega (arith, e, c .before .if1 .left) })
-
-same-length : tie.Need-same-length
-same-length c = refl
 
 returns-2 : tie.Need-returns-2
 returns-2 c = λ m h.
@@ -61,14 +54,4 @@ returns-3 c = λ m h.
     taken refl (record { up = omega (arith, o .if1 .left); front = sym (f .is-front .ensures m (h .rep)) ∙ not-false (f .is-front .result) (e .if2 .left) }) (c .before .before .put-edge .ensures)
 
 pub try-edge-spec : {M : Type 1} → statement M
-try-edge-spec =
-    tie.close
-    (tie.spec
-    returns
-    is-front-requires
-    same-length
-    returns-2
-    put-edge-requires
-    add-result
-    same-length-2
-    returns-3)
+try-edge-spec = tie.close (tie.spec returns is-front-requires (λ c. refl) returns-2 put-edge-requires add-result same-length-2 returns-3)

@@ -3,11 +3,6 @@ use Rattle.fronts.proofs.Noting.{can-note, walked}
 use borrow.Author.Needs.{needs}
 use Rattle.fronts.proofs.walk_and_note.Statement.{statement}
 use Rattle.fronts.proofs.walk_and_note.Tie as tie
-use Rattle.fronts.proofs.walk_and_note.Reads as reads
-use Rattle.fronts.proofs.walk_and_note.Lts as lts
-
-front-at-requires : tie.Need-front-at-requires
-front-at-requires c κs = search needs
 
 note-edges-requires : tie.Need-note-edges-requires
 note-edges-requires c κs =
@@ -16,9 +11,6 @@ note-edges-requires c κs =
     let a = t .args in
     let h = t .pre .1 in
     (t .pre .0, can-note (a .w .now) (o .front-at .last .0) (a .s) (a .p) (a .u) (a .from) (o .front-at .result) (t .pre .0) h (o .front-at .ensures (t .pre .0) (h .walk)))
-
-same-length : tie.Need-same-length
-same-length c = search needs
 
 returns : tie.Need-returns
 returns c = λ m h.
@@ -30,4 +22,4 @@ returns c = λ m h.
     (n .note-edges .ensures m (can-note (a .w .now) (o .front-at .last .0) (a .s) (a .p) (a .u) (a .from) (o .front-at .result) m h g))
 
 pub walk-and-note-spec : {M : Type 1} → statement M
-walk-and-note-spec = tie.close (tie.spec front-at-requires note-edges-requires same-length returns)
+walk-and-note-spec = tie.close (tie.spec (λ c κs. search needs) note-edges-requires (λ c. search needs) returns)

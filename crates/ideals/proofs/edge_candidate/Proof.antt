@@ -1,4 +1,4 @@
-use mathlib.Core.Path.{_≡_, ap, sym, _∙_, subst}
+use mathlib.Core.Path.{_≡_, ap, _∙_, subst}
 use mathlib.Core.Bool.{true, false}
 use native.Mathlib.Omega.{arith}
 use lib.Ieee.{Float}
@@ -17,14 +17,6 @@ use Rattle.ideals.proofs.Closes.{not-was, was, edge-same, edge-other, e
 use borrow.Author.Needs.{needs}
 use Rattle.ideals.proofs.edge_candidate.Statement.{statement}
 use Rattle.ideals.proofs.edge_candidate.Tie as tie
-use Rattle.ideals.proofs.edge_candidate.Reads as reads
-use Rattle.ideals.proofs.edge_candidate.Lts as lts
-use Rattle.plane.proofs.vectors.from_to.Reads as from-to-reads
-use Rattle.plane.proofs.vectors.norm.Reads as norm-reads
-use Rattle.ideals.proofs.edge_reach.Reads as edge-reach-reads
-use Rattle.cells.proofs.find.tri_owner.Reads as tri-owner-reads
-use Rattle.plane.proofs.vectors.over.Reads as over-reads
-use Rattle.ideals.proofs.near_ideal.Reads as near-ideal-reads
 
 returns : tie.Need-returns
 returns c =
@@ -46,12 +38,6 @@ from-to-requires c κs =
     let a = t .args in
     let y = within (a .q .now) (a .p) (t .pre .0) (t .pre .2) in
     (y (a .a) (t .pre .4 .node), y (a .v) (t .pre .4 .end))
-
-norm-requires : tie.Need-norm-requires
-norm-requires c κs = search needs
-
-edge-reach-requires : tie.Need-edge-reach-requires
-edge-reach-requires c κs = search needs
 
 returns-3 : tie.Need-returns-3
 returns-3 c =
@@ -97,9 +83,6 @@ from-to-requires-2 c κs =
     let y = within (a .q .now) (a .p) (t .pre .0) (t .pre .2) in
     (y (a .a) (t .pre .3 .node), y (a .other) (t .pre .3 .end))
 
-norm-requires-2 : tie.Need-norm-requires-2
-norm-requires-2 c κs = search needs
-
 returns-5 : tie.Need-returns-5
 unfolding base _≼_ 1e-12 f64
 returns-5 c =
@@ -112,12 +95,6 @@ returns-5 c =
     let d2 : vec (ft2 .from-to2 .result) ≡ toward m (a .a) (a .other) = toward-read (a .q .now) (a .p) m k (a .a) (a .other) y (vec (ft2 .from-to2 .result)) (ft2 .from-to2 .ensures) in
     let n2 : nm2 .norm2 .result ≡ norm (toward m (a .a) (a .other)) = nm2 .norm2 .ensures ∙ ap norm d2 in
     edge-tiny (turn (a .left)) m (a .a) (a .other) (a .target) (a .v) (subst (λ (x : Float). (x ≼ base .tiny-length) ≡ true) n2 (c .if5 .taken))
-
-over-requires : tie.Need-over-requires
-over-requires c κs = search needs
-
-over-requires-2 : tie.Need-over-requires-2
-over-requires-2 c κs = search needs
 
 near-ideal-requires : tie.Need-near-ideal-requires
 near-ideal-requires c κs =
@@ -162,18 +139,5 @@ pub edge-candidate-spec : {M : Type 1} → statement M
 edge-candidate-spec =
     tie.close
     (tie.spec
-    returns
-    returns-2
-    from-to-requires
-    norm-requires
-    edge-reach-requires
-    returns-3
-    tri-owner-requires
-    returns-4
-    from-to-requires-2
-    norm-requires-2
-    returns-5
-    over-requires
-    over-requires-2
-    near-ideal-requires
-    returns-6)
+    returns returns-2 from-to-requires (λ c κs. search needs) (λ c κs. search needs) returns-3 tri-owner-requires returns-4 from-to-requires-2
+    (λ c κs. search needs) returns-5 (λ c κs. search needs) (λ c κs. search needs) near-ideal-requires returns-6)

@@ -2,8 +2,6 @@ use Rattle.definition.specs.Floats.{_≺_, _⊗_, 0·4, 2·5, f64}
 use Rattle.definition.specs.Numbers.{base}
 use Rattle.ideals.proofs.edge_reach.Statement.{statement}
 use Rattle.ideals.proofs.edge_reach.Tie as tie
-use Rattle.ideals.proofs.edge_reach.Reads as reads
-use Rattle.ideals.proofs.edge_reach.Lts as lts
 
 returns : tie.Need-returns
 unfolding _≺_ _⊗_ base 0·4 2·5 f64

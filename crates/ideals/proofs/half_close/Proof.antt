@@ -1,4 +1,3 @@
-use mathlib.Core.Path.{_≡_, refl, ap, sym, _∙_, subst}
 use Rattle.definition.specs.Floats.{_≺_, _≼_, 0·2, 0·866, f64}
 use Rattle.definition.specs.Numbers.{base}
 use Rattle.plane.specs.Vectors.{vec}
@@ -6,18 +5,6 @@ use Rattle.ideals.proofs.Halves.{half-none, half-every, half-near}
 use borrow.Author.Needs.{needs}
 use Rattle.ideals.proofs.half_close.Statement.{statement}
 use Rattle.ideals.proofs.half_close.Tie as tie
-use Rattle.ideals.proofs.half_close.Reads as reads
-use Rattle.ideals.proofs.half_close.Lts as lts
-use Rattle.ideals.proofs.plus.Reads as plus-reads
-use Rattle.plane.proofs.vectors.norm.Reads as norm-reads
-use Rattle.plane.proofs.vectors.over.Reads as over-reads
-use Rattle.plane.proofs.vectors.dot.Reads as dot-reads
-
-plus-requires : tie.Need-plus-requires
-plus-requires c κs = search needs
-
-norm-requires : tie.Need-norm-requires
-norm-requires c κs = search needs
 
 returns : tie.Need-returns
 unfolding base _≺_ _≼_ 0·2 0·866 f64
@@ -27,12 +14,6 @@ returns c =
     let pl = nm .before in
     let a = pl .before .args in
     half-every (vec (a .u)) (vec (a .v)) (vec (a .e)) (vec (pl .plus .result)) (nm .norm .result) (a .every) (pl .plus .ensures) (nm .norm .ensures) (t1 .if1 .taken) (c .if2 .taken)
-
-over-requires : tie.Need-over-requires
-over-requires c κs = search needs
-
-dot-requires : tie.Need-dot-requires
-dot-requires c κs = search needs
 
 returns-2 : tie.Need-returns-2
 unfolding base _≺_ _≼_ 0·2 0·866 f64
@@ -57,10 +38,4 @@ pub half-close-spec : {M : Type 1} → statement M
 half-close-spec =
     tie.close
     (tie.spec
-    plus-requires
-    norm-requires
-    returns
-    over-requires
-    dot-requires
-    returns-2
-    returns-3)
+    (λ c κs. search needs) (λ c κs. search needs) returns (λ c κs. search needs) (λ c κs. search needs) returns-2 returns-3)

@@ -7,11 +7,6 @@ use Rattle.ideals.proofs.Closes.{near-some, near-other, near-turned}
 use borrow.Author.Needs.{needs}
 use Rattle.ideals.proofs.near_ideal.Statement.{statement}
 use Rattle.ideals.proofs.near_ideal.Tie as tie
-use Rattle.ideals.proofs.near_ideal.Reads as reads
-use Rattle.ideals.proofs.near_ideal.Lts as lts
-use Rattle.ideals.proofs.some_wanted.Reads as some-wanted-reads
-use Rattle.ideals.proofs.turned.Reads as turned-reads
-use Rattle.plane.proofs.vectors.dot.Reads as dot-reads
 
 some-wanted-requires : tie.Need-some-wanted-requires
 some-wanted-requires c κs =
@@ -39,12 +34,6 @@ returns-2 c =
     let a = t .args in
     λ m r k y. near-other (turn (a .left)) m (a .a) (a .other) (vec (a .u)) (vec (a .e)) (sym (e1 .if1 .left) ∙ sw .some-wanted .ensures m r k y) (sym (c .if2 .taken) ∙ sw2 .some-wanted2 .ensures m r k y)
 
-turned-requires : tie.Need-turned-requires
-turned-requires c κs = search needs
-
-dot-requires : tie.Need-dot-requires
-dot-requires c κs = search needs
-
 returns-3 : tie.Need-returns-3
 unfolding base _≼_ 0·866 f64
 returns-3 c =
@@ -62,10 +51,4 @@ pub near-ideal-spec : {M : Type 1} → statement M
 near-ideal-spec =
     tie.close
     (tie.spec
-    some-wanted-requires
-    returns
-    some-wanted-requires-2
-    returns-2
-    turned-requires
-    dot-requires
-    returns-3)
+    some-wanted-requires returns some-wanted-requires-2 returns-2 (λ c κs. search needs) (λ c κs. search needs) returns-3)

@@ -1,12 +1,9 @@
-use mathlib.Core.Path.{_≡_, refl, ap, sym, _∙_, subst}
+use mathlib.Core.Path.{refl}
 use Rattle.definition.specs.Floats.{_⊕_}
 use Rattle.definition.specs.Candidates.{plus}
 use Rattle.plane.specs.Vectors.{vec}
-use borrow.Author.Needs.{needs}
 use Rattle.ideals.proofs.plus.Statement.{statement}
 use Rattle.ideals.proofs.plus.Tie as tie
-use Rattle.ideals.proofs.plus.Reads as reads
-use Rattle.ideals.proofs.plus.Lts as lts
 
 returns : tie.Need-returns
 unfolding vec plus _⊕_

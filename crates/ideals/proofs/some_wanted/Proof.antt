@@ -12,33 +12,12 @@ use Rattle.ideals.proofs.Closes.{some-hit, some-none, bare-fails}
 use borrow.Author.Needs.{needs}
 use Rattle.ideals.proofs.some_wanted.Statement.{statement}
 use Rattle.ideals.proofs.some_wanted.Tie as tie
-use Rattle.ideals.proofs.some_wanted.Reads as reads
-use Rattle.ideals.proofs.some_wanted.Lts as lts
-use Rattle.cells.proofs.find.node_after.Reads as node-after-reads
-use Rattle.cells.proofs.find.node_before.Reads as node-before-reads
-use Rattle.ideals.proofs.wanted_by.Reads as wanted-by-reads
-use Rattle.rings.proofs.next.Reads as next-reads
 
 abbrev Inv-loop : tie.InvT-loop
 Inv-loop w q s p a other u every e c₀ c = (m : Mesh) → Rep w s p m → Pts q p m → At m a other → Around w s a c m (wanted-by m a other (vec u) every (vec e))
 
 abbrev μ-loop : tie.MeasureT-loop
 μ-loop w q s p a other u every e c₀ c = left w s p c
-
-mul-next : tie.Need-mul-next Inv-loop μ-loop
-mul-next c = search needs
-
-mul-next-2 : tie.Need-mul-next-2 Inv-loop μ-loop
-mul-next-2 c = search needs
-
-add-next : tie.Need-add-next Inv-loop μ-loop
-add-next c = search needs
-
-mul-next-3 : tie.Need-mul-next-3 Inv-loop μ-loop
-mul-next-3 c = search needs
-
-add-next-2 : tie.Need-add-next-2 Inv-loop μ-loop
-add-next-2 c = search needs
 
 next-requires : tie.Need-next-requires Inv-loop μ-loop
 next-requires c κs =
@@ -52,9 +31,6 @@ loop-holds c =
     λ m r k y.
     subst (λ (z : ℕ). Around (a .w .now) (a .s) (a .a) z m (wanted-by m (a .a) (a .other) (vec (a .u)) (a .every) (vec (a .e)))) (sym (c .next .ensures))
     (around-start (a .w .now) (a .s) (a .p) (a .a) m (wanted-by m (a .a) (a .other) (vec (a .u)) (a .every) (vec (a .e))) r (y .node) (bare-fails m (a .a) (a .other) (vec (a .u)) (a .every) (vec (a .e))))
-
-mul-loop : tie.Need-mul-loop Inv-loop μ-loop
-mul-loop c = search needs
 
 node-after-requires : tie.Need-node-after-requires Inv-loop μ-loop
 node-after-requires c κs =
@@ -130,15 +106,6 @@ returns-2 c =
     let h = around-before (a .w .now) (a .s) (a .a) (x .c) m (wanted-by m (a .a) (a .other) (vec (a .u)) (a .every) (vec (a .e))) g (i .loop-test .taken) (nb .node-before .result) (nb .node-before .ensures) in
     some-hit m (a .a) (a .other) (vec (a .u)) (a .every) (vec (a .e)) (nb .node-before .result) h (sym (c .if2 .taken) ∙ wb .wanted-by2 .ensures m r k (record { node = y .node; end = h }))
 
-mul-next-4 : tie.Need-mul-next-4 Inv-loop μ-loop
-mul-next-4 c = search needs
-
-mul-next-5 : tie.Need-mul-next-5 Inv-loop μ-loop
-mul-next-5 c = search needs
-
-add-next-3 : tie.Need-add-next-3 Inv-loop μ-loop
-add-next-3 c = search needs
-
 next-requires-2 : tie.Need-next-requires-2 Inv-loop μ-loop
 next-requires-2 c κs =
     let i = c .before .before .before .before .before .before in
@@ -191,25 +158,7 @@ returns-3 c =
 pub some-wanted-spec : {M : Type 1} → statement M
 some-wanted-spec =
     tie.close
-    (tie.spec Inv-loop μ-loop
-    mul-next
-    mul-next-2
-    add-next
-    mul-next-3
-    add-next-2
-    next-requires
-    loop-holds
-    mul-loop
-    node-after-requires
-    wanted-by-requires
-    returns
-    node-before-requires
-    wanted-by-requires-2
-    returns-2
-    mul-next-4
-    mul-next-5
-    add-next-3
-    next-requires-2
-    loop-less
-    loop-again
-    returns-3)
+    (tie.spec
+    Inv-loop μ-loop (λ c. search needs) (λ c. search needs) (λ c. search needs) (λ c. search needs) (λ c. search needs) next-requires loop-holds
+    (λ c. search needs) node-after-requires wanted-by-requires returns node-before-requires wanted-by-requires-2 returns-2 (λ c. search needs)
+    (λ c. search needs) (λ c. search needs) next-requires-2 loop-less loop-again returns-3)

@@ -1,11 +1,7 @@
-use mathlib.Core.Path.{_≡_, refl, ap, sym, _∙_, subst}
 use Rattle.definition.specs.Candidates.{turned}
 use Rattle.plane.specs.Vectors.{vec}
-use borrow.Author.Needs.{needs}
 use Rattle.ideals.proofs.turned.Statement.{statement}
 use Rattle.ideals.proofs.turned.Tie as tie
-use Rattle.ideals.proofs.turned.Reads as reads
-use Rattle.ideals.proofs.turned.Lts as lts
 
 returns : tie.Need-returns
 unfolding vec turned

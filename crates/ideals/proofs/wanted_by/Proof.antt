@@ -1,6 +1,5 @@
-use mathlib.Core.Path.{_≡_, refl, ap, sym, _∙_, subst}
-use mathlib.Core.Bool.{Bool, true, false, not}
-use Prim.Native.Nat.{ℕ, suc, _+_, _-_, _*_, _/_, _<_, _≤_, _^_}
+use mathlib.Core.Path.{_≡_, ap, sym, _∙_, subst}
+use mathlib.Core.Bool.{true, false}
 use native.Mathlib.Omega.{arith}
 use lib.Ieee.{Float}
 use Rattle.definition.specs.Floats.{_≼_, 1e-12, f64}
@@ -16,13 +15,6 @@ use Rattle.ideals.proofs.Halves.{by-same, by-other, by-inner, by-tiny, 
 use borrow.Author.Needs.{needs}
 use Rattle.ideals.proofs.wanted_by.Statement.{statement}
 use Rattle.ideals.proofs.wanted_by.Tie as tie
-use Rattle.ideals.proofs.wanted_by.Reads as reads
-use Rattle.ideals.proofs.wanted_by.Lts as lts
-use Rattle.cells.proofs.find.is_front.Reads as is-front-reads
-use Rattle.plane.proofs.vectors.from_to.Reads as from-to-reads
-use Rattle.plane.proofs.vectors.norm.Reads as norm-reads
-use Rattle.plane.proofs.vectors.over.Reads as over-reads
-use Rattle.ideals.proofs.half_close.Reads as half-close-reads
 
 returns : tie.Need-returns
 returns c =
@@ -53,9 +45,6 @@ from-to-requires c κs =
     let y = within (a .q .now) (a .p) (t .pre .0) (t .pre .2) in
     (y (a .a) (t .pre .3 .node), y (a .v) (t .pre .3 .end))
 
-norm-requires : tie.Need-norm-requires
-norm-requires c κs = search needs
-
 returns-3 : tie.Need-returns-3
 unfolding base _≼_ 1e-12 f64
 returns-3 c =
@@ -71,12 +60,6 @@ returns-3 c =
     let d : vec (ft .from-to .result) ≡ toward m (a .a) (a .v) = toward-read (a .q .now) (a .p) m k (a .a) (a .v) y (vec (ft .from-to .result)) (ft .from-to .ensures) in
     let n : nm .norm .result ≡ norm (toward m (a .a) (a .v)) = nm .norm .ensures ∙ ap norm d in
     by-tiny m (a .a) (a .other) (vec (a .u)) (a .every) (vec (a .e)) (a .v) (e1 .if1 .left) (e2 .if2 .left) (ap (is-front m) (key-swap (a .a) (a .v)) ∙ sym (is .is-front .ensures m r) ∙ t3 .if3 .taken) (subst (λ (x : Float). (x ≼ base .tiny-length) ≡ true) n (c .if4 .taken))
-
-over-requires : tie.Need-over-requires
-over-requires c κs = search needs
-
-half-close-requires : tie.Need-half-close-requires
-half-close-requires c κs = search needs
 
 returns-4 : tie.Need-returns-4
 unfolding base _≼_ 1e-12 f64
@@ -111,13 +94,5 @@ pub wanted-by-spec : {M : Type 1} → statement M
 wanted-by-spec =
     tie.close
     (tie.spec
-    returns
-    returns-2
-    is-front-requires
-    from-to-requires
-    norm-requires
-    returns-3
-    over-requires
-    half-close-requires
-    returns-4
+    returns returns-2 is-front-requires from-to-requires (λ c κs. search needs) returns-3 (λ c κs. search needs) (λ c κs. search needs) returns-4
     returns-5)

@@ -25,38 +25,11 @@ left x =
     let d = x .run-front .last in
     lent-of (d .0) (start x .args .triangles .now) (d .1 .1 .0) (d .1 .1 .1 .0) (d .1 .1 .1 .1 .0) (d .1 .1 .1 .1 .1 .0) (d .1 .1 .1 .1 .1 .1 .0)
 
-short-answer-requires : tie.Need-short-answer-requires
-short-answer-requires c κs = search needs
-
-same-length : tie.Need-same-length
-same-length c = search needs
-
 returns : tie.Need-returns
 returns c =
     let t = c .before .before .before .before .before .before .before .before .before .before .before in
     without-room (stated t) (held t) (t .args .answer .now) (c .short-answer .result) (c .before .before .if1 .taken)
     (c .short-answer .ensures (held t) (record { points = refl; triangles = refl; quads = refl; triangles-out = refl; components = refl; work = refl; float-work = refl }))
-
-run-front-requires : tie.Need-run-front-requires
-run-front-requires c κs = search needs
-
-same-length-2 : tie.Need-same-length-2
-same-length-2 c = search needs
-
-same-length-3 : tie.Need-same-length-3
-same-length-3 c = search needs
-
-same-length-4 : tie.Need-same-length-4
-same-length-4 c = search needs
-
-same-length-5 : tie.Need-same-length-5
-same-length-5 c = search needs
-
-same-length-6 : tie.Need-same-length-6
-same-length-6 c = search needs
-
-same-length-7 : tie.Need-same-length-7
-same-length-7 c = search needs
 
 returns-2 : tie.Need-returns-2
 returns-2 c =
@@ -65,30 +38,6 @@ returns-2 c =
     let r = x .run-front .result in
     with-room (stated t) (held t) (t .args .answer .now) (r .refusal) (t .args .answer .now) (left x) r (x .before .before .before .before .before .before .before .if1 .left)
     (record { returns = x .run-front .ensures .0; keeps = x .run-front .ensures .1; number = refl; answer = kept r (t .args .answer .now) (c .if2 .taken) })
-
-write-answer-requires : tie.Need-write-answer-requires
-write-answer-requires c κs = search needs
-
-same-length-8 : tie.Need-same-length-8
-same-length-8 c = search needs
-
-same-length-9 : tie.Need-same-length-9
-same-length-9 c = search needs
-
-same-length-10 : tie.Need-same-length-10
-same-length-10 c = search needs
-
-same-length-11 : tie.Need-same-length-11
-same-length-11 c = search needs
-
-same-length-12 : tie.Need-same-length-12
-same-length-12 c = search needs
-
-same-length-13 : tie.Need-same-length-13
-same-length-13 c = search needs
-
-same-length-14 : tie.Need-same-length-14
-same-length-14 c = search needs
 
 returns-3 : tie.Need-returns-3
 returns-3 c =
@@ -104,23 +53,6 @@ pub sedgepick-run-front-spec : {M : Type 1} → statement M
 sedgepick-run-front-spec =
     tie.close
     (tie.spec
-    short-answer-requires
-    same-length
-    returns
-    run-front-requires
-    same-length-2
-    same-length-3
-    same-length-4
-    same-length-5
-    same-length-6
-    same-length-7
-    returns-2
-    write-answer-requires
-    same-length-8
-    same-length-9
-    same-length-10
-    same-length-11
-    same-length-12
-    same-length-13
-    same-length-14
-    returns-3)
+    (λ c κs. search needs) (λ c. search needs) returns (λ c κs. search needs) (λ c. search needs) (λ c. search needs) (λ c. search needs)
+    (λ c. search needs) (λ c. search needs) (λ c. search needs) returns-2 (λ c κs. search needs) (λ c. search needs) (λ c. search needs)
+    (λ c. search needs) (λ c. search needs) (λ c. search needs) (λ c. search needs) (λ c. search needs) returns-3)

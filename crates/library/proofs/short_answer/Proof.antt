@@ -6,9 +6,6 @@ use Rattle.library.proofs.Handing.{is-4}
 use Rattle.library.proofs.short_answer.Statement.{statement}
 use Rattle.library.proofs.short_answer.Tie as tie
 
-refusal-requires : tie.Need-refusal-requires
-refusal-requires c κs = search needs
-
 returns : tie.Need-returns
 returns c = λ l h. sym (ap up-to-4 (sym (c .before .refusal .ensures l h) ∙ c .if1 .taken))
 
@@ -24,4 +21,4 @@ returns-4 c = λ l h.
     sym (ap up-to-4 (sym (r .refusal .ensures l h)) ∙ is-4 (r .refusal .result) (c .before .before .if1 .left) (c .before .if2 .left) (c .if3 .left))
 
 pub short-answer-spec : {M : Type 1} → statement M
-short-answer-spec = tie.close (tie.spec refusal-requires returns returns-2 returns-3 returns-4)
+short-answer-spec = tie.close (tie.spec (λ c κs. search needs) returns returns-2 returns-3 returns-4)

@@ -6,9 +6,6 @@ use Rattle.library.proofs.Handing.{written}
 use Rattle.library.proofs.write_answer.Statement.{statement}
 use Rattle.library.proofs.write_answer.Tie as tie
 
-slice-write-answer : tie.Need-slice-write-answer
-slice-write-answer c = search needs
-
 slice-write-answer-2 : tie.Need-slice-write-answer-2
 slice-write-answer-2 c = simp length-set (omega (arith, c .pre))
 
@@ -45,9 +42,6 @@ slice-write-answer-12 c = simp length-set (omega (arith, c .pre))
 slice-write-answer-13 : tie.Need-slice-write-answer-13
 slice-write-answer-13 c = simp length-set (omega (arith, c .pre))
 
-same-length : tie.Need-same-length
-same-length c = search needs
-
 returns : tie.Need-returns
 returns c = written (c .args .answer .now) (c .args .a) (c .pre)
 
@@ -55,18 +49,6 @@ pub write-answer-spec : {M : Type 1} → statement M
 write-answer-spec =
     tie.close
     (tie.spec
-    slice-write-answer
-    slice-write-answer-2
-    slice-write-answer-3
-    slice-write-answer-4
-    slice-write-answer-5
-    slice-write-answer-6
-    slice-write-answer-7
-    slice-write-answer-8
-    slice-write-answer-9
-    slice-write-answer-10
-    slice-write-answer-11
-    slice-write-answer-12
-    slice-write-answer-13
-    same-length
+    (λ c. search needs) slice-write-answer-2 slice-write-answer-3 slice-write-answer-4 slice-write-answer-5 slice-write-answer-6 slice-write-answer-7
+    slice-write-answer-8 slice-write-answer-9 slice-write-answer-10 slice-write-answer-11 slice-write-answer-12 slice-write-answer-13 (λ c. search needs)
     returns)

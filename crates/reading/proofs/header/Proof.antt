@@ -28,15 +28,6 @@ read-size c = found (bits-as (now (c .before .before .before .before .before .be
 read-stop : (c : tie.After-known-told5) → taken (now (c .before .before .before .before .before .before .before .before .before .before .before .before .before .before .before .before .before .before .before .before .before .before .args .s)) (c .before .stop .given .0 .0) (c .before .stop .given .0 .1 .0) ≡ and-then 10 one-digit (drop (c .before .before .before .before .before .size .given .0 .1 .0) (now (c .before .before .before .before .before .before .before .before .before .before .before .before .before .before .before .before .before .before .before .before .before .before .args .s)))
 read-stop c = found (number-as (now (c .before .before .before .before .before .before .before .before .before .before .before .before .before .before .before .before .before .before .before .before .before .before .args .s))) (c .before .before .before .digit-then .ensures) (c .before .stop .given .1)
 
-slice-aggregate-expect : tie.Need-slice-aggregate-expect
-slice-aggregate-expect c = search needs
-
-expect-requires : tie.Need-expect-requires
-expect-requires c κs = search needs
-
-enum-known-a : tie.Need-enum-known-a
-enum-known-a c = search needs
-
 enum-told : tie.Need-enum-told
 enum-told c = search needs
 
@@ -44,59 +35,17 @@ returns : tie.Need-returns
 unfolding bytes
 returns c = record { reads = no-names (now (c .before .before .before .before .before .args .s)) (now (c .before .before .before .before .before .args .s)) (found (step-as (now (c .before .before .before .before .before .args .s))) (c .before .before .expect .ensures) (c .enum-told .given .1)); few = tt }
 
-decimal-then-requires : tie.Need-decimal-then-requires
-decimal-then-requires c κs = search needs
-
-enum-known-triangles : tie.Need-enum-known-triangles
-enum-known-triangles c = search needs
-
-enum-told-2 : tie.Need-enum-told-2
-enum-told-2 c = search needs
-
 returns-2 : tie.Need-returns-2
 returns-2 c = record { reads = no-triangles (now (c .before .before .before .before .before .before .before .before .before .args .s)) (now (c .before .before .before .before .before .before .before .before .before .args .s)) (c .before .before .before .before .a .given .0 .0) (read-a (c .before .before .before)) (found (number-as (now (c .before .before .before .before .before .before .before .before .before .args .s))) (c .before .before .decimal-then .ensures) (c .enum-told2 .given .1)); few = tt }
-
-decimal-then-requires-2 : tie.Need-decimal-then-requires-2
-decimal-then-requires-2 c κs = search needs
-
-enum-known-points : tie.Need-enum-known-points
-enum-known-points c = search needs
-
-enum-told-3 : tie.Need-enum-told-3
-enum-told-3 c = search needs
 
 returns-3 : tie.Need-returns-3
 returns-3 c = record { reads = no-points (now (c .before .before .before .before .before .before .before .before .before .before .before .before .before .args .s)) (now (c .before .before .before .before .before .before .before .before .before .before .before .before .before .args .s)) (c .before .before .before .before .before .before .before .before .a .given .0 .0) (read-a (c .before .before .before .before .before .before .before)) (c .before .before .before .before .triangles .given .0 .0) (c .before .before .before .before .triangles .given .0 .1 .0) (read-triangles (c .before .before .before)) (found (number-as (now (c .before .before .before .before .before .before .before .before .before .before .before .before .before .args .s))) (c .before .before .decimal-then2 .ensures) (c .enum-told3 .given .1)); few = tt }
 
-bits-then-requires : tie.Need-bits-then-requires
-bits-then-requires c κs = search needs
-
-enum-known-size : tie.Need-enum-known-size
-enum-known-size c = search needs
-
-enum-told-4 : tie.Need-enum-told-4
-enum-told-4 c = search needs
-
 returns-4 : tie.Need-returns-4
 returns-4 c = record { reads = no-size (now (c .before .before .before .before .before .before .before .before .before .before .before .before .before .before .before .before .before .args .s)) (now (c .before .before .before .before .before .before .before .before .before .before .before .before .before .before .before .before .before .args .s)) (c .before .before .before .before .before .before .before .before .before .before .before .before .a .given .0 .0) (read-a (c .before .before .before .before .before .before .before .before .before .before .before)) (c .before .before .before .before .before .before .before .before .triangles .given .0 .0) (c .before .before .before .before .before .before .before .before .triangles .given .0 .1 .0) (read-triangles (c .before .before .before .before .before .before .before)) (c .before .before .before .before .points .given .0 .0) (c .before .before .before .before .points .given .0 .1 .0) (read-points (c .before .before .before)) (found (bits-as (now (c .before .before .before .before .before .before .before .before .before .before .before .before .before .before .before .before .before .args .s))) (c .before .before .bits-then .ensures) (c .enum-told4 .given .1)); few = tt }
 
-digit-then-requires : tie.Need-digit-then-requires
-digit-then-requires c κs = search needs
-
-enum-known-stop : tie.Need-enum-known-stop
-enum-known-stop c = search needs
-
-enum-told-5 : tie.Need-enum-told-5
-enum-told-5 c = search needs
-
 returns-5 : tie.Need-returns-5
 returns-5 c = record { reads = no-rule (now (c .before .before .before .before .before .before .before .before .before .before .before .before .before .before .before .before .before .before .before .before .before .args .s)) (now (c .before .before .before .before .before .before .before .before .before .before .before .before .before .before .before .before .before .before .before .before .before .args .s)) (c .before .before .before .before .before .before .before .before .before .before .before .before .before .before .before .before .a .given .0 .0) (read-a (c .before .before .before .before .before .before .before .before .before .before .before .before .before .before .before)) (c .before .before .before .before .before .before .before .before .before .before .before .before .triangles .given .0 .0) (c .before .before .before .before .before .before .before .before .before .before .before .before .triangles .given .0 .1 .0) (read-triangles (c .before .before .before .before .before .before .before .before .before .before .before)) (c .before .before .before .before .before .before .before .before .points .given .0 .0) (c .before .before .before .before .before .before .before .before .points .given .0 .1 .0) (read-points (c .before .before .before .before .before .before .before)) (c .before .before .before .before .size .given .0 .0) (c .before .before .before .before .size .given .0 .1 .0) (read-size (c .before .before .before)) (found (number-as (now (c .before .before .before .before .before .before .before .before .before .before .before .before .before .before .before .before .before .before .before .before .before .args .s))) (c .before .before .digit-then .ensures) (c .enum-told5 .given .1)); few = tt }
-
-cast-t20 : tie.Need-cast-t20
-cast-t20 c = search needs
-
-cast-t21 : tie.Need-cast-t21
-cast-t21 c = search needs
 
 returns-6 : tie.Need-returns-6
 returns-6 c =
@@ -109,27 +58,6 @@ pub header-spec : {M : Type 1} → statement M
 header-spec =
     tie.close
     (tie.spec
-    slice-aggregate-expect
-    expect-requires
-    enum-known-a
-    enum-told
-    returns
-    decimal-then-requires
-    enum-known-triangles
-    enum-told-2
-    returns-2
-    decimal-then-requires-2
-    enum-known-points
-    enum-told-3
-    returns-3
-    bits-then-requires
-    enum-known-size
-    enum-told-4
-    returns-4
-    digit-then-requires
-    enum-known-stop
-    enum-told-5
-    returns-5
-    cast-t20
-    cast-t21
-    returns-6)
+    (λ c. search needs) (λ c κs. search needs) (λ c. search needs) enum-told returns (λ c κs. search needs) (λ c. search needs) (λ c. search needs)
+    returns-2 (λ c κs. search needs) (λ c. search needs) (λ c. search needs) returns-3 (λ c κs. search needs) (λ c. search needs) (λ c. search needs)
+    returns-4 (λ c κs. search needs) (λ c. search needs) (λ c. search needs) returns-5 (λ c. search needs) (λ c. search needs) returns-6)

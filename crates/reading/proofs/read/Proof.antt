@@ -36,12 +36,6 @@ places c = found (rows-as (now (c .before .before .before .before .before .befor
 returns : tie.Need-returns
 returns c = record { reads = too-long (now (c .before .before .before .before .args .s)) (c .if1 .taken); kept = tt }
 
-header-requires : tie.Need-header-requires
-header-requires c κs = search needs
-
-enum-known-h : tie.Need-enum-known-h
-enum-known-h c = search needs
-
 enum-told : tie.Need-enum-told
 enum-told c = search needs
 
@@ -50,15 +44,6 @@ returns-2 c = record { reads = no-start (now (c .before .before .before .before 
 
 triangle-list-requires : tie.Need-triangle-list-requires
 triangle-list-requires c κs = omega (arith, few (c .before), c .before .before .before .before .before .before .before .before .before .pre)
-
-enum-known-b : tie.Need-enum-known-b
-enum-known-b c = search needs
-
-enum-told-2 : tie.Need-enum-told-2
-enum-told-2 c = search needs
-
-same-length : tie.Need-same-length
-same-length c = search needs
 
 returns-3 : tie.Need-returns-3
 returns-3 c =
@@ -70,18 +55,6 @@ returns-3 c =
 point-list-requires : tie.Need-point-list-requires
 point-list-requires c κs = omega (arith, few (c .before .before .before .before .before .before .before .before), c .before .before .before .before .before .before .before .before .before .before .before .before .before .before .before .before .pre)
 
-enum-known-c : tie.Need-enum-known-c
-enum-known-c c = search needs
-
-enum-told-3 : tie.Need-enum-told-3
-enum-told-3 c = search needs
-
-same-length-2 : tie.Need-same-length-2
-same-length-2 c = search needs
-
-same-length-3 : tie.Need-same-length-3
-same-length-3 c = search needs
-
 returns-4 : tie.Need-returns-4
 returns-4 c =
     record {
@@ -89,20 +62,8 @@ returns-4 c =
       kept = tt;
     }
 
-same-length-4 : tie.Need-same-length-4
-same-length-4 c = search needs
-
-same-length-5 : tie.Need-same-length-5
-same-length-5 c = search needs
-
 returns-5 : tie.Need-returns-5
 returns-5 c = record { reads = more (now (c .before .before .before .before .before .before .before .before .before .before .before .before .before .before .before .before .before .before .before .before .before .before .before .args .s)) (short (c .before .before .before .before .before .before .before .before .before .before .before .before .before .before .before)) (c .before .before .before .before .before .before .before .before .before .before .before .before .before .before .before .before .h .given .0 .0) (c .before .before .before .before .before .before .before .before .before .before .before .before .before .before .before .before .h .given .0 .1 .0) (head (c .before .before .before .before .before .before .before .before .before .before .before .before .before .before .before)) (rows 3 (c .before .before .before .before .before .before .before .before .before .before .before .before .before .before .before .before .h .given .0 .0 .triangles) (c .before .before .before .before .before .before .before .before .before .before .before .before .before .triangle-list .last .1 .1 .1 .0)) (c .before .before .before .before .before .before .before .before .before .b .given .0 .0) (tris (c .before .before .before .before .before .before .before .before)) (rows 3 (c .before .before .before .before .before .before .before .before .before .before .before .before .before .before .before .before .h .given .0 .0 .points) (c .before .before .before .before .before .before .point-list .last .1 .1 .1 .0)) (c .before .before .c .given .0 .0) (places (c .before)) (c .if2 .taken); kept = tt }
-
-same-length-6 : tie.Need-same-length-6
-same-length-6 c = search needs
-
-same-length-7 : tie.Need-same-length-7
-same-length-7 c = search needs
 
 returns-6 : tie.Need-returns-6
 unfolding input-of
@@ -121,25 +82,6 @@ pub read-spec : {M : Type 1} → statement M
 read-spec =
     tie.close
     (tie.spec
-    returns
-    header-requires
-    enum-known-h
-    enum-told
-    returns-2
-    triangle-list-requires
-    enum-known-b
-    enum-told-2
-    same-length
-    returns-3
-    point-list-requires
-    enum-known-c
-    enum-told-3
-    same-length-2
-    same-length-3
-    returns-4
-    same-length-4
-    same-length-5
-    returns-5
-    same-length-6
-    same-length-7
-    returns-6)
+    returns (λ c κs. search needs) (λ c. search needs) enum-told returns-2 triangle-list-requires (λ c. search needs) (λ c. search needs)
+    (λ c. search needs) returns-3 point-list-requires (λ c. search needs) (λ c. search needs) (λ c. search needs) (λ c. search needs) returns-4
+    (λ c. search needs) (λ c. search needs) returns-5 (λ c. search needs) (λ c. search needs) returns-6)

@@ -33,56 +33,8 @@ ran c =
     subst (λ ps. Returns (call base (asks (a .h)) (lending ps (take (3 * a .h .triangles) (now (a .tris))))) (c .run-front .result) after) (f .ensures)
     (subst (λ x. Returns (call base (asked-of (a .h .points) 96 (a .h .triangles) 160 x (a .h .stop)) (lending (f .last .1 .1 .0) (take (3 * a .h .triangles) (now (a .tris))))) (c .run-front .result) after) (g .ensures) made)
 
-mul-fill : tie.Need-mul-fill
-mul-fill c = search needs
-
-slice-aggregate-fill : tie.Need-slice-aggregate-fill
-slice-aggregate-fill c = search needs
-
-fill-requires : tie.Need-fill-requires
-fill-requires c κs = search needs
-
-float-of-requires : tie.Need-float-of-requires
-float-of-requires c κs = search needs
-
-mul-end : tie.Need-mul-end
-mul-end c = search needs
-
-slice-aggregate-run-front : tie.Need-slice-aggregate-run-front
-slice-aggregate-run-front c = search needs
-
 slice-aggregate-run-front-2 : tie.Need-slice-aggregate-run-front-2
 slice-aggregate-run-front-2 c = let w = c .before .before .before .before .before .before .before .before .before .pre .0 in simp length-take (omega arith)
-
-slice-aggregate-run-front-3 : tie.Need-slice-aggregate-run-front-3
-slice-aggregate-run-front-3 c = search needs
-
-slice-aggregate-run-front-4 : tie.Need-slice-aggregate-run-front-4
-slice-aggregate-run-front-4 c = search needs
-
-slice-aggregate-run-front-5 : tie.Need-slice-aggregate-run-front-5
-slice-aggregate-run-front-5 c = search needs
-
-slice-aggregate-run-front-6 : tie.Need-slice-aggregate-run-front-6
-slice-aggregate-run-front-6 c = search needs
-
-slice-aggregate-run-front-7 : tie.Need-slice-aggregate-run-front-7
-slice-aggregate-run-front-7 c = search needs
-
-run-front-requires : tie.Need-run-front-requires
-run-front-requires c κs = search needs
-
-slice-aggregate-told : tie.Need-slice-aggregate-told
-slice-aggregate-told c = search needs
-
-slice-aggregate-told-2 : tie.Need-slice-aggregate-told-2
-slice-aggregate-told-2 c = search needs
-
-slice-aggregate-told-3 : tie.Need-slice-aggregate-told-3
-slice-aggregate-told-3 c = search needs
-
-slice-aggregate-told-4 : tie.Need-slice-aggregate-told-4
-slice-aggregate-told-4 c = search needs
 
 told-requires : tie.Need-told-requires
 told-requires c κs =
@@ -102,9 +54,6 @@ told-requires c κs =
         out-long = start .pre .1;
       },
     )
-
-same-length : tie.Need-same-length
-same-length c = search needs
 
 returns : tie.Need-returns
 returns c =
@@ -128,23 +77,6 @@ pub meshed-spec : {M : Type 1} → statement M
 meshed-spec =
     tie.close
     (tie.spec
-    mul-fill
-    slice-aggregate-fill
-    fill-requires
-    float-of-requires
-    mul-end
-    slice-aggregate-run-front
-    slice-aggregate-run-front-2
-    slice-aggregate-run-front-3
-    slice-aggregate-run-front-4
-    slice-aggregate-run-front-5
-    slice-aggregate-run-front-6
-    slice-aggregate-run-front-7
-    run-front-requires
-    slice-aggregate-told
-    slice-aggregate-told-2
-    slice-aggregate-told-3
-    slice-aggregate-told-4
-    told-requires
-    same-length
-    returns)
+    (λ c. search needs) (λ c. search needs) (λ c κs. search needs) (λ c κs. search needs) (λ c. search needs) (λ c. search needs)
+    slice-aggregate-run-front-2 (λ c. search needs) (λ c. search needs) (λ c. search needs) (λ c. search needs) (λ c. search needs) (λ c κs. search needs)
+    (λ c. search needs) (λ c. search needs) (λ c. search needs) (λ c. search needs) told-requires (λ c. search needs) returns)

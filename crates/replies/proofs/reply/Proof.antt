@@ -10,38 +10,14 @@ use Rattle.replies.proofs.Texts.{bad-text, good-text, text-kept}
 use Rattle.replies.proofs.reply.Statement.{statement}
 use Rattle.replies.proofs.reply.Tie as tie
 
-slice-aggregate-read : tie.Need-slice-aggregate-read
-slice-aggregate-read c = search needs
-
-slice-aggregate-read-2 : tie.Need-slice-aggregate-read-2
-slice-aggregate-read-2 c = search needs
-
-read-requires : tie.Need-read-requires
-read-requires c κs = search needs
-
-enum-known-h : tie.Need-enum-known-h
-enum-known-h c = search needs
-
 enum-told : tie.Need-enum-told
 enum-told c = search needs
-
-refusal-requires : tie.Need-refusal-requires
-refusal-requires c κs = search needs
-
-same-length : tie.Need-same-length
-same-length c = search needs
 
 returns : tie.Need-returns
 returns c =
     let a = c .before .before .before .before .before .before .before .before .before .before .before .before .before .args in
     let w = c .before .before .refusal in
     subst (λ t. Answered (now (a .out)) (w .last .0) t (w .result)) (bad-text (c .before .before .before .before .before .before .before .before .read .ensures) (c .before .before .before .before .enum-told .given .1)) (w .ensures)
-
-slice-aggregate-meshed : tie.Need-slice-aggregate-meshed
-slice-aggregate-meshed c = search needs
-
-slice-aggregate-meshed-2 : tie.Need-slice-aggregate-meshed-2
-slice-aggregate-meshed-2 c = search needs
 
 meshed-requires : tie.Need-meshed-requires
 meshed-requires c κs =
@@ -57,9 +33,6 @@ meshed-requires c κs =
       start .pre,
     )
 
-same-length-2 : tie.Need-same-length-2
-same-length-2 c = search needs
-
 returns-2 : tie.Need-returns-2
 returns-2 c =
     let a = c .before .before .before .before .before .before .before .before .before .before .before .before .before .before .before .before .args in
@@ -70,16 +43,5 @@ pub reply-spec : {M : Type 1} → statement M
 reply-spec =
     tie.close
     (tie.spec
-    slice-aggregate-read
-    slice-aggregate-read-2
-    read-requires
-    enum-known-h
-    enum-told
-    refusal-requires
-    same-length
-    returns
-    slice-aggregate-meshed
-    slice-aggregate-meshed-2
-    meshed-requires
-    same-length-2
-    returns-2)
+    (λ c. search needs) (λ c. search needs) (λ c κs. search needs) (λ c. search needs) enum-told (λ c κs. search needs) (λ c. search needs) returns
+    (λ c. search needs) (λ c. search needs) meshed-requires (λ c. search needs) returns-2)

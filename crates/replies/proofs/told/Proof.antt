@@ -9,15 +9,6 @@ use Rattle.replies.proofs.Shown.{refused-shown, finished-shown}
 use Rattle.replies.proofs.told.Statement.{statement}
 use Rattle.replies.proofs.told.Tie as tie
 
-cast-refusal : tie.Need-cast-refusal
-cast-refusal c = search needs
-
-refusal-requires : tie.Need-refusal-requires
-refusal-requires c κs = search needs
-
-same-length : tie.Need-same-length
-same-length c = search needs
-
 returns : tie.Need-returns
 returns c = λ x h.
     let start = c .before .before .before .before .before .before .before .before .before .before .before .before .before in
@@ -46,9 +37,6 @@ answer-requires c κs =
       l .out-long,
     )
 
-same-length-2 : tie.Need-same-length-2
-same-length-2 c = search needs
-
 returns-2 : tie.Need-returns-2
 unfolding lengths-of
 returns-2 c = λ x h.
@@ -59,4 +47,7 @@ returns-2 c = λ x h.
     (finished-shown (rows 3 (a .given) (now (a .bits))) h _ _ (omega arith) (c .before .before .before .before .counts-of .ensures) refl) (w .ensures)
 
 pub told-spec : {M : Type 1} → statement M
-told-spec = tie.close (tie.spec cast-refusal refusal-requires same-length returns counts-of-requires answer-requires same-length-2 returns-2)
+told-spec =
+    tie.close
+    (tie.spec
+    (λ c. search needs) (λ c κs. search needs) (λ c. search needs) returns counts-of-requires answer-requires (λ c. search needs) returns-2)

@@ -34,12 +34,6 @@ write-slot-requires c κs =
       },
     )
 
-add-i : tie.Need-add-i Inv-loop μ-loop
-add-i c = search needs
-
-loop-less : tie.Need-loop-less Inv-loop μ-loop
-loop-less c = search needs
-
 loop-again : tie.Need-loop-again Inv-loop μ-loop
 loop-again c =
     let x = c .before .before in
@@ -67,12 +61,4 @@ pub write-triangles-spec : {M : Type 1} → statement M
 write-triangles-spec =
     tie.close
     (tie.spec
-    Inv-loop
-    μ-loop
-    loop-holds
-    write-slot-requires
-    add-i
-    loop-less
-    loop-again
-    same-length
-    returns)
+    Inv-loop μ-loop loop-holds write-slot-requires (λ c. search needs) (λ c. search needs) loop-again same-length returns)

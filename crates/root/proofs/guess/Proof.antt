@@ -8,8 +8,5 @@ use Rattle.root.proofs.guess.Tie as tie
 float-from-bits-v : tie.Need-float-from-bits-v
 float-from-bits-v c = no-nan-bits (c .args .hint) (omega arith)
 
-returns : tie.Need-returns
-returns c = search needs
-
 pub guess-spec : {M : Type 1} → statement M
-guess-spec = tie.close (tie.spec float-from-bits-v returns)
+guess-spec = tie.close (tie.spec float-from-bits-v (λ c. search needs))

@@ -8,20 +8,8 @@ use borrow.Author.Needs.{needs}
 use Rattle.root.proofs.nearest_root.Statement.{statement}
 use Rattle.root.proofs.nearest_root.Tie as tie
 
-guess-requires : tie.Need-guess-requires
-guess-requires c κs = search needs
-
 float-to-bits-s : tie.Need-float-to-bits-s
 float-to-bits-s c = no-nan-least (ofBits binary64 (1023 * 2 ^ 52)) (c .before .guess .result) (c .if1 .taken)
-
-left-over-requires : tie.Need-left-over-requires
-left-over-requires c κs = search needs
-
-add-if2 : tie.Need-add-if2
-add-if2 c = search needs
-
-add-if3 : tie.Need-add-if3
-add-if3 c = search needs
 
 returns : tie.Need-returns
 returns c =
@@ -30,18 +18,6 @@ returns c =
     let s = toBits binary64 (over .before .before .guess .result) % 2 ^ 53 in
     same (start .args .r) s (over .left-over .result) (over .left-over .ensures) (omega arith) (c .before .if2 .taken) (c .if3 .taken)
 
-mul-if4 : tie.Need-mul-if4
-mul-if4 c = search needs
-
-add-if4 : tie.Need-add-if4
-add-if4 c = search needs
-
-add-if4-2 : tie.Need-add-if4-2
-add-if4-2 c = search needs
-
-sub-result : tie.Need-sub-result
-sub-result c = search needs
-
 returns-2 : tie.Need-returns-2
 returns-2 c =
     let over = c .before .before .before in
@@ -49,30 +25,12 @@ returns-2 c =
     let s = toBits binary64 (over .before .before .guess .result) % 2 ^ 53 in
     one-less (start .args .r) s (over .left-over .result) (over .left-over .ensures) (omega arith) (c .before .if3 .left) (c .if4 .taken)
 
-mul-if5 : tie.Need-mul-if5
-mul-if5 c = search needs
-
-add-if5 : tie.Need-add-if5
-add-if5 c = search needs
-
-add-if5-2 : tie.Need-add-if5-2
-add-if5-2 c = search needs
-
-add-result : tie.Need-add-result
-add-result c = search needs
-
 returns-3 : tie.Need-returns-3
 returns-3 c =
     let over = c .before .before in
     let start = over .before .before .before in
     let s = toBits binary64 (over .before .before .guess .result) % 2 ^ 53 in
     one-more (start .args .r) s (over .left-over .result) (over .left-over .ensures) (c .before .if2 .left) (c .if5 .taken)
-
-by-digits-requires : tie.Need-by-digits-requires
-by-digits-requires c κs = search needs
-
-rounded-requires : tie.Need-rounded-requires
-rounded-requires c κs = search needs
 
 returns-4 : tie.Need-returns-4
 returns-4 c =
@@ -84,22 +42,6 @@ pub nearest-root-spec : {M : Type 1} → statement M
 nearest-root-spec =
     tie.close
     (tie.spec
-    guess-requires
-    float-to-bits-s
-    left-over-requires
-    add-if2
-    add-if3
-    returns
-    mul-if4
-    add-if4
-    add-if4-2
-    sub-result
-    returns-2
-    mul-if5
-    add-if5
-    add-if5-2
-    add-result
-    returns-3
-    by-digits-requires
-    rounded-requires
-    returns-4)
+    (λ c κs. search needs) float-to-bits-s (λ c κs. search needs) (λ c. search needs) (λ c. search needs) returns (λ c. search needs) (λ c. search needs)
+    (λ c. search needs) (λ c. search needs) returns-2 (λ c. search needs) (λ c. search needs) (λ c. search needs) (λ c. search needs) returns-3
+    (λ c κs. search needs) (λ c κs. search needs) returns-4)

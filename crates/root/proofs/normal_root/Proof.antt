@@ -5,24 +5,6 @@ use borrow.Author.Needs.{needs}
 use Rattle.root.proofs.normal_root.Statement.{statement}
 use Rattle.root.proofs.normal_root.Tie as tie
 
-add-up : tie.Need-add-up
-add-up c = search needs
-
-add-result : tie.Need-add-result
-add-result c = search needs
-
-mul-result : tie.Need-mul-result
-mul-result c = search needs
-
-doubled-requires : tie.Need-doubled-requires
-doubled-requires c κs = search needs
-
-add-nearest-root : tie.Need-add-nearest-root
-add-nearest-root c = search needs
-
-nearest-root-requires : tie.Need-nearest-root-requires
-nearest-root-requires c κs = search needs
-
 -- the bits at the end
 at-end : (c : tie.After-nearest-root) → NormalBits (c .before .before .args .b) (c .nearest-root .result)
 at-end c =
@@ -39,11 +21,4 @@ pub normal-root-spec : {M : Type 1} → statement M
 normal-root-spec =
     tie.close
     (tie.spec
-    add-up
-    add-result
-    mul-result
-    doubled-requires
-    add-nearest-root
-    nearest-root-requires
-    add-result-2
-    returns)
+    (λ c. search needs) (λ c. search needs) (λ c. search needs) (λ c κs. search needs) (λ c. search needs) (λ c κs. search needs) add-result-2 returns)

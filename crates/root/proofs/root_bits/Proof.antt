@@ -8,38 +8,8 @@ use borrow.Author.Needs.{needs}
 use Rattle.root.proofs.root_bits.Statement.{statement}
 use Rattle.root.proofs.root_bits.Tie as tie
 
-significand-requires : tie.Need-significand-requires
-significand-requires c κs = search needs
-
 spare-requires : tie.Need-spare-requires
 spare-requires c κs = (c .significand .ensures .some (c .before .pre .0), c .significand .ensures .short)
-
-exponent-requires : tie.Need-exponent-requires
-exponent-requires c κs = search needs
-
-add-g : tie.Need-add-g
-add-g c = search needs
-
-sub-g : tie.Need-sub-g
-sub-g c = search needs
-
-shifted-requires : tie.Need-shifted-requires
-shifted-requires c κs = search needs
-
-evened-requires : tie.Need-evened-requires
-evened-requires c κs = search needs
-
-by-digits-requires : tie.Need-by-digits-requires
-by-digits-requires c κs = search needs
-
-add-result : tie.Need-add-result
-add-result c = search needs
-
-mul-result : tie.Need-mul-result
-mul-result c = search needs
-
-rounded-requires : tie.Need-rounded-requires
-rounded-requires c κs = search needs
 
 -- the bits at the end
 at-end : (c : tie.After-rounded) → RootBits (c .before .before .before .before .before .before .before .args .b) (c .before .before .before .before .before .spare .result) (c .before .before .before .before .exponent .result) (c .rounded .result)
@@ -65,16 +35,5 @@ pub root-bits-spec : {M : Type 1} → statement M
 root-bits-spec =
     tie.close
     (tie.spec
-    significand-requires
-    spare-requires
-    exponent-requires
-    add-g
-    sub-g
-    shifted-requires
-    add-result
-    mul-result
-    evened-requires
-    by-digits-requires
-    rounded-requires
-    add-result-2
-    returns)
+    (λ c κs. search needs) spare-requires (λ c κs. search needs) (λ c. search needs) (λ c. search needs) (λ c κs. search needs) (λ c. search needs)
+    (λ c. search needs) (λ c κs. search needs) (λ c κs. search needs) (λ c κs. search needs) add-result-2 returns)

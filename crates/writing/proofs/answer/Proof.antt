@@ -10,30 +10,6 @@ use native.Mathlib.Omega.{arith}
 use Rattle.writing.proofs.answer.Statement.{statement}
 use Rattle.writing.proofs.answer.Tie as tie
 
-counted-requires : tie.Need-counted-requires
-counted-requires c κs = search needs
-
-sized-requires : tie.Need-sized-requires
-sized-requires c κs = search needs
-
-slice-aggregate-named : tie.Need-slice-aggregate-named
-slice-aggregate-named c = search needs
-
-named-requires : tie.Need-named-requires
-named-requires c κs = search needs
-
-slice-aggregate-named-2 : tie.Need-slice-aggregate-named-2
-slice-aggregate-named-2 c = search needs
-
-named-requires-2 : tie.Need-named-requires-2
-named-requires-2 c κs = search needs
-
-places-requires : tie.Need-places-requires
-places-requires c κs = search needs
-
-slice-aggregate-named-3 : tie.Need-slice-aggregate-named-3
-slice-aggregate-named-3 c = search needs
-
 named-requires-3 : tie.Need-named-requires-3
 named-requires-3 c κs = omega (arith, c .before .before .before .before .places .ensures .short, c .before .before .before .before .before .before .before .before .named2 .ensures .short, c .before .before .before .before .before .before .before .before .before .before .before .before .before .named .ensures .short, c .before .before .before .before .before .before .before .before .before .before .before .before .before .before .before .before .before .before .sized .ensures .short, c .before .before .before .before .before .before .before .before .before .before .before .before .before .before .before .before .before .before .before .before .before .before .counted .ensures .short, c .before .before .before .before .places .kept .0, c .before .before .before .before .before .before .before .before .named2 .kept .0, c .before .before .before .before .before .before .before .before .before .before .before .before .before .named .kept .0, c .before .before .before .before .before .before .before .before .before .before .before .before .before .before .before .before .before .before .sized .kept .0, c .before .before .before .before .before .before .before .before .before .before .before .before .before .before .before .before .before .before .before .before .before .before .counted .kept .0, c .before .before .before .before .before .before .before .before .before .before .before .before .before .before .before .before .before .before .before .before .before .before .before .before .before .before .before .before .before .before .pre .0, c .before .before .before .before .before .before .before .before .before .before .before .before .before .before .before .before .before .before .before .before .before .before .before .before .before .before .before .before .before .before .pre .1, c .before .before .before .before .before .before .before .before .before .before .before .before .before .before .before .before .before .before .before .before .before .before .before .before .before .before .before .before .before .before .pre .2)
 
@@ -74,14 +50,5 @@ pub answer-spec : {M : Type 1} → statement M
 answer-spec =
     tie.close
     (tie.spec
-    counted-requires
-    sized-requires
-    slice-aggregate-named
-    named-requires
-    slice-aggregate-named-2
-    named-requires-2
-    places-requires
-    slice-aggregate-named-3
-    named-requires-3
-    same-length
-    returns)
+    (λ c κs. search needs) (λ c κs. search needs) (λ c. search needs) (λ c κs. search needs) (λ c. search needs) (λ c κs. search needs)
+    (λ c κs. search needs) (λ c. search needs) named-requires-3 same-length returns)

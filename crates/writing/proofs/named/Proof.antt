@@ -5,15 +5,6 @@ use native.Mathlib.Omega.{arith}
 use Rattle.writing.proofs.named.Statement.{statement}
 use Rattle.writing.proofs.named.Tie as tie
 
-fixed-requires : tie.Need-fixed-requires
-fixed-requires c κs = search needs
-
-table-requires : tie.Need-table-requires
-table-requires c κs = search needs
-
-same-length : tie.Need-same-length
-same-length c = search needs
-
 returns : tie.Need-returns
 returns c =
     let a = c .before .before .before .before .before .before .before .before .before .before .before in
@@ -25,4 +16,4 @@ returns c =
     }
 
 pub named-spec : {M : Type 1} → statement M
-named-spec = tie.close (tie.spec fixed-requires table-requires same-length returns)
+named-spec = tie.close (tie.spec (λ c κs. search needs) (λ c κs. search needs) (λ c. search needs) returns)

@@ -7,21 +7,6 @@ use native.Mathlib.Omega.{arith}
 use Rattle.writing.proofs.places.Statement.{statement}
 use Rattle.writing.proofs.places.Tie as tie
 
-slice-aggregate-fixed : tie.Need-slice-aggregate-fixed
-slice-aggregate-fixed c = search needs
-
-fixed-requires : tie.Need-fixed-requires
-fixed-requires c κs = search needs
-
-given-requires : tie.Need-given-requires
-given-requires c κs = search needs
-
-added-requires : tie.Need-added-requires
-added-requires c κs = search needs
-
-same-length : tie.Need-same-length
-same-length c = search needs
-
 returns : tie.Need-returns
 unfolding bytes
 returns c =
@@ -40,9 +25,4 @@ pub places-spec : {M : Type 1} → statement M
 places-spec =
     tie.close
     (tie.spec
-    slice-aggregate-fixed
-    fixed-requires
-    given-requires
-    added-requires
-    same-length
-    returns)
+    (λ c. search needs) (λ c κs. search needs) (λ c κs. search needs) (λ c κs. search needs) (λ c. search needs) returns)

@@ -1,17 +1,9 @@
-use mathlib.Core.Path.{_≡_, refl, ap, sym, _∙_, subst}
-use Prim.Native.Nat.{ℕ, suc, _+_, _-_, _*_, _/_, _<_, _≤_, _^_}
-use native.Mathlib.Omega.{arith}
+use mathlib.Core.Path.{_∙_}
 use Rattle.lives.proofs.Steps.{corners-of}
 use Rattle.candidates.proofs.Fences.{has-0, has-1, has-2}
 use borrow.Author.Needs.{needs}
 use Rattle.candidates.proofs.inside.cell_has.Statement.{statement}
 use Rattle.candidates.proofs.inside.cell_has.Tie as tie
-use Rattle.candidates.proofs.inside.cell_has.Reads as reads
-use Rattle.candidates.proofs.inside.cell_has.Lts as lts
-use Rattle.cells.proofs.find.node.Reads as node-reads
-
-node-requires : tie.Need-node-requires
-node-requires c κs = search needs
 
 returns : tie.Need-returns
 returns c =
@@ -21,9 +13,6 @@ returns c =
     λ m r k.
     let d = corners-of (a .w .now) (a .s) (a .p) (a .i) m r k in
     has-0 (k .t) (a .v) (n1 .node .result) (n1 .node .ensures ∙ d .read .n0) (c .if1 .taken)
-
-node-requires-2 : tie.Need-node-requires-2
-node-requires-2 c κs = search needs
 
 returns-2 : tie.Need-returns-2
 returns-2 c =
@@ -35,9 +24,6 @@ returns-2 c =
     λ m r k.
     let d = corners-of (a .w .now) (a .s) (a .p) (a .i) m r k in
     has-1 (k .t) (a .v) (n1 .node .result) (n2 .node2 .result) (n1 .node .ensures ∙ d .read .n0) (n2 .node2 .ensures ∙ d .read .n1) (e1 .if1 .left) (c .if2 .taken)
-
-node-requires-3 : tie.Need-node-requires-3
-node-requires-3 c κs = search needs
 
 returns-3 : tie.Need-returns-3
 returns-3 c =
@@ -52,12 +38,4 @@ returns-3 c =
     has-2 (k .t) (a .v) (n1 .node .result) (n2 .node2 .result) (c .node3 .result) (n1 .node .ensures ∙ d .read .n0) (n2 .node2 .ensures ∙ d .read .n1) (c .node3 .ensures ∙ d .read .n2) (e1 .if1 .left) (e2 .if2 .left)
 
 pub cell-has-spec : {M : Type 1} → statement M
-cell-has-spec =
-    tie.close
-    (tie.spec
-    node-requires
-    returns
-    node-requires-2
-    returns-2
-    node-requires-3
-    returns-3)
+cell-has-spec = tie.close (tie.spec (λ c κs. search needs) returns (λ c κs. search needs) returns-2 (λ c κs. search needs) returns-3)

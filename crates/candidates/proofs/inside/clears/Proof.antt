@@ -1,16 +1,9 @@
-use mathlib.Core.Path.{_≡_, refl, ap, sym, _∙_, subst}
-use Prim.Native.Nat.{ℕ, suc, _+_, _-_, _*_, _/_, _<_, _≤_, _^_}
-use native.Mathlib.Omega.{arith}
-use Rattle.definition.specs.Cells.{Live, Mesh, key, owners}
+use mathlib.Core.Path.{ap, sym, _∙_}
 use Rattle.definition.specs.Candidates.{passes-by}
 use Rattle.cells.proofs.Edges.{key-up, key-down}
 use Rattle.candidates.proofs.Fences.{below-of}
-use borrow.Author.Needs.{needs}
 use Rattle.candidates.proofs.inside.clears.Statement.{statement}
 use Rattle.candidates.proofs.inside.clears.Tie as tie
-use Rattle.candidates.proofs.inside.clears.Reads as reads
-use Rattle.candidates.proofs.inside.clears.Lts as lts
-use Rattle.candidates.proofs.inside.passes_by.Reads as passes-by-reads
 
 passes-by-requires : tie.Need-passes-by-requires
 passes-by-requires c κs =

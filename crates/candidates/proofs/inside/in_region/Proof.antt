@@ -1,23 +1,15 @@
 -- The loop's invariant: the cells from place k on decide. The measure is how many are left.
-use mathlib.Core.Path.{_≡_, refl, ap, sym, _∙_, subst}
-use mathlib.Core.Bool.{Bool, true, false, not}
-use mathlib.Core.List.{List, [], _∷_, _++_}
-use Prim.Native.Nat.{ℕ, suc, _+_, _-_, _*_, _/_, _<_, _≤_, _^_}
+use mathlib.Core.Path.{sym, _∙_}
+use mathlib.Core.List.{List}
+use Prim.Native.Nat.{_-_, _≤_}
 use native.Mathlib.Omega.{arith}
-use lib.ListN.{length, getD, set, length-set}
 use Rattle.definition.specs.Lists.{any}
 use Rattle.definition.specs.Cells.{Live, Mesh, has-node}
-use Rattle.definition.specs.Candidates.{walls, segment-inside}
-use Rattle.candidates.specs.Hand.{InHand, Ends}
-use Rattle.candidates.proofs.Fences.{open-cell, not-was, was}
-use Rattle.candidates.proofs.Scans.{Passing, Failing, scan-here, passing-start, passing-stop, passing-more, passing-end, failing-start, failing-stop, failing-more, failing-end, spot-open, spot-has}
+use Rattle.candidates.specs.Hand.{InHand}
+use Rattle.candidates.proofs.Scans.{Failing, scan-here, failing-start, failing-stop, failing-more, failing-end, spot-has}
 use borrow.Author.Needs.{needs}
 use Rattle.candidates.proofs.inside.in_region.Statement.{statement}
 use Rattle.candidates.proofs.inside.in_region.Tie as tie
-use Rattle.candidates.proofs.inside.in_region.Reads as reads
-use Rattle.candidates.proofs.inside.in_region.Lts as lts
-use Rattle.rings.proofs.wide.Reads as wide-reads
-use Rattle.candidates.proofs.inside.cell_has.Reads as cell-has-reads
 
 abbrev Inv-loop : tie.InvT-loop
 Inv-loop w q s p n v k₀ k = (k ≤ n) × ((m : Mesh) (g : List Live) → InHand w q s p n m g → Failing w s p n k m (has-node v) (any (has-node v) g))
@@ -30,15 +22,6 @@ loop-holds c =
     let t = c .before .before in
     let a = t .args in
     (omega arith, λ m g h. failing-start (a .w .now) (a .q .now) (a .s) (a .p) (a .n) (a .v) m g h)
-
-mul-wide : tie.Need-mul-wide Inv-loop μ-loop
-mul-wide c = search needs
-
-mul-wide-2 : tie.Need-mul-wide-2 Inv-loop μ-loop
-mul-wide-2 c = search needs
-
-add-wide : tie.Need-add-wide Inv-loop μ-loop
-add-wide c = search needs
 
 add-wide-2 : tie.Need-add-wide-2 Inv-loop μ-loop
 add-wide-2 c =
@@ -66,9 +49,6 @@ shared-slice-read-wide c =
     let t = l .before .before .before in
     let a = t .args in
     omega (arith, i .loop-test .taken, t .pre .2 .few, t .pre .2 .rep .room .fits)
-
-wide-requires : tie.Need-wide-requires Inv-loop μ-loop
-wide-requires c κs = search needs
 
 cell-has-requires : tie.Need-cell-has-requires Inv-loop μ-loop
 cell-has-requires c κs =
@@ -98,9 +78,6 @@ returns c =
     let b = x .inv .1 m g h in
     let y = scan-here (a .w .now) (a .s) (a .p) (a .n) (x .k) (wd .wide .result) m (b .rest) (h .rep) (b .scan) (i .loop-test .taken) (wd .wide .ensures) in
     failing-stop (a .w .now) (a .s) (a .p) (a .n) (x .k) m (has-node (a .v)) (any (has-node (a .v)) g) (wd .wide .result) b y (spot-has m (wd .wide .result) (a .v) (y .x) (y .top) ∙ sym (oc .cell-has .ensures m (h .rep) (y .top .t)) ∙ c .if1 .taken)
-
-add-k : tie.Need-add-k Inv-loop μ-loop
-add-k c = search needs
 
 loop-less : tie.Need-loop-less Inv-loop μ-loop
 loop-less c =
@@ -136,18 +113,6 @@ returns-2 c =
 pub in-region-spec : {M : Type 1} → statement M
 in-region-spec =
     tie.close
-    (tie.spec Inv-loop μ-loop
-    loop-holds
-    mul-wide
-    mul-wide-2
-    add-wide
-    add-wide-2
-    mul-wide-3
-    shared-slice-read-wide
-    wide-requires
-    cell-has-requires
-    returns
-    add-k
-    loop-less
-    loop-again
-    returns-2)
+    (tie.spec
+    Inv-loop μ-loop loop-holds (λ c. search needs) (λ c. search needs) (λ c. search needs) add-wide-2 mul-wide-3 shared-slice-read-wide
+    (λ c κs. search needs) cell-has-requires returns (λ c. search needs) loop-less loop-again returns-2)

@@ -1,28 +1,14 @@
-use mathlib.Core.Path.{_≡_, refl, ap, sym, _∙_, subst}
-use mathlib.Core.Bool.{Bool, true, false, not}
-use Prim.Native.Nat.{ℕ, suc, _+_, _-_, _*_, _/_, _<_, _≤_, _^_}
-use native.Mathlib.Omega.{arith}
-use lib.ListN.{length, getD, set, length-set}
-use Rattle.definition.specs.Cells.{Live, Mesh, key, owners}
+use mathlib.Core.Path.{_≡_, ap, _∙_}
+use mathlib.Core.Bool.{true, false}
+use Prim.Native.Nat.{ℕ}
+use lib.ListN.{length}
+use Rattle.definition.specs.Cells.{key}
 use Rattle.candidates.specs.Hand.{open-edge}
 use Rattle.lives.proofs.Steps.{corners-of, edge-is}
 use Rattle.candidates.proofs.Fences.{cell-0, cell-1, cell-2, ends-are, not-was, was}
 use borrow.Author.Needs.{needs}
 use Rattle.candidates.proofs.inside.open_cell.Statement.{statement}
 use Rattle.candidates.proofs.inside.open_cell.Tie as tie
-use Rattle.candidates.proofs.inside.open_cell.Reads as reads
-use Rattle.candidates.proofs.inside.open_cell.Lts as lts
-use Rattle.cells.proofs.find.node.Reads as node-reads
-use Rattle.candidates.proofs.inside.open_edge.Reads as open-edge-reads
-
-node-requires : tie.Need-node-requires
-node-requires c κs = search needs
-
-node-requires-2 : tie.Need-node-requires-2
-node-requires-2 c κs = search needs
-
-node-requires-3 : tie.Need-node-requires-3
-node-requires-3 c κs = search needs
 
 open-edge-requires : tie.Need-open-edge-requires
 open-edge-requires c κs =
@@ -166,12 +152,5 @@ pub open-cell-spec : {M : Type 1} → statement M
 open-cell-spec =
     tie.close
     (tie.spec
-    node-requires
-    node-requires-2
-    node-requires-3
-    open-edge-requires
-    returns
-    open-edge-requires-2
-    returns-2
-    open-edge-requires-3
+    (λ c κs. search needs) (λ c κs. search needs) (λ c κs. search needs) open-edge-requires returns open-edge-requires-2 returns-2 open-edge-requires-3
     returns-3)

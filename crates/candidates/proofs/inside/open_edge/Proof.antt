@@ -1,15 +1,8 @@
-use mathlib.Core.Path.{_≡_, refl, ap, sym, _∙_, subst}
-use Prim.Native.Nat.{ℕ, suc, _+_, _-_, _*_, _/_, _<_, _≤_, _^_}
-use native.Mathlib.Omega.{arith}
-use Rattle.definition.specs.Cells.{Live, Mesh, key, owners}
+use mathlib.Core.Path.{sym, _∙_}
+use Rattle.definition.specs.Cells.{key}
 use Rattle.candidates.proofs.Fences.{open-clear, open-crossed}
-use borrow.Author.Needs.{needs}
 use Rattle.candidates.proofs.inside.open_edge.Statement.{statement}
 use Rattle.candidates.proofs.inside.open_edge.Tie as tie
-use Rattle.candidates.proofs.inside.open_edge.Reads as reads
-use Rattle.candidates.proofs.inside.open_edge.Lts as lts
-use Rattle.candidates.proofs.inside.clears.Reads as clears-reads
-use Rattle.candidates.proofs.inside.shared_by_tris.Reads as shared-by-tris-reads
 
 clears-requires : tie.Need-clears-requires
 clears-requires c κs =

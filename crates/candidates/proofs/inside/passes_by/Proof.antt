@@ -1,13 +1,7 @@
-use mathlib.Core.Path.{_≡_, refl, ap, sym, _∙_, subst}
-use Prim.Native.Nat.{ℕ, suc, _+_, _-_, _*_, _/_, _<_, _≤_, _^_}
-use native.Mathlib.Omega.{arith}
+use mathlib.Core.Path.{_∙_}
 use Rattle.candidates.proofs.Fences.{passes-ua, passes-va, passes-ub, passes-vb, passes-clear, crosses-read, node-within}
-use borrow.Author.Needs.{needs}
 use Rattle.candidates.proofs.inside.passes_by.Statement.{statement}
 use Rattle.candidates.proofs.inside.passes_by.Tie as tie
-use Rattle.candidates.proofs.inside.passes_by.Reads as reads
-use Rattle.candidates.proofs.inside.passes_by.Lts as lts
-use Rattle.plane.proofs.sides.segments_cross.Reads as segments-cross-reads
 
 returns : tie.Need-returns
 returns c =

@@ -1,23 +1,16 @@
 -- The loop's invariant: the cells from place k on decide. The measure is how many are left.
-use mathlib.Core.Path.{_≡_, refl, ap, sym, _∙_, subst}
-use mathlib.Core.Bool.{Bool, true, false, not}
-use mathlib.Core.List.{List, [], _∷_, _++_}
-use Prim.Native.Nat.{ℕ, suc, _+_, _-_, _*_, _/_, _<_, _≤_, _^_}
+use mathlib.Core.Path.{sym, _∙_}
+use mathlib.Core.List.{List}
+use Prim.Native.Nat.{_-_, _≤_}
 use native.Mathlib.Omega.{arith}
-use lib.ListN.{length, getD, set, length-set}
-use Rattle.definition.specs.Lists.{any}
-use Rattle.definition.specs.Cells.{Live, Mesh, has-node}
+use Rattle.definition.specs.Cells.{Live, Mesh}
 use Rattle.definition.specs.Candidates.{walls, segment-inside}
 use Rattle.candidates.specs.Hand.{InHand, Ends}
 use Rattle.candidates.proofs.Fences.{open-cell, not-was, was}
-use Rattle.candidates.proofs.Scans.{Passing, Failing, scan-here, passing-start, passing-stop, passing-more, passing-end, failing-start, failing-stop, failing-more, failing-end, spot-open, spot-has}
+use Rattle.candidates.proofs.Scans.{Passing, scan-here, passing-start, passing-stop, passing-more, passing-end, spot-open}
 use borrow.Author.Needs.{needs}
 use Rattle.candidates.proofs.inside.segment_inside.Statement.{statement}
 use Rattle.candidates.proofs.inside.segment_inside.Tie as tie
-use Rattle.candidates.proofs.inside.segment_inside.Reads as reads
-use Rattle.candidates.proofs.inside.segment_inside.Lts as lts
-use Rattle.rings.proofs.wide.Reads as wide-reads
-use Rattle.candidates.proofs.inside.open_cell.Reads as open-cell-reads
 
 abbrev Inv-loop : tie.InvT-loop
 Inv-loop w q s p n a b k₀ k = (k ≤ n) × ((m : Mesh) (g : List Live) → InHand w q s p n m g → Ends m a b → Passing w s p n k m (open-cell m a b) (segment-inside m a b (walls m g)))
@@ -30,15 +23,6 @@ loop-holds c =
     let t = c .before .before in
     let a = t .args in
     (omega arith, λ m g h e. passing-start (a .w .now) (a .q .now) (a .s) (a .p) (a .n) (a .a) (a .b) m g h)
-
-mul-wide : tie.Need-mul-wide Inv-loop μ-loop
-mul-wide c = search needs
-
-mul-wide-2 : tie.Need-mul-wide-2 Inv-loop μ-loop
-mul-wide-2 c = search needs
-
-add-wide : tie.Need-add-wide Inv-loop μ-loop
-add-wide c = search needs
 
 add-wide-2 : tie.Need-add-wide-2 Inv-loop μ-loop
 add-wide-2 c =
@@ -66,9 +50,6 @@ shared-slice-read-wide c =
     let t = l .before .before .before in
     let a = t .args in
     omega (arith, i .loop-test .taken, t .pre .2 .few, t .pre .2 .rep .room .fits)
-
-wide-requires : tie.Need-wide-requires Inv-loop μ-loop
-wide-requires c κs = search needs
 
 open-cell-requires : tie.Need-open-cell-requires Inv-loop μ-loop
 open-cell-requires c κs =
@@ -99,9 +80,6 @@ returns c =
     let b = x .inv .1 m g h e in
     let y = scan-here (a .w .now) (a .s) (a .p) (a .n) (x .k) (wd .wide .result) m (b .rest) (h .rep) (b .scan) (i .loop-test .taken) (wd .wide .ensures) in
     passing-stop (a .w .now) (a .s) (a .p) (a .n) (x .k) m (open-cell m (a .a) (a .b)) (segment-inside m (a .a) (a .b) (walls m g)) (wd .wide .result) b y (spot-open m (wd .wide .result) (a .a) (a .b) (y .x) (y .top) ∙ sym (oc .open-cell .ensures m (h .rep) (h .pts) e (y .top .t)) ∙ sym (not-was (oc .open-cell .result) (c .if1 .taken)))
-
-add-k : tie.Need-add-k Inv-loop μ-loop
-add-k c = search needs
 
 loop-less : tie.Need-loop-less Inv-loop μ-loop
 loop-less c =
@@ -137,18 +115,6 @@ returns-2 c =
 pub segment-inside-spec : {M : Type 1} → statement M
 segment-inside-spec =
     tie.close
-    (tie.spec Inv-loop μ-loop
-    loop-holds
-    mul-wide
-    mul-wide-2
-    add-wide
-    add-wide-2
-    mul-wide-3
-    shared-slice-read-wide
-    wide-requires
-    open-cell-requires
-    returns
-    add-k
-    loop-less
-    loop-again
-    returns-2)
+    (tie.spec
+    Inv-loop μ-loop loop-holds (λ c. search needs) (λ c. search needs) (λ c. search needs) add-wide-2 mul-wide-3 shared-slice-read-wide
+    (λ c κs. search needs) open-cell-requires returns (λ c. search needs) loop-less loop-again returns-2)

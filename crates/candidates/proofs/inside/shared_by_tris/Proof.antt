@@ -1,24 +1,11 @@
-use mathlib.Core.Path.{_≡_, refl, ap, sym, _∙_, subst}
-use mathlib.Core.List.{List, [], _∷_, _++_}
-use Prim.Native.Nat.{ℕ, suc, _+_, _-_, _*_, _/_, _<_, _≤_, _^_}
-use native.Mathlib.Omega.{arith}
-use Rattle.definition.specs.Cells.{Live, Mesh, key, owners}
+use mathlib.Core.Path.{_≡_, ap, _∙_}
+use mathlib.Core.List.{List, _∷_}
+use Rattle.definition.specs.Cells.{Live, key, owners}
 use Rattle.cells.proofs.Owners.{at-here, at-end}
 use Rattle.candidates.proofs.Shared.{shared-none, shared-one, shared-first, shared-second, shared-more, shared-two, is-tri-at, no-tri-at, at-after}
 use borrow.Author.Needs.{needs}
 use Rattle.candidates.proofs.inside.shared_by_tris.Statement.{statement}
 use Rattle.candidates.proofs.inside.shared_by_tris.Tie as tie
-use Rattle.candidates.proofs.inside.shared_by_tris.Reads as reads
-use Rattle.candidates.proofs.inside.shared_by_tris.Lts as lts
-use Rattle.cells.proofs.find.first_owner.Reads as first-owner-reads
-use Rattle.cells.proofs.find.kind.Reads as kind-reads
-use Rattle.cells.proofs.find.next_owner.Reads as next-owner-reads
-
-first-owner-requires : tie.Need-first-owner-requires
-first-owner-requires c κs = search needs
-
-mul-if1 : tie.Need-mul-if1
-mul-if1 c = search needs
 
 returns : tie.Need-returns
 returns c =
@@ -31,9 +18,6 @@ returns c =
     let e = key (a .u) (a .v) in
     let at1 = f1 .first-owner .ensures m r in
     shared-none m e (at-end w (a .s) (a .p) (a .u) (a .v) i (owners m e) at1 (c .if1 .taken))
-
-kind-requires : tie.Need-kind-requires
-kind-requires c κs = search needs
 
 returns-2 : tie.Need-returns-2
 returns-2 c =
@@ -65,9 +49,6 @@ next-owner-requires c κs =
     let at1 = f1 .first-owner .ensures m r in
     ((owners m e, at1), (t .pre .1, e1 .if1 .left))
 
-mul-if3 : tie.Need-mul-if3
-mul-if3 c = search needs
-
 returns-3 : tie.Need-returns-3
 returns-3 c =
     let f2 = c .before in
@@ -86,9 +67,6 @@ returns-3 c =
     let j = f2 .next-owner .result in
     let at2 = at-after w (a .s) (a .p) (a .u) (a .v) i j (owners m e) at1 g1 (f2 .next-owner .ensures) in
     shared-one m e (g1 .x) (g1 .is ∙ ap (λ (l : List Live). g1 .x ∷ l) (at-end w (a .s) (a .p) (a .u) (a .v) j (g1 .more) at2 (c .if3 .taken)))
-
-kind-requires-2 : tie.Need-kind-requires-2
-kind-requires-2 c κs = search needs
 
 returns-4 : tie.Need-returns-4
 returns-4 c =
@@ -134,9 +112,6 @@ next-owner-requires-2 c κs =
     let j = f2 .next-owner .result in
     let at2 = at-after w (a .s) (a .p) (a .u) (a .v) i j (owners m e) at1 g1 (f2 .next-owner .ensures) in
     ((g1 .more, at2), (t .pre .1, e3 .if3 .left))
-
-mul-if5 : tie.Need-mul-if5
-mul-if5 c = search needs
 
 returns-5 : tie.Need-returns-5
 returns-5 c =
@@ -198,17 +173,5 @@ pub shared-by-tris-spec : {M : Type 1} → statement M
 shared-by-tris-spec =
     tie.close
     (tie.spec
-    first-owner-requires
-    mul-if1
-    returns
-    kind-requires
-    returns-2
-    next-owner-requires
-    mul-if3
-    returns-3
-    kind-requires-2
-    returns-4
-    next-owner-requires-2
-    mul-if5
-    returns-5
-    returns-6)
+    (λ c κs. search needs) (λ c. search needs) returns (λ c κs. search needs) returns-2 next-owner-requires (λ c. search needs) returns-3
+    (λ c κs. search needs) returns-4 next-owner-requires-2 (λ c. search needs) returns-5 returns-6)

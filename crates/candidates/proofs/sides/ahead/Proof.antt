@@ -1,4 +1,3 @@
-use mathlib.Core.Path.{_≡_, refl, ap, sym, _∙_, subst}
 use Rattle.definition.specs.Floats.{_⊗_, _⊖_, _≺_, 0·5, 2·2, 0·25, 2·5, f64}
 use Rattle.definition.specs.Numbers.{base}
 use Rattle.definition.specs.Candidates.{ahead}
@@ -6,14 +5,6 @@ use Rattle.plane.specs.Vectors.{vec}
 use borrow.Author.Needs.{needs}
 use Rattle.candidates.proofs.sides.ahead.Statement.{statement}
 use Rattle.candidates.proofs.sides.ahead.Tie as tie
-use Rattle.candidates.proofs.sides.ahead.Reads as reads
-use Rattle.candidates.proofs.sides.ahead.Lts as lts
-use Rattle.plane.proofs.vectors.norm.Reads as norm-reads
-use Rattle.plane.proofs.vectors.dot.Reads as dot-reads
-use Rattle.plane.proofs.floats.abs.Reads as abs-reads
-
-norm-requires : tie.Need-norm-requires
-norm-requires c κs = search needs
 
 returns : tie.Need-returns
 unfolding ahead base _⊗_ _⊖_ _≺_ 0·5 2·2 0·25 2·5 f64 vec
@@ -27,9 +18,6 @@ returns-2 c =
     let n = e1 .before in
     rw (← n .norm .ensures, e1 .if1 .left, c .if2 .taken)
 
-dot-requires : tie.Need-dot-requires
-dot-requires c κs = search needs
-
 returns-3 : tie.Need-returns-3
 unfolding ahead base _⊗_ _⊖_ _≺_ 0·5 2·2 0·25 2·5 f64 vec
 returns-3 c =
@@ -38,9 +26,6 @@ returns-3 c =
     let e1 = e2 .before in
     let n = e1 .before in
     rw (← n .norm .ensures, ← d .dot .ensures, e1 .if1 .left, e2 .if2 .left, c .if3 .taken)
-
-abs-requires : tie.Need-abs-requires
-abs-requires c κs = search needs
 
 returns-4 : tie.Need-returns-4
 unfolding ahead base _⊗_ _⊖_ _≺_ 0·5 2·2 0·25 2·5 f64 vec
@@ -53,13 +38,4 @@ returns-4 c =
     rw (← n .norm .ensures, ← d .dot .ensures, ← c .abs .ensures, e1 .if1 .left, e2 .if2 .left, e3 .if3 .left)
 
 pub ahead-spec : {M : Type 1} → statement M
-ahead-spec =
-    tie.close
-    (tie.spec
-    norm-requires
-    returns
-    returns-2
-    dot-requires
-    returns-3
-    abs-requires
-    returns-4)
+ahead-spec = tie.close (tie.spec (λ c κs. search needs) returns returns-2 (λ c κs. search needs) returns-3 (λ c κs. search needs) returns-4)

@@ -1,19 +1,10 @@
-use mathlib.Core.Path.{_≡_, refl, ap, sym, _∙_, subst}
-use mathlib.Core.Bool.{Bool, true, false, not}
-use Prim.Native.Nat.{ℕ, suc, _+_, _-_, _*_, _/_, _<_, _≤_, _^_}
-use native.Mathlib.Omega.{arith}
+use mathlib.Core.Path.{_∙_}
 use Rattle.plane.specs.Vectors.{vec}
 use Rattle.candidates.proofs.Fences.{node-within, not-was, was}
 use Rattle.candidates.proofs.Aheads.{side-same, side-other, side-outside, side-behind, side-inside, ahead-read}
 use borrow.Author.Needs.{needs}
 use Rattle.candidates.proofs.sides.side_candidate.Statement.{statement}
 use Rattle.candidates.proofs.sides.side_candidate.Tie as tie
-use Rattle.candidates.proofs.sides.side_candidate.Reads as reads
-use Rattle.candidates.proofs.sides.side_candidate.Lts as lts
-use Rattle.candidates.proofs.inside.in_region.Reads as in-region-reads
-use Rattle.plane.proofs.vectors.from_to.Reads as from-to-reads
-use Rattle.candidates.proofs.sides.ahead.Reads as ahead-reads
-use Rattle.candidates.proofs.inside.segment_inside.Reads as segment-inside-reads
 
 returns : tie.Need-returns
 returns c =
@@ -52,9 +43,6 @@ from-to-requires c κs =
     let a = t .args in
     let y = node-within (a .q .now) (a .p) (t .pre .0) (t .pre .2 .pts) in
     (y (a .a) (t .pre .3 .first), y (a .v) (t .pre .3 .second))
-
-ahead-requires : tie.Need-ahead-requires
-ahead-requires c κs = search needs
 
 returns-4 : tie.Need-returns-4
 returns-4 c =
@@ -96,12 +84,4 @@ pub side-candidate-spec : {M : Type 1} → statement M
 side-candidate-spec =
     tie.close
     (tie.spec
-    returns
-    returns-2
-    in-region-requires
-    returns-3
-    from-to-requires
-    ahead-requires
-    returns-4
-    segment-inside-requires
-    returns-5)
+    returns returns-2 in-region-requires returns-3 from-to-requires (λ c κs. search needs) returns-4 segment-inside-requires returns-5)

@@ -1,24 +1,11 @@
 -- The word is compared with 1.
-use mathlib.Core.Path.{_≡_, refl, ap, sym, _∙_, subst}
-use Prim.Native.Nat.{ℕ, suc, _+_, _-_, _*_, _/_, _<_, _≤_}
-use native.Mathlib.Omega.{arith}
+use mathlib.Core.Path.{ap}
+use Prim.Native.Nat.{ℕ}
 use lib.Dec.{eqb}
-use lib.ListN.{length, getD, set, length-set}
+use lib.ListN.{getD}
 use borrow.Author.Needs.{needs}
 use Rattle.cells.proofs.evens.is_even.Statement.{statement}
 use Rattle.cells.proofs.evens.is_even.Tie as tie
-use Rattle.cells.proofs.evens.is_even.Reads as reads
-use Rattle.cells.proofs.evens.is_even.Lts as lts
-use Rattle.cells.proofs.layout.even_at.Reads as even-at-reads
-
-even-at-requires : tie.Need-even-at-requires
-even-at-requires c κs = search needs
-
-mul-result : tie.Need-mul-result
-mul-result c = search needs
-
-shared-slice-read-result : tie.Need-shared-slice-read-result
-shared-slice-read-result c = search needs
 
 returns : tie.Need-returns
 returns c =
@@ -27,4 +14,4 @@ returns c =
     ap (λ (i : ℕ). eqb (getD (a .w .now) i 0) 1) (c .before .even-at .ensures)
 
 pub is-even-spec : {M : Type 1} → statement M
-is-even-spec = tie.close (tie.spec even-at-requires mul-result shared-slice-read-result returns)
+is-even-spec = tie.close (tie.spec (λ c κs. search needs) (λ c. search needs) (λ c. search needs) returns)

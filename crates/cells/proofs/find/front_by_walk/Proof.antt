@@ -1,20 +1,12 @@
 -- The loop's invariant: so many owners were passed, at most two, and so many triangles among them, at most one. The measure is how many more owners may be.
-use mathlib.Core.Path.{_≡_, refl, ap, sym, _∙_, subst}
-use mathlib.Core.List.{List, [], _∷_, _++_}
-use Prim.Native.Nat.{ℕ, suc, _+_, _-_, _*_, _/_, _<_, _≤_}
+use Prim.Native.Nat.{_-_, _≤_}
 use native.Mathlib.Omega.{arith}
 use borrow.Author.Needs.{needs}
-use lib.ListN.{length, getD, set, length-set}
 use Rattle.cells.specs.Rep.{Rep}
-use Rattle.definition.specs.Cells.{Mesh, Live}
+use Rattle.definition.specs.Cells.{Mesh}
 use Rattle.cells.proofs.Fronts.{Counted, counted-start, counted-more, front-many, front-twice, front-end}
 use Rattle.cells.proofs.find.front_by_walk.Statement.{statement}
 use Rattle.cells.proofs.find.front_by_walk.Tie as tie
-use Rattle.cells.proofs.find.front_by_walk.Reads as reads
-use Rattle.cells.proofs.find.front_by_walk.Lts as lts
-use Rattle.cells.proofs.find.first_owner.Reads as first-owner-reads
-use Rattle.cells.proofs.find.next_owner.Reads as next-owner-reads
-use Rattle.cells.proofs.find.tri_count.Reads as tri-count-reads
 
 abbrev Inv-loop : tie.InvT-loop
 Inv-loop w s p u v all₀ tri₀ c₀ all tri c = (all ≤ 2) × (tri ≤ 1) × ((m : Mesh) → Rep w s p m → Counted w s p u v all tri c m)
@@ -22,22 +14,12 @@ Inv-loop w s p u v all₀ tri₀ c₀ all tri c = (all ≤ 2) × (tri ≤ 1) × 
 abbrev μ-loop : tie.MeasureT-loop
 μ-loop w s p u v all₀ tri₀ c₀ all tri c = 3 - all
 
--- src/find.rt:158:9
-first-owner-requires : tie.Need-first-owner-requires Inv-loop μ-loop
-first-owner-requires c κs = search needs
-
--- src/find.rt:159:5
 loop-holds : tie.Need-loop-holds Inv-loop μ-loop
 loop-holds c =
     let t = c .before .before in
     let a = t .args in
     (omega arith, omega arith, λ m r. counted-start (a .w .now) (a .s) (a .p) (a .u) (a .v) (c .first-owner .result) m (c .first-owner .ensures m r))
 
--- src/find.rt:159:15
-mul-loop : tie.Need-mul-loop Inv-loop μ-loop
-mul-loop c = search needs
-
--- src/find.rt:161:13
 returns : tie.Need-returns Inv-loop μ-loop
 returns c =
     let t = c .before .before .before .before .before in
@@ -45,11 +27,6 @@ returns c =
     let x = c .before .before .loop in
     λ m r. front-many (a .w .now) (a .s) (a .p) (a .u) (a .v) (x .c) m (x .tri) (x .all) (c .if1 .taken) (c .before .loop-test .taken) (x .inv .2 m r)
 
--- src/find.rt:163:9
-add-all : tie.Need-add-all Inv-loop μ-loop
-add-all c = search needs
-
--- src/find.rt:164:16
 tri-count-requires : tie.Need-tri-count-requires Inv-loop μ-loop
 tri-count-requires c κs =
     let t = c .before .before .before .before .before in
@@ -57,11 +34,6 @@ tri-count-requires c κs =
     let x = c .before .before .loop in
     record { fits = omega (arith, t .pre .0 .1 .room .fits); inside = omega (arith, c .before .loop-test .taken) }
 
--- src/find.rt:164:9
-add-tri : tie.Need-add-tri Inv-loop μ-loop
-add-tri c = search needs
-
--- src/find.rt:166:13
 returns-2 : tie.Need-returns-2 Inv-loop μ-loop
 returns-2 c =
     let t = c .before .before .before .before .before .before .before in
@@ -71,7 +43,6 @@ returns-2 c =
     front-twice (a .w .now) (a .s) (a .p) (a .u) (a .v) (x .c) m (x .all) (x .tri) (c .before .tri-count .result) (c .if2 .taken)
     (c .before .before .before .loop-test .taken) (c .before .tri-count .ensures .0) (x .inv .2 m r)
 
--- src/find.rt:168:9
 next-owner-requires : tie.Need-next-owner-requires Inv-loop μ-loop
 next-owner-requires c κs =
     let t = c .before .before .before .before .before .before .before in
@@ -80,11 +51,6 @@ next-owner-requires c κs =
     let k = x .inv .2 (t .pre .0 .0) (t .pre .0 .1) in
     ((k .xs, k .at), (t .pre .1, c .before .before .before .loop-test .taken))
 
--- src/find.rt:159:5
-loop-less : tie.Need-loop-less Inv-loop μ-loop
-loop-less c = search needs
-
--- src/find.rt:159:5
 loop-again : tie.Need-loop-again Inv-loop μ-loop
 loop-again c =
     let t = c .before .before .before .before .before .before .before .before in
@@ -97,7 +63,6 @@ loop-again c =
           (c .before .before .before .before .loop-test .taken) (c .before .before .tri-count .ensures .0) (x .inv .2 m r) (c .next-owner .ensures),
     )
 
--- src/find.rt:151:1
 returns-3 : tie.Need-returns-3 Inv-loop μ-loop
 returns-3 c =
     let t = c .before .before .before .before in
@@ -109,17 +74,5 @@ pub front-by-walk-spec : {M : Type 1} → statement M
 front-by-walk-spec =
     tie.close
     (tie.spec
-    Inv-loop
-    μ-loop
-    first-owner-requires
-    loop-holds
-    mul-loop
-    returns
-    add-all
-    tri-count-requires
-    add-tri
-    returns-2
-    next-owner-requires
-    loop-less
-    loop-again
-    returns-3)
+    Inv-loop μ-loop (λ c κs. search needs) loop-holds (λ c. search needs) returns (λ c. search needs) tri-count-requires (λ c. search needs) returns-2
+    next-owner-requires (λ c. search needs) loop-again returns-3)

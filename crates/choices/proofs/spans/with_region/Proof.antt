@@ -3,7 +3,7 @@ use mathlib.Core.Path.{ap, _∙_}
 use mathlib.Core.List.{List}
 use Prim.Native.Nat.{ℕ, _+_, _-_, _≤_}
 use native.Mathlib.Omega.{arith}
-use lib.ListN.{length, getD}
+use lib.ListN.{getD}
 use lib.Ieee.{Float}
 use Rattle.definition.specs.Cells.{Live, Mesh}
 use Rattle.cells.proofs.Slots.{sizes}
@@ -13,11 +13,6 @@ use Rattle.choices.proofs.Growth.{Read, read-start, read-more, read-end
 use borrow.Author.Needs.{needs}
 use Rattle.choices.proofs.spans.with_region.Statement.{statement}
 use Rattle.choices.proofs.spans.with_region.Tie as tie
-use Rattle.choices.proofs.spans.with_region.Reads as reads
-use Rattle.choices.proofs.spans.with_region.Lts as lts
-use Rattle.cells.proofs.layout.list_at.Reads as list-at-reads
-use Rattle.choices.proofs.spans.with_triangle.Reads as with-triangle-reads
-use Rattle.rings.proofs.wide.Reads as wide-reads
 
 abbrev Inv-loop : tie.InvT-loop
 Inv-loop w s p k g i₀ h i = (i ≤ k) × ((q : List Float) (m : Mesh) (region : List Live) → InHand w q s p k m region → Read w s p k i m region g h)
@@ -56,9 +51,6 @@ shared-slice-read-wide c =
     let t = i .before .before .before in
     omega (arith, la .list-at .ensures, i .loop-test .taken, t .pre .3 .few, t .pre .3 .rep .room .fits)
 
-wide-requires : tie.Need-wide-requires Inv-loop μ-loop
-wide-requires c κs = search needs
-
 with-triangle-requires : tie.Need-with-triangle-requires Inv-loop μ-loop
 with-triangle-requires c κs =
     let wd = c in
@@ -72,9 +64,6 @@ with-triangle-requires c κs =
     let b = l .loop .inv .1 (t .pre .0) m (t .pre .2) h in
     let y = scan-here (a .w .now) (a .s) (a .p) (a .k) (l .loop .i) (wd .wide .result) m (b .rest) (h .rep) (b .scan) (i .loop-test .taken) (wd .wide .ensures ∙ ap (λ (z : ℕ). getD (a .w .now) (z + l .loop .i) 0) (la .list-at .ensures)) in
     ((m, h .rep, y .top .t), y .inside)
-
-add-i : tie.Need-add-i Inv-loop μ-loop
-add-i c = search needs
 
 loop-less : tie.Need-loop-less Inv-loop μ-loop
 loop-less c =
@@ -107,16 +96,5 @@ pub with-region-spec : {M : Type 1} → statement M
 with-region-spec =
     tie.close
     (tie.spec
-    Inv-loop
-    μ-loop
-    loop-holds
-    list-at-requires
-    add-wide
-    mul-wide
-    shared-slice-read-wide
-    wide-requires
-    with-triangle-requires
-    add-i
-    loop-less
-    loop-again
-    returns)
+    Inv-loop μ-loop loop-holds list-at-requires add-wide mul-wide shared-slice-read-wide (λ c κs. search needs) with-triangle-requires (λ c. search needs)
+    loop-less loop-again returns)

@@ -10,33 +10,12 @@ use Rattle.choices.proofs.Growth.{Ringed, ringed-start, ringed-read, ri
 use borrow.Author.Needs.{needs}
 use Rattle.choices.proofs.spans.with_ring.Statement.{statement}
 use Rattle.choices.proofs.spans.with_ring.Tie as tie
-use Rattle.choices.proofs.spans.with_ring.Reads as reads
-use Rattle.choices.proofs.spans.with_ring.Lts as lts
-use Rattle.cells.proofs.find.node_after.Reads as node-after-reads
-use Rattle.cells.proofs.find.node_before.Reads as node-before-reads
-use Rattle.choices.proofs.spans.widened.Reads as widened-reads
-use Rattle.rings.proofs.next.Reads as next-reads
 
 abbrev Inv-loop : tie.InvT-loop
 Inv-loop w s p a g c₀ h c = (m : Mesh) → Rep w s p m → a < length (m .points) → Ringed w s a c m g h
 
 abbrev μ-loop : tie.MeasureT-loop
 μ-loop w s p a g c₀ h c = left w s p c
-
-mul-next : tie.Need-mul-next Inv-loop μ-loop
-mul-next c = search needs
-
-mul-next-2 : tie.Need-mul-next-2 Inv-loop μ-loop
-mul-next-2 c = search needs
-
-add-next : tie.Need-add-next Inv-loop μ-loop
-add-next c = search needs
-
-mul-next-3 : tie.Need-mul-next-3 Inv-loop μ-loop
-mul-next-3 c = search needs
-
-add-next-2 : tie.Need-add-next-2 Inv-loop μ-loop
-add-next-2 c = search needs
 
 next-requires : tie.Need-next-requires Inv-loop μ-loop
 next-requires c κs =
@@ -49,9 +28,6 @@ loop-holds c =
     let a = t .args in
     λ m r n. subst (λ (z : ℕ). Ringed (a .w .now) (a .s) (a .a) z m (a .g) (a .g)) (sym (c .next .ensures)) (ringed-start (a .w .now) (a .s) (a .p) (a .a) m r n (a .g))
 
-mul-loop : tie.Need-mul-loop Inv-loop μ-loop
-mul-loop c = search needs
-
 node-after-requires : tie.Need-node-after-requires Inv-loop μ-loop
 node-after-requires c κs =
     let i = c in
@@ -62,9 +38,6 @@ node-after-requires c κs =
     let m = t .pre .0 in
     ringed-read (a .w .now) (a .s) (a .p) (a .a) m (t .pre .1) (t .pre .2) (a .g) (x .c) (x .h) (x .inv m (t .pre .1) (t .pre .2)) (i .loop-test .taken)
 
-widened-requires : tie.Need-widened-requires Inv-loop μ-loop
-widened-requires c κs = search needs
-
 node-before-requires : tie.Need-node-before-requires Inv-loop μ-loop
 node-before-requires c κs =
     let i = c .before .before in
@@ -74,18 +47,6 @@ node-before-requires c κs =
     let a = t .args in
     let m = t .pre .0 in
     ringed-read (a .w .now) (a .s) (a .p) (a .a) m (t .pre .1) (t .pre .2) (a .g) (x .c) (x .h) (x .inv m (t .pre .1) (t .pre .2)) (i .loop-test .taken)
-
-widened-requires-2 : tie.Need-widened-requires-2 Inv-loop μ-loop
-widened-requires-2 c κs = search needs
-
-mul-next-4 : tie.Need-mul-next-4 Inv-loop μ-loop
-mul-next-4 c = search needs
-
-mul-next-5 : tie.Need-mul-next-5 Inv-loop μ-loop
-mul-next-5 c = search needs
-
-add-next-3 : tie.Need-add-next-3 Inv-loop μ-loop
-add-next-3 c = search needs
 
 next-requires-2 : tie.Need-next-requires-2 Inv-loop μ-loop
 next-requires-2 c κs =
@@ -131,24 +92,6 @@ pub with-ring-spec : {M : Type 1} → statement M
 with-ring-spec =
     tie.close
     (tie.spec
-    Inv-loop
-    μ-loop
-    mul-next
-    mul-next-2
-    add-next
-    mul-next-3
-    add-next-2
-    next-requires
-    loop-holds
-    mul-loop
-    node-after-requires
-    widened-requires
-    node-before-requires
-    widened-requires-2
-    mul-next-4
-    mul-next-5
-    add-next-3
-    next-requires-2
-    loop-less
-    loop-again
-    returns)
+    Inv-loop μ-loop (λ c. search needs) (λ c. search needs) (λ c. search needs) (λ c. search needs) (λ c. search needs) next-requires loop-holds
+    (λ c. search needs) node-after-requires (λ c κs. search needs) node-before-requires (λ c κs. search needs) (λ c. search needs) (λ c. search needs)
+    (λ c. search needs) next-requires-2 loop-less loop-again returns)

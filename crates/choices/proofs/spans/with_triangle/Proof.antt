@@ -5,28 +5,6 @@ use Rattle.choices.proofs.Growth.{tri-grows}
 use borrow.Author.Needs.{needs}
 use Rattle.choices.proofs.spans.with_triangle.Statement.{statement}
 use Rattle.choices.proofs.spans.with_triangle.Tie as tie
-use Rattle.choices.proofs.spans.with_triangle.Reads as reads
-use Rattle.choices.proofs.spans.with_triangle.Lts as lts
-use Rattle.cells.proofs.find.node.Reads as node-reads
-use Rattle.choices.proofs.spans.widened.Reads as widened-reads
-
-node-requires : tie.Need-node-requires
-node-requires c κs = search needs
-
-widened-requires : tie.Need-widened-requires
-widened-requires c κs = search needs
-
-node-requires-2 : tie.Need-node-requires-2
-node-requires-2 c κs = search needs
-
-widened-requires-2 : tie.Need-widened-requires-2
-widened-requires-2 c κs = search needs
-
-node-requires-3 : tie.Need-node-requires-3
-node-requires-3 c κs = search needs
-
-widened-requires-3 : tie.Need-widened-requires-3
-widened-requires-3 c κs = search needs
 
 returns : tie.Need-returns
 returns c =
@@ -46,10 +24,4 @@ pub with-triangle-spec : {M : Type 1} → statement M
 with-triangle-spec =
     tie.close
     (tie.spec
-    node-requires
-    widened-requires
-    node-requires-2
-    widened-requires-2
-    node-requires-3
-    widened-requires-3
-    returns)
+    (λ c κs. search needs) (λ c κs. search needs) (λ c κs. search needs) (λ c κs. search needs) (λ c κs. search needs) (λ c κs. search needs) returns)

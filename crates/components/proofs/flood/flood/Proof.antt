@@ -1,7 +1,7 @@
 use borrow.Author.Needs.{needs}
 use mathlib.Core.Path.{_≡_, refl, _∙_}
 use mathlib.Core.List.{List, [], _∷_, _++_}
-use Prim.Native.Nat.{_+_, _-_, _/_, _^_, _≤_}
+use Prim.Native.Nat.{_+_, _-_, _^_, _≤_}
 use native.Mathlib.Omega.{arith}
 use lib.ListN.{length}
 use Rattle.definition.specs.Cells.{Mesh, Live}
@@ -10,11 +10,6 @@ use Rattle.components.specs.Flood.{Marked, tri-live, Flooding}
 use Rattle.components.proofs.Floods.{flood-start, begin-can, begin-more, begun-state, flooded-from, flood-few, flood-can, popped, popped-tri, flood-end, flood-on}
 use Rattle.components.proofs.flood.flood.Statement.{statement}
 use Rattle.components.proofs.flood.flood.Tie as tie
-use Rattle.components.proofs.flood.flood.Reads as reads
-use Rattle.components.proofs.flood.flood.Lts as lts
-use Rattle.components.proofs.flood.meet_tri.Reads as meet-tri-reads
-use Rattle.regions.proofs.lists.append.Reads as append-reads
-use Rattle.regions.proofs.lists.listed.Reads as listed-reads
 
 abbrev Inv-loop : tie.InvT-loop
 Inv-loop w₀ s p n i k₀ head₀ w k head =
@@ -24,21 +19,18 @@ Inv-loop w₀ s p n i k₀ head₀ w k head =
 abbrev μ-loop : tie.MeasureT-loop
 μ-loop w₀ s p n i k₀ head₀ w k head = s - head
 
--- src/flood.rt:95:5
 append-requires : tie.Need-append-requires Inv-loop μ-loop
 append-requires c κs =
     let t = c .before .before in
     let a = t .args in
     begin-can (a .w .now) (a .s) (a .p) (a .n) (a .i) (t .pre .0) (t .pre .1) (t .pre .2) (t .pre .3) (t .pre .4)
 
--- src/flood.rt:96:17
 add-k : tie.Need-add-k Inv-loop μ-loop
 add-k c =
     let t = c .before .before .before .before .before in
     let a = t .args in
     omega (arith, begin-more (a .w .now) (a .s) (a .p) (a .n) (a .i) (t .pre .0) (t .pre .1) (t .pre .2) (t .pre .3) (t .pre .4), t .pre .2 .rep .room .small)
 
--- src/flood.rt:98:5
 loop-holds : tie.Need-loop-holds Inv-loop μ-loop
 loop-holds c =
     let d = c .before .before in
@@ -50,7 +42,6 @@ loop-holds c =
       λ m xs ti h. flood-start (d .append .last .0) (a .s) (a .p) (a .n) m xs (tri-live (a .i) (ti .t)) h,
     )
 
--- src/flood.rt:99:13
 listed-requires : tie.Need-listed-requires Inv-loop μ-loop
 listed-requires c κs =
     let i = c .before in
@@ -66,7 +57,6 @@ listed-requires c κs =
     let fl = l .loop .inv .3 m xs ti st in
     flood-can w1 (l .loop .w) (a .s) (a .p) (l .loop .k) (l .loop .head) m xs (tri-live (a .i) (ti .t)) fl (i .loop-test .taken)
 
--- src/flood.rt:100:9
 meet-tri-requires : tie.Need-meet-tri-requires Inv-loop μ-loop
 meet-tri-requires c κs =
     let wd = c .before in
@@ -84,15 +74,6 @@ meet-tri-requires c κs =
     let po = popped w1 (l .loop .w) (a .s) (a .p) (l .loop .k) (l .loop .head) m xs (tri-live (a .i) (ti .t)) fl (i .loop-test .taken) (wd .listed .result) (wd .listed .ensures) in
     (m, xs ++ (po .done ++ po .y ∷ po .todo), po .state, popped-tri w1 (l .loop .w) (a .s) (a .p) (l .loop .k) (l .loop .head) m xs (tri-live (a .i) (ti .t)) (wd .listed .result) po)
 
--- src/flood.rt:101:9
-add-head : tie.Need-add-head Inv-loop μ-loop
-add-head c = search needs
-
--- src/flood.rt:98:5
-loop-less : tie.Need-loop-less Inv-loop μ-loop
-loop-less c = search needs
-
--- src/flood.rt:98:5
 loop-again : tie.Need-loop-again Inv-loop μ-loop
 loop-again c =
     let o = c .before .before in
@@ -121,14 +102,12 @@ loop-again c =
           flood-on w1 (l .loop .w) (a .s) (a .p) (l .loop .k) (l .loop .head) m xs (tri-live (a .i) (ti .t)) (wd .listed .result) po (o .meet-tri .last .0) (o .meet-tri .result) f,
     )
 
--- src/flood.rt:91:1
 same-length : tie.Need-same-length Inv-loop μ-loop
 same-length c =
     let l = c .before in
     let d = l .before .before .before in
     l .loop .inv .0 ∙ d .append .kept .0
 
--- src/flood.rt:91:1
 returns : tie.Need-returns Inv-loop μ-loop
 returns c =
     λ m xs h ti out.
@@ -145,15 +124,5 @@ pub flood-spec : {M : Type 1} → statement M
 flood-spec =
     tie.close
     (tie.spec
-    Inv-loop
-    μ-loop
-    append-requires
-    add-k
-    loop-holds
-    listed-requires
-    meet-tri-requires
-    add-head
-    loop-less
-    loop-again
-    same-length
+    Inv-loop μ-loop append-requires add-k loop-holds listed-requires meet-tri-requires (λ c. search needs) (λ c. search needs) loop-again same-length
     returns)

@@ -9,59 +9,35 @@ use Rattle.components.proofs.Grows.{fresh, seen-can, seen-room, seen-se
 use Rattle.components.proofs.Meets.{seen-other, seen-known, seen-cell, seen-apart, seen-new}
 use Rattle.components.proofs.flood.meet_one.Statement.{statement}
 use Rattle.components.proofs.flood.meet_one.Tie as tie
-use Rattle.components.proofs.flood.meet_one.Reads as reads
-use Rattle.components.proofs.flood.meet_one.Lts as lts
-use Rattle.cells.proofs.find.kind.Reads as kind-reads
-use Rattle.components.proofs.flood.has_one.Reads as has-one-reads
-use Rattle.regions.proofs.lists.append.Reads as append-reads
-use Rattle.regions.proofs.lists.mark.Reads as mark-reads
 
--- src/flood.rt:50:8
 kind-requires : tie.Need-kind-requires
 kind-requires c κs =
     let t = c .before .before in
     let a = t .args in
     seen-see (a .w .now) (a .s) (a .p) (a .n) (a .j) (t .pre .0) (t .pre .1) (t .pre .2) (t .pre .3)
 
--- src/flood.rt:51:9
-same-length : tie.Need-same-length
-same-length c = search needs
-
--- src/flood.rt:51:9
 returns : tie.Need-returns
 returns c = λ m xs x h.
     let a = c .before .before .before .before .args in
     seen-other (a .w .now) (a .s) (a .p) (a .n) (a .j) m xs x h (a .y) (a .z) (λ q. c .if1 .taken (c .before .kind .ensures ∙ q))
 
--- src/flood.rt:53:8
 mark-requires : tie.Need-mark-requires
 mark-requires c κs =
     let t = c .before .before .before .before .before in
     let a = t .args in
     seen-can (a .w .now) (a .s) (a .p) (a .n) (a .j) (t .pre .0) (t .pre .1) (t .pre .2) (t .pre .3)
 
--- src/flood.rt:54:9
-same-length-2 : tie.Need-same-length-2
-same-length-2 c = search needs
-
--- src/flood.rt:54:9
 returns-2 : tie.Need-returns-2
 returns-2 c = λ m xs x h.
     let a = c .before .before .before .before .before .before .before .args in
     seen-known (a .w .now) (a .s) (a .p) (a .n) (a .j) m xs x h (a .y) (a .z) (λ q. c .if2 .taken (c .before .mark .ensures ∙ q))
 
--- src/flood.rt:56:9
 has-one-requires : tie.Need-has-one-requires
 has-one-requires c κs =
     let t = c .before .before .before .before .before .before .before .before in
     let a = t .args in
     seen-see (a .w .now) (a .s) (a .p) (a .n) (a .j) (t .pre .0) (t .pre .1) (t .pre .2) (t .pre .3)
 
--- src/flood.rt:57:9
-same-length-3 : tie.Need-same-length-3
-same-length-3 c = search needs
-
--- src/flood.rt:57:9
 returns-3 : tie.Need-returns-3
 returns-3 c = λ m xs x h.
     let g = c .before in
@@ -71,7 +47,6 @@ returns-3 c = λ m xs x h.
     seen-apart (a .w .now) (a .s) (a .p) (a .n) (a .j) m xs x h (a .y) (a .z) k
     (sym (g .has-one .ensures (body x) (seen-cell (a .w .now) (a .s) (a .p) (a .n) (a .j) m xs x h (a .y) (a .z) k)) ∙ not-true (g .has-one .result) (c .if3 .taken))
 
--- src/flood.rt:59:5
 append-requires : tie.Need-append-requires
 append-requires c κs =
     let e = c .before .before .before .before in
@@ -80,7 +55,6 @@ append-requires c κs =
     let o = fresh (a .w .now) (a .s) (a .p) (a .n) (a .j) (t .pre .0) (t .pre .1) (t .pre .2) (t .pre .3) (sym (e .before .mark .ensures) ∙ e .if2 .left) in
     (seen-room (a .w .now) (a .s) (a .p) (a .n) (a .j) (t .pre .0) (t .pre .1) (t .pre .2) (t .pre .3) o, seen-can (a .w .now) (a .s) (a .p) (a .n) (a .j) (t .pre .0) (t .pre .1) (t .pre .2) (t .pre .3))
 
--- src/flood.rt:60:5
 add-result : tie.Need-add-result
 add-result c =
     let e = c .before .before .before .before .before .before .before in
@@ -88,11 +62,6 @@ add-result c =
     let a = t .args in
     omega (arith, more (a .w .now) (a .s) (a .p) (a .n) (a .j) (t .pre .0) (t .pre .1) (t .pre .2) (t .pre .3) (fresh (a .w .now) (a .s) (a .p) (a .n) (a .j) (t .pre .0) (t .pre .1) (t .pre .2) (t .pre .3) (sym (e .before .mark .ensures) ∙ e .if2 .left)), t .pre .3 .state .rep .room .small)
 
--- src/flood.rt:46:1
-same-length-4 : tie.Need-same-length-4
-same-length-4 c = search needs
-
--- src/flood.rt:46:1
 returns-4 : tie.Need-returns-4
 returns-4 c = λ m xs x h.
     let o = c .before .before in
@@ -110,16 +79,5 @@ pub meet-one-spec : {M : Type 1} → statement M
 meet-one-spec =
     tie.close
     (tie.spec
-    kind-requires
-    same-length
-    returns
-    mark-requires
-    same-length-2
-    returns-2
-    has-one-requires
-    same-length-3
-    returns-3
-    append-requires
-    add-result
-    same-length-4
-    returns-4)
+    kind-requires (λ c. search needs) returns mark-requires (λ c. search needs) returns-2 has-one-requires (λ c. search needs) returns-3 append-requires
+    add-result (λ c. search needs) returns-4)

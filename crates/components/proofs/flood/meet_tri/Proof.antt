@@ -6,114 +6,94 @@ use Rattle.components.proofs.Members.{tri-read}
 use Rattle.components.proofs.Meets.{met-both}
 use Rattle.components.proofs.flood.meet_tri.Statement.{statement}
 use Rattle.components.proofs.flood.meet_tri.Tie as tie
-use Rattle.components.proofs.flood.meet_tri.Reads as reads
-use Rattle.components.proofs.flood.meet_tri.Lts as lts
-use Rattle.components.proofs.flood.meet_two.Reads as meet-two-reads
-use Rattle.rings.proofs.wide.Reads as wide-reads
 
--- src/flood.rt:83:19
 mul-x : tie.Need-mul-x
 mul-x c =
     let t = c .before in
     let a = t .args in
     omega (arith, tri-inside (a .w .now) (a .s) (a .p) (t .pre .0) (t .pre .2 .rep) (a .i) (t .pre .3), t .pre .2 .rep .room .small, t .pre .2 .rep .room .fits)
 
--- src/flood.rt:83:15
 add-x : tie.Need-add-x
 add-x c =
     let t = c .before in
     let a = t .args in
     omega (arith, tri-inside (a .w .now) (a .s) (a .p) (t .pre .0) (t .pre .2 .rep) (a .i) (t .pre .3), t .pre .2 .rep .room .small, t .pre .2 .rep .room .fits)
 
--- src/flood.rt:83:13
 mul-x-2 : tie.Need-mul-x-2
 mul-x-2 c =
     let t = c .before in
     let a = t .args in
     omega (arith, tri-inside (a .w .now) (a .s) (a .p) (t .pre .0) (t .pre .2 .rep) (a .i) (t .pre .3), t .pre .2 .rep .room .small, t .pre .2 .rep .room .fits)
 
--- src/flood.rt:83:13
 slice-read-x : tie.Need-slice-read-x
 slice-read-x c =
     let t = c .before .before in
     let a = t .args in
     omega (arith, tri-inside (a .w .now) (a .s) (a .p) (t .pre .0) (t .pre .2 .rep) (a .i) (t .pre .3), t .pre .2 .rep .room .small, t .pre .2 .rep .room .fits)
 
--- src/flood.rt:84:19
 mul-y : tie.Need-mul-y
 mul-y c =
     let t = c .before .before in
     let a = t .args in
     omega (arith, tri-inside (a .w .now) (a .s) (a .p) (t .pre .0) (t .pre .2 .rep) (a .i) (t .pre .3), t .pre .2 .rep .room .small, t .pre .2 .rep .room .fits)
 
--- src/flood.rt:84:15
 add-y : tie.Need-add-y
 add-y c =
     let t = c .before .before in
     let a = t .args in
     omega (arith, tri-inside (a .w .now) (a .s) (a .p) (t .pre .0) (t .pre .2 .rep) (a .i) (t .pre .3), t .pre .2 .rep .room .small, t .pre .2 .rep .room .fits)
 
--- src/flood.rt:84:15
 add-y-2 : tie.Need-add-y-2
 add-y-2 c =
     let t = c .before .before in
     let a = t .args in
     omega (arith, tri-inside (a .w .now) (a .s) (a .p) (t .pre .0) (t .pre .2 .rep) (a .i) (t .pre .3), t .pre .2 .rep .room .small, t .pre .2 .rep .room .fits)
 
--- src/flood.rt:84:13
 mul-y-2 : tie.Need-mul-y-2
 mul-y-2 c =
     let t = c .before .before in
     let a = t .args in
     omega (arith, tri-inside (a .w .now) (a .s) (a .p) (t .pre .0) (t .pre .2 .rep) (a .i) (t .pre .3), t .pre .2 .rep .room .small, t .pre .2 .rep .room .fits)
 
--- src/flood.rt:84:13
 slice-read-y : tie.Need-slice-read-y
 slice-read-y c =
     let t = c .before .before .before in
     let a = t .args in
     omega (arith, tri-inside (a .w .now) (a .s) (a .p) (t .pre .0) (t .pre .2 .rep) (a .i) (t .pre .3), t .pre .2 .rep .room .small, t .pre .2 .rep .room .fits)
 
--- src/flood.rt:85:19
 mul-z : tie.Need-mul-z
 mul-z c =
     let t = c .before .before .before in
     let a = t .args in
     omega (arith, tri-inside (a .w .now) (a .s) (a .p) (t .pre .0) (t .pre .2 .rep) (a .i) (t .pre .3), t .pre .2 .rep .room .small, t .pre .2 .rep .room .fits)
 
--- src/flood.rt:85:15
 add-z : tie.Need-add-z
 add-z c =
     let t = c .before .before .before in
     let a = t .args in
     omega (arith, tri-inside (a .w .now) (a .s) (a .p) (t .pre .0) (t .pre .2 .rep) (a .i) (t .pre .3), t .pre .2 .rep .room .small, t .pre .2 .rep .room .fits)
 
--- src/flood.rt:85:15
 add-z-2 : tie.Need-add-z-2
 add-z-2 c =
     let t = c .before .before .before in
     let a = t .args in
     omega (arith, tri-inside (a .w .now) (a .s) (a .p) (t .pre .0) (t .pre .2 .rep) (a .i) (t .pre .3), t .pre .2 .rep .room .small, t .pre .2 .rep .room .fits)
 
--- src/flood.rt:85:13
 mul-z-2 : tie.Need-mul-z-2
 mul-z-2 c =
     let t = c .before .before .before in
     let a = t .args in
     omega (arith, tri-inside (a .w .now) (a .s) (a .p) (t .pre .0) (t .pre .2 .rep) (a .i) (t .pre .3), t .pre .2 .rep .room .small, t .pre .2 .rep .room .fits)
 
--- src/flood.rt:85:13
 slice-read-z : tie.Need-slice-read-z
 slice-read-z c =
     let t = c .before .before .before .before in
     let a = t .args in
     omega (arith, tri-inside (a .w .now) (a .s) (a .p) (t .pre .0) (t .pre .2 .rep) (a .i) (t .pre .3), t .pre .2 .rep .room .small, t .pre .2 .rep .room .fits)
 
--- src/flood.rt:86:34
 wide-requires : tie.Need-wide-requires
 wide-requires c κs = tt
 
--- src/flood.rt:86:9
 meet-two-requires : tie.Need-meet-two-requires
 meet-two-requires c κs =
     let t = c .before .before .before .before .before .before in
@@ -121,11 +101,9 @@ meet-two-requires c κs =
     let r = tri-read (a .w .now) (a .s) (a .p) (a .i) (t .pre .0) (t .pre .2 .rep) (t .pre .3) in
     ((t .pre .0, t .pre .1, t .pre .2), rw (c .wide .ensures) (r .in0))
 
--- src/flood.rt:87:26
 wide-requires-2 : tie.Need-wide-requires-2
 wide-requires-2 c κs = tt
 
--- src/flood.rt:87:5
 meet-two-requires-2 : tie.Need-meet-two-requires-2
 meet-two-requires-2 c κs =
     let o = c .before .before .before .before in
@@ -135,11 +113,6 @@ meet-two-requires-2 c κs =
     let f = o .meet-two .ensures (t .pre .0) (t .pre .1) (t .pre .2) in
     ((t .pre .0, t .pre .1 ++ f .new, f .state), rw (c .wide2 .ensures) (r .in1))
 
--- src/flood.rt:79:1
-same-length : tie.Need-same-length
-same-length c = search needs
-
--- src/flood.rt:79:1
 returns : tie.Need-returns
 returns c = λ m xs h i.
     let o2 = c .before .before in
@@ -154,23 +127,5 @@ pub meet-tri-spec : {M : Type 1} → statement M
 meet-tri-spec =
     tie.close
     (tie.spec
-    mul-x
-    add-x
-    mul-x-2
-    slice-read-x
-    mul-y
-    add-y
-    add-y-2
-    mul-y-2
-    slice-read-y
-    mul-z
-    add-z
-    add-z-2
-    mul-z-2
-    slice-read-z
-    wide-requires
-    meet-two-requires
-    wide-requires-2
-    meet-two-requires-2
-    same-length
-    returns)
+    mul-x add-x mul-x-2 slice-read-x mul-y add-y add-y-2 mul-y-2 slice-read-y mul-z add-z add-z-2 mul-z-2 slice-read-z wide-requires meet-two-requires
+    wide-requires-2 meet-two-requires-2 (λ c. search needs) returns)

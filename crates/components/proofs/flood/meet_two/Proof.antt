@@ -8,10 +8,6 @@ use Rattle.components.specs.Flood.{Marked}
 use Rattle.components.proofs.Meets.{Going, going-start, going-end, going-cell, going-seen, going-less, going-next, going-on}
 use Rattle.components.proofs.flood.meet_two.Statement.{statement}
 use Rattle.components.proofs.flood.meet_two.Tie as tie
-use Rattle.components.proofs.flood.meet_two.Reads as reads
-use Rattle.components.proofs.flood.meet_two.Lts as lts
-use Rattle.components.proofs.flood.meet_one.Reads as meet-one-reads
-use Rattle.rings.proofs.next.Reads as next-reads
 
 abbrev Inv-loop : tie.InvT-loop
 Inv-loop w₀ s p n x y z k₀ c₀ w k c = (length w ≡ length w₀) × ((m : Mesh) (xs : List Live) → Marked w₀ s p n m xs → Going w₀ w s p x y z k c m xs)
@@ -19,56 +15,47 @@ Inv-loop w₀ s p n x y z k₀ c₀ w k c = (length w ≡ length w₀) × ((m : 
 abbrev μ-loop : tie.MeasureT-loop
 μ-loop w₀ s p n x y z k₀ c₀ w k c = left w₀ s p c
 
--- src/flood.rt:70:25
 mul-next : tie.Need-mul-next Inv-loop μ-loop
 mul-next c =
     let t = c .before .before in
     omega (arith, t .pre .0 .2 .rep .room .small, t .pre .1)
 
--- src/flood.rt:70:37
 mul-next-2 : tie.Need-mul-next-2 Inv-loop μ-loop
 mul-next-2 c =
     let t = c .before .before in
     omega (arith, t .pre .0 .2 .rep .room .small, t .pre .1)
 
--- src/flood.rt:70:37
 add-next : tie.Need-add-next Inv-loop μ-loop
 add-next c =
     let t = c .before .before in
     omega (arith, t .pre .0 .2 .rep .room .small, t .pre .1)
 
--- src/flood.rt:70:54
 mul-next-3 : tie.Need-mul-next-3 Inv-loop μ-loop
 mul-next-3 c =
     let t = c .before .before in
     omega (arith, t .pre .0 .2 .rep .room .small, t .pre .1)
 
--- src/flood.rt:70:54
 add-next-2 : tie.Need-add-next-2 Inv-loop μ-loop
 add-next-2 c =
     let t = c .before .before in
     omega (arith, t .pre .0 .2 .rep .room .small, t .pre .1)
 
--- src/flood.rt:70:9
 next-requires : tie.Need-next-requires Inv-loop μ-loop
 next-requires c κs =
     let t = c .before .before in
     record { fits = omega (arith, t .pre .0 .2 .rep .room .fits); code = omega (arith, t .pre .1) }
 
--- src/flood.rt:71:5
 loop-holds : tie.Need-loop-holds Inv-loop μ-loop
 loop-holds c =
     let t = c .before .before .before in
     let a = t .args in
     (refl, λ m xs h. rw (c .next .ensures) (going-start (a .w .now) (a .s) (a .p) (a .x) (a .y) (a .z) (a .n) m xs h (t .pre .1)))
 
--- src/flood.rt:71:15
 mul-loop : tie.Need-mul-loop Inv-loop μ-loop
 mul-loop c =
     let t = c .before .before .before .before in
     omega (arith, t .pre .0 .2 .rep .room .small, t .pre .1)
 
--- src/flood.rt:72:9
 meet-one-requires : tie.Need-meet-one-requires Inv-loop μ-loop
 meet-one-requires c κs =
     let i = c .before in
@@ -81,25 +68,21 @@ meet-one-requires c κs =
     let g = l .loop .inv .1 m xs (t .pre .0 .2) in
     (m, xs ++ g .new, going-cell (a .w .now) (l .loop .w) (a .s) (a .p) (a .x) (a .y) (a .z) (l .loop .k) (l .loop .c) m xs g h, going-seen (a .w .now) (l .loop .w) (a .s) (a .p) (a .x) (a .y) (a .z) (l .loop .k) (l .loop .c) m xs g h)
 
--- src/flood.rt:73:21
 mul-next-4 : tie.Need-mul-next-4 Inv-loop μ-loop
 mul-next-4 c =
     let t = c .before .before .before .before .before .before .before .before .before .before in
     omega (arith, t .pre .0 .2 .rep .room .small, t .pre .1)
 
--- src/flood.rt:73:33
 mul-next-5 : tie.Need-mul-next-5 Inv-loop μ-loop
 mul-next-5 c =
     let t = c .before .before .before .before .before .before .before .before .before .before in
     omega (arith, t .pre .0 .2 .rep .room .small, t .pre .1)
 
--- src/flood.rt:73:33
 add-next-3 : tie.Need-add-next-3 Inv-loop μ-loop
 add-next-3 c =
     let t = c .before .before .before .before .before .before .before .before .before .before in
     omega (arith, t .pre .0 .2 .rep .room .small, t .pre .1)
 
--- src/flood.rt:73:9
 next-requires-2 : tie.Need-next-requires-2 Inv-loop μ-loop
 next-requires-2 c κs =
     let o = c .before .before .before in
@@ -114,7 +97,6 @@ next-requires-2 c κs =
     let f = o .meet-one .ensures m (xs ++ g .new) (going-cell (a .w .now) (l .loop .w) (a .s) (a .p) (a .x) (a .y) (a .z) (l .loop .k) (l .loop .c) m xs g h) (going-seen (a .w .now) (l .loop .w) (a .s) (a .p) (a .x) (a .y) (a .z) (l .loop .k) (l .loop .c) m xs g h) in
     record { fits = omega (arith, f .state .rep .room .fits); code = omega (arith, h) }
 
--- src/flood.rt:71:5
 loop-less : tie.Need-loop-less Inv-loop μ-loop
 loop-less c =
     let o = c .before .before .before .before in
@@ -129,7 +111,6 @@ loop-less c =
     let f = o .meet-one .ensures m (xs ++ g .new) (going-cell (a .w .now) (l .loop .w) (a .s) (a .p) (a .x) (a .y) (a .z) (l .loop .k) (l .loop .c) m xs g h) (going-seen (a .w .now) (l .loop .w) (a .s) (a .p) (a .x) (a .y) (a .z) (l .loop .k) (l .loop .c) m xs g h) in
     rw (c .next2 .ensures ∙ going-next (a .w .now) (l .loop .w) (a .s) (a .p) (a .x) (a .y) (a .z) (l .loop .k) (l .loop .c) m xs g h (o .meet-one .last .0) (o .meet-one .result) f) (going-less (a .w .now) (l .loop .w) (a .s) (a .p) (a .x) (a .y) (a .z) (l .loop .k) (l .loop .c) m xs g h)
 
--- src/flood.rt:71:5
 loop-again : tie.Need-loop-again Inv-loop μ-loop
 loop-again c =
     let o = c .before .before .before .before in
@@ -144,11 +125,9 @@ loop-again c =
           rw (c .next2 .ensures ∙ going-next (a .w .now) (l .loop .w) (a .s) (a .p) (a .x) (a .y) (a .z) (l .loop .k) (l .loop .c) m xs g h (o .meet-one .last .0) (o .meet-one .result) f) (going-on (a .w .now) (l .loop .w) (a .s) (a .p) (a .x) (a .y) (a .z) (l .loop .k) (l .loop .c) m xs g h (o .meet-one .last .0) (o .meet-one .result) f),
     )
 
--- src/flood.rt:64:1
 same-length : tie.Need-same-length Inv-loop μ-loop
 same-length c = c .before .loop .inv .0
 
--- src/flood.rt:64:1
 returns : tie.Need-returns Inv-loop μ-loop
 returns c = λ m xs h.
     let l = c .before in

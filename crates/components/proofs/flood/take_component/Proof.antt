@@ -1,39 +1,15 @@
 use mathlib.Core.Path.{sym, _∙_}
-use Prim.Native.Nat.{_-_, _/_}
 use Rattle.components.proofs.Floods.{taken-known, taken-other, slot-tri, slot-out, taken-new}
 use borrow.Author.Needs.{needs}
 use Rattle.components.proofs.flood.take_component.Statement.{statement}
 use Rattle.components.proofs.flood.take_component.Tie as tie
-use Rattle.components.proofs.flood.take_component.Reads as reads
-use Rattle.components.proofs.flood.take_component.Lts as lts
-use Rattle.cells.proofs.find.kind.Reads as kind-reads
-use Rattle.components.proofs.flood.flood.Reads as flood-reads
-use Rattle.regions.proofs.lists.mark.Reads as mark-reads
 
--- src/flood.rt:112:8
-mark-requires : tie.Need-mark-requires
-mark-requires c κs = search needs
-
--- src/flood.rt:113:9
-same-length : tie.Need-same-length
-same-length c = search needs
-
--- src/flood.rt:113:9
 returns : tie.Need-returns
 returns c =
     let k = c .before in
     let a = k .before .before .before .args in
     λ m xs h. taken-known (a .w .now) (a .s) (a .p) (a .n) (a .i) m xs h (λ e. c .if1 .taken (k .mark .ensures ∙ e))
 
--- src/flood.rt:115:8
-kind-requires : tie.Need-kind-requires
-kind-requires c κs = search needs
-
--- src/flood.rt:116:9
-same-length-2 : tie.Need-same-length-2
-same-length-2 c = search needs
-
--- src/flood.rt:116:9
 returns-2 : tie.Need-returns-2
 returns-2 c =
     let e = c .before .before .before in
@@ -41,7 +17,6 @@ returns-2 c =
     let a = k .before .before .before .args in
     λ m xs h. taken-other (a .w .now) (a .s) (a .p) (a .n) (a .i) m xs h (λ q. c .if2 .taken (c .before .kind .ensures ∙ q))
 
--- src/flood.rt:118:5
 flood-requires : tie.Need-flood-requires
 flood-requires c κs =
     let f = c .before in
@@ -56,11 +31,6 @@ flood-requires c κs =
     let y = sym (f .before .kind .ensures) ∙ f .if2 .left in
     (m, xs, h, slot-tri (a .w .now) (a .s) (a .p) (a .n) (a .i) m xs h z y (t .pre .1), slot-out (a .w .now) (a .s) (a .p) (a .n) (a .i) m xs h z y (t .pre .1))
 
--- src/flood.rt:107:1
-same-length-3 : tie.Need-same-length-3
-same-length-3 c = search needs
-
--- src/flood.rt:107:1
 returns-3 : tie.Need-returns-3
 returns-3 c =
     let o = c .before .before in
@@ -80,12 +50,4 @@ pub take-component-spec : {M : Type 1} → statement M
 take-component-spec =
     tie.close
     (tie.spec
-    mark-requires
-    same-length
-    returns
-    kind-requires
-    same-length-2
-    returns-2
-    flood-requires
-    same-length-3
-    returns-3)
+    (λ c κs. search needs) (λ c. search needs) returns (λ c κs. search needs) (λ c. search needs) returns-2 flood-requires (λ c. search needs) returns-3)

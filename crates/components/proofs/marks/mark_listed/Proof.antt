@@ -1,7 +1,7 @@
 use borrow.Author.Needs.{needs}
 use mathlib.Core.Path.{_≡_, refl, _∙_}
 use mathlib.Core.List.{List, []}
-use Prim.Native.Nat.{_-_, _/_, _^_, _≤_}
+use Prim.Native.Nat.{_-_, _^_, _≤_}
 use native.Mathlib.Omega.{arith}
 use lib.ListN.{length}
 use Rattle.definition.specs.Cells.{Mesh, Live}
@@ -11,11 +11,6 @@ use Rattle.components.specs.Flood.{Marked}
 use Rattle.components.proofs.Wipes.{wiped-aside, wiped-none, wiped-listed, Marking, marking-start, marking-end, marking-can, upcoming, upcoming-can, marking-on}
 use Rattle.components.proofs.marks.mark_listed.Statement.{statement}
 use Rattle.components.proofs.marks.mark_listed.Tie as tie
-use Rattle.components.proofs.marks.mark_listed.Reads as reads
-use Rattle.components.proofs.marks.mark_listed.Lts as lts
-use Rattle.components.proofs.marks.wipe_marks.Reads as wipe-marks-reads
-use Rattle.regions.proofs.lists.append.Reads as append-reads
-use Rattle.regions.proofs.lists.listed.Reads as listed-reads
 
 abbrev Inv-loop : tie.InvT-loop
 Inv-loop w₀ s p n i₀ w i =
@@ -25,13 +20,11 @@ Inv-loop w₀ s p n i₀ w i =
 abbrev μ-loop : tie.MeasureT-loop
 μ-loop w₀ s p n i₀ w i = n - i
 
--- src/odd.rt:31:5
 wipe-marks-requires : tie.Need-wipe-marks-requires Inv-loop μ-loop
 wipe-marks-requires c κs =
     let t = c .before .before in
     record { fits = omega (arith, t .pre .2 .rep .room .fits); small = t .pre .2 .rep .room .small }
 
--- src/odd.rt:33:5
 loop-holds : tie.Need-loop-holds Inv-loop μ-loop
 loop-holds c =
     let d = c .before .before in
@@ -44,7 +37,6 @@ loop-holds c =
       λ m xs h k. marking-start (d .wipe-marks .last .0) (a .s) (a .p) (a .n) m xs h k,
     )
 
--- src/odd.rt:34:13
 listed-requires : tie.Need-listed-requires Inv-loop μ-loop
 listed-requires c κs =
     let i = c .before in
@@ -60,7 +52,6 @@ listed-requires c κs =
     let g = l .loop .inv .4 m xs h k in
     marking-can w1 (l .loop .w) (a .s) (a .p) (a .n) (l .loop .i) m xs h g (i .loop-test .taken) (l .loop .inv .1)
 
--- src/odd.rt:35:9
 append-requires : tie.Need-append-requires Inv-loop μ-loop
 append-requires c κs =
     let wd = c .before in
@@ -78,15 +69,6 @@ append-requires c κs =
     let u = upcoming w1 (l .loop .w) (a .s) (a .p) (a .n) (l .loop .i) m xs h g (i .loop-test .taken) (wd .listed .result) (wd .listed .ensures) in
     upcoming-can w1 (l .loop .w) (a .s) (a .p) (a .n) (l .loop .i) m xs h g (i .loop-test .taken) (wd .listed .result) u
 
--- src/odd.rt:36:9
-add-i : tie.Need-add-i Inv-loop μ-loop
-add-i c = search needs
-
--- src/odd.rt:33:5
-loop-less : tie.Need-loop-less Inv-loop μ-loop
-loop-less c = search needs
-
--- src/odd.rt:33:5
 loop-again : tie.Need-loop-again Inv-loop μ-loop
 loop-again c =
     let o = c .before .before in
@@ -107,14 +89,12 @@ loop-again c =
           marking-on w1 (l .loop .w) (a .s) (a .p) (a .n) (l .loop .i) m xs h g (i .loop-test .taken) (wd .listed .result) u (o .append .last .0) (o .append .ensures) (l .loop .inv .1),
     )
 
--- src/odd.rt:27:1
 same-length : tie.Need-same-length Inv-loop μ-loop
 same-length c =
     let l = c .before in
     let d = l .before .before .before in
     l .loop .inv .0 ∙ d .wipe-marks .kept .0
 
--- src/odd.rt:27:1
 returns : tie.Need-returns Inv-loop μ-loop
 returns c =
     λ m xs hs.
@@ -134,14 +114,4 @@ pub mark-listed-spec : {M : Type 1} → statement M
 mark-listed-spec =
     tie.close
     (tie.spec
-    Inv-loop
-    μ-loop
-    wipe-marks-requires
-    loop-holds
-    listed-requires
-    append-requires
-    add-i
-    loop-less
-    loop-again
-    same-length
-    returns)
+    Inv-loop μ-loop wipe-marks-requires loop-holds listed-requires append-requires (λ c. search needs) (λ c. search needs) loop-again same-length returns)

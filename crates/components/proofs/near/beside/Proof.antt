@@ -9,10 +9,6 @@ use Rattle.components.specs.Near.{BesideOne, Around}
 use Rattle.components.proofs.Looks.{looked-other, Looking, looking-start, around-can, facing, facing-tri, looking-on, looking-end}
 use Rattle.components.proofs.near.beside.Statement.{statement}
 use Rattle.components.proofs.near.beside.Tie as tie
-use Rattle.components.proofs.near.beside.Reads as reads
-use Rattle.components.proofs.near.beside.Lts as lts
-use Rattle.components.proofs.near.look_tri.Reads as look-tri-reads
-use Rattle.regions.proofs.lists.listed.Reads as listed-reads
 
 abbrev Inv-loop : tie.InvT-loop
 Inv-loop w s p n i₀ i = (k : ℕ) (m : Mesh) (region xs : List Live) → Around w s p k n m region xs → Looking i m region xs
@@ -55,12 +51,6 @@ returns c = λ k m region xs h.
     let f = facing-tri (l .loop .i) (d .listed .result) m region xs b in
     looked-other (a .s) (o .look-tri .result) m xs (Beside (f .t)) (BesideOne region) (o .look-tri .ensures k m xs (h .state) f) (c .if1 .taken)
 
-add-i : tie.Need-add-i Inv-loop μ-loop
-add-i c = search needs
-
-loop-less : tie.Need-loop-less Inv-loop μ-loop
-loop-less c = search needs
-
 loop-again : tie.Need-loop-again Inv-loop μ-loop
 loop-again c = λ k m region xs h.
     let o = c .before in
@@ -79,4 +69,7 @@ returns-2 c = λ k m region xs h.
     looking-end (a .w .now) (a .s) (a .p) k (a .n) (l .loop .i) m region xs h (l .loop .inv k m region xs h) (c .loop-test .left) (a .s) (omega arith)
 
 pub beside-spec : {M : Type 1} → statement M
-beside-spec = tie.close (tie.spec Inv-loop μ-loop loop-holds listed-requires look-tri-requires returns add-i loop-less loop-again returns-2)
+beside-spec =
+    tie.close
+    (tie.spec
+    Inv-loop μ-loop loop-holds listed-requires look-tri-requires returns (λ c. search needs) (λ c. search needs) loop-again returns-2)

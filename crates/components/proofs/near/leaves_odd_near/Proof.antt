@@ -12,11 +12,6 @@ use Rattle.components.proofs.Looks.{found-tri}
 use Rattle.components.proofs.Pieces.{Taking, start-around, taking-start, taking-few, taking-around, pieced-more, pieced-few, taking-on, odd-piece, none-after, none-beside}
 use Rattle.components.proofs.near.leaves_odd_near.Statement.{statement}
 use Rattle.components.proofs.near.leaves_odd_near.Tie as tie
-use Rattle.components.proofs.near.leaves_odd_near.Reads as reads
-use Rattle.components.proofs.near.leaves_odd_near.Lts as lts
-use Rattle.components.proofs.marks.mark_listed.Reads as mark-listed-reads
-use Rattle.components.proofs.near.beside.Reads as beside-reads
-use Rattle.components.proofs.near.take_piece.Reads as take-piece-reads
 
 abbrev Inv-loop : tie.InvT-loop
 Inv-loop w₀ s p n k₀ t₀ w k t = (length w ≡ length w₀) × (k ≤ s) × ((m : Mesh) (xs : List Live) → Marked w₀ s p n m xs → Taking w₀ w s p k t m xs)

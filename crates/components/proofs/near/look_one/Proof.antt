@@ -8,11 +8,6 @@ use Rattle.components.proofs.Meets.{seen-other, seen-known, seen-cell, 
 use Rattle.components.proofs.Looks.{met-looked, look-new}
 use Rattle.components.proofs.near.look_one.Statement.{statement}
 use Rattle.components.proofs.near.look_one.Tie as tie
-use Rattle.components.proofs.near.look_one.Reads as reads
-use Rattle.components.proofs.near.look_one.Lts as lts
-use Rattle.cells.proofs.find.kind.Reads as kind-reads
-use Rattle.components.proofs.flood.has_one.Reads as has-one-reads
-use Rattle.regions.proofs.lists.mark.Reads as mark-reads
 
 kind-requires : tie.Need-kind-requires
 kind-requires c κs =

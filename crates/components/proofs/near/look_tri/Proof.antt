@@ -6,10 +6,6 @@ use Rattle.components.proofs.Members.{tri-read}
 use Rattle.components.proofs.Looks.{looked-other, looked-both}
 use Rattle.components.proofs.near.look_tri.Statement.{statement}
 use Rattle.components.proofs.near.look_tri.Tie as tie
-use Rattle.components.proofs.near.look_tri.Reads as reads
-use Rattle.components.proofs.near.look_tri.Lts as lts
-use Rattle.components.proofs.near.look_two.Reads as look-two-reads
-use Rattle.rings.proofs.wide.Reads as wide-reads
 
 mul-x : tie.Need-mul-x
 mul-x c =

@@ -9,10 +9,6 @@ use Rattle.components.proofs.Meets.{Going, going-start, going-end, goin
 use Rattle.components.proofs.Looks.{met-looked, looked-met, looked-found}
 use Rattle.components.proofs.near.look_two.Statement.{statement}
 use Rattle.components.proofs.near.look_two.Tie as tie
-use Rattle.components.proofs.near.look_two.Reads as reads
-use Rattle.components.proofs.near.look_two.Lts as lts
-use Rattle.components.proofs.near.look_one.Reads as look-one-reads
-use Rattle.rings.proofs.next.Reads as next-reads
 
 abbrev Inv-loop : tie.InvT-loop
 Inv-loop w s p x y z c₀ c = (k : ℕ) (m : Mesh) (xs : List Live) → Marked w s p k m xs → Going w w s p x y z k c m xs

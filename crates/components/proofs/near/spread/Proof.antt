@@ -11,10 +11,6 @@ use Rattle.components.proofs.Floods.{flood-few, flood-can, popped, popp
 use Rattle.components.proofs.Pieces.{met-more}
 use Rattle.components.proofs.near.spread.Statement.{statement}
 use Rattle.components.proofs.near.spread.Tie as tie
-use Rattle.components.proofs.near.spread.Reads as reads
-use Rattle.components.proofs.near.spread.Lts as lts
-use Rattle.components.proofs.flood.meet_tri.Reads as meet-tri-reads
-use Rattle.regions.proofs.lists.listed.Reads as listed-reads
 
 abbrev Inv-loop : tie.InvT-loop
 Inv-loop w₀ s p k from stop head₀ count₀ w head count =
@@ -70,12 +66,6 @@ meet-tri-requires c κs =
     let b = popped (a .w .now) (l .loop .w) (a .s) (a .p) (l .loop .count) (l .loop .head) m xs x (l .loop .inv .5 m xs x (t .pre .0 .3)) (e .if1 .left) (d .listed .result) (d .listed .ensures) in
     (m, xs ++ (b .done ++ b .y ∷ b .todo), b .state, popped-tri (a .w .now) (l .loop .w) (a .s) (a .p) (l .loop .count) (l .loop .head) m xs x (d .listed .result) b)
 
-add-head : tie.Need-add-head Inv-loop μ-loop
-add-head c = search needs
-
-loop-less : tie.Need-loop-less Inv-loop μ-loop
-loop-less c = search needs
-
 loop-again : tie.Need-loop-again Inv-loop μ-loop
 loop-again c =
     let o = c .before .before in
@@ -114,15 +104,5 @@ pub spread-spec : {M : Type 1} → statement M
 spread-spec =
     tie.close
     (tie.spec
-    Inv-loop
-    μ-loop
-    loop-holds
-    same-length
-    returns
-    listed-requires
-    meet-tri-requires
-    add-head
-    loop-less
-    loop-again
-    same-length-2
+    Inv-loop μ-loop loop-holds same-length returns listed-requires meet-tri-requires (λ c. search needs) (λ c. search needs) loop-again same-length-2
     returns-2)

@@ -1,7 +1,7 @@
 -- Stretch after stretch: the flood so far, with what the last look around the region found.
 use mathlib.Core.Path.{_≡_, refl, _∙_}
 use mathlib.Core.List.{List, _++_}
-use Prim.Native.Nat.{_+_, _-_, _^_, _≤_, _<_}
+use Prim.Native.Nat.{_-_, _^_, _≤_, _<_}
 use native.Mathlib.Omega.{arith}
 use lib.ListN.{length}
 use Rattle.definition.specs.Cells.{Mesh, Live}
@@ -10,11 +10,6 @@ use Rattle.components.proofs.Floods.{begin-can, begin-more, flood-few}
 use Rattle.components.proofs.Pieces.{begun-flood, begun-aside, flooding-from, flooding-at, flooding-around, Spreading, pieced}
 use Rattle.components.proofs.near.take_piece.Statement.{statement}
 use Rattle.components.proofs.near.take_piece.Tie as tie
-use Rattle.components.proofs.near.take_piece.Reads as reads
-use Rattle.components.proofs.near.take_piece.Lts as lts
-use Rattle.components.proofs.near.beside.Reads as beside-reads
-use Rattle.components.proofs.near.spread.Reads as spread-reads
-use Rattle.regions.proofs.lists.append.Reads as append-reads
 
 abbrev Inv-loop : tie.InvT-loop
 Inv-loop w₀ s p n k i head₀ count₀ t₀ w head count t =

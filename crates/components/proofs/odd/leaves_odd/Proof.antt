@@ -1,17 +1,9 @@
 -- By the note, or by floods.
-use mathlib.Core.Path.{_≡_, refl, ap, sym, _∙_, subst}
-use Prim.Native.Nat.{ℕ, _+_, _*_, _%_, _<_, _≤_}
-use native.Mathlib.Omega.{arith}
 use borrow.Author.Needs.{needs}
 use Rattle.cells.proofs.Frames.{even-noted}
 use Rattle.components.proofs.Odds.{listed-slot}
 use Rattle.components.proofs.odd.leaves_odd.Statement.{statement}
 use Rattle.components.proofs.odd.leaves_odd.Tie as tie
-use Rattle.components.proofs.odd.leaves_odd.Reads as reads
-use Rattle.components.proofs.odd.leaves_odd.Lts as lts
-use Rattle.cells.proofs.evens.is_even.Reads as is-even-reads
-use Rattle.components.proofs.near.leaves_odd_near.Reads as leaves-odd-near-reads
-use Rattle.components.proofs.odd.leaves_odd_anywhere.Reads as leaves-odd-anywhere-reads
 
 is-even-requires : tie.Need-is-even-requires
 is-even-requires c κs =
@@ -29,9 +21,6 @@ leaves-odd-near-requires c κs =
     let one = listed-slot (a .w .now) (a .s) (a .p) (a .n) (t .pre .0) (t .pre .1) h in
     ((t .pre .0, t .pre .1, h, even-noted (a .w .now) (a .s) (a .p) (t .pre .0) (e .result) one (e .ensures) (c .before .if2 .taken) (h .rep)), c .before .before .before .before .if1 .taken)
 
-same-length : tie.Need-same-length
-same-length c = search needs
-
 returns : tie.Need-returns
 returns c =
     let t = c .before .before .before .before .before .before .before .before .before in
@@ -40,23 +29,8 @@ returns c =
     λ m xs h u.
     c .before .before .leaves-odd-near .ensures m xs h (even-noted (a .w .now) (a .s) (a .p) m (e .result) (listed-slot (a .w .now) (a .s) (a .p) (a .n) m xs h) (e .ensures) (c .before .before .before .before .if2 .taken) (h .rep))
 
-leaves-odd-anywhere-requires : tie.Need-leaves-odd-anywhere-requires
-leaves-odd-anywhere-requires c κs = search needs
-
-same-length-2 : tie.Need-same-length-2
-same-length-2 c = search needs
-
-returns-2 : tie.Need-returns-2
-returns-2 c = search needs
-
 pub leaves-odd-spec : {M : Type 1} → statement M
 leaves-odd-spec =
     tie.close
     (tie.spec
-    is-even-requires
-    leaves-odd-near-requires
-    same-length
-    returns
-    leaves-odd-anywhere-requires
-    same-length-2
-    returns-2)
+    is-even-requires leaves-odd-near-requires (λ c. search needs) returns (λ c κs. search needs) (λ c. search needs) (λ c. search needs))

@@ -1,7 +1,7 @@
 use borrow.Author.Needs.{needs}
 use mathlib.Core.Path.{_≡_, refl, _∙_}
 use mathlib.Core.List.{List, _++_}
-use Prim.Native.Nat.{_+_, _-_, _/_, _^_, _≤_}
+use Prim.Native.Nat.{_-_, _^_, _≤_}
 use native.Mathlib.Omega.{arith}
 use lib.ListN.{length}
 use Rattle.definition.specs.Cells.{Mesh, Live}
@@ -10,10 +10,6 @@ use Rattle.components.proofs.Sweeps.{joined}
 use Rattle.components.proofs.Odds.{Evens, evens-start, taken-least, evens-on, odd-found, none-odd}
 use Rattle.components.proofs.odd.leaves_odd_anywhere.Statement.{statement}
 use Rattle.components.proofs.odd.leaves_odd_anywhere.Tie as tie
-use Rattle.components.proofs.odd.leaves_odd_anywhere.Reads as reads
-use Rattle.components.proofs.odd.leaves_odd_anywhere.Lts as lts
-use Rattle.components.proofs.flood.take_component.Reads as take-component-reads
-use Rattle.components.proofs.marks.mark_listed.Reads as mark-listed-reads
 
 abbrev Inv-loop : tie.InvT-loop
 Inv-loop w₀ s p used n k₀ i₀ w k i =
@@ -23,13 +19,11 @@ Inv-loop w₀ s p used n k₀ i₀ w k i =
 abbrev μ-loop : tie.MeasureT-loop
 μ-loop w₀ s p used n k₀ i₀ w k i = used - i
 
--- src/odd.rt:32:5
 mark-listed-requires : tie.Need-mark-listed-requires Inv-loop μ-loop
 mark-listed-requires c κs =
     let t = c .before .before in
     (t .pre .0, t .pre .1, t .pre .2)
 
--- src/odd.rt:35:5
 loop-holds : tie.Need-loop-holds Inv-loop μ-loop
 loop-holds c =
     let d = c .before .before in
@@ -41,7 +35,6 @@ loop-holds c =
       λ m xs h e. evens-start (d .mark-listed .last .0) (a .s) (a .p) (a .n) m xs h,
     )
 
--- src/odd.rt:36:13
 take-component-requires : tie.Need-take-component-requires Inv-loop μ-loop
 take-component-requires c κs =
     let i = c .before in
@@ -56,7 +49,6 @@ take-component-requires c κs =
     let g = l .loop .inv .3 m xs (h .state) (t .pre .3) in
     ((m, xs ++ joined (g .pieces), g .sweep .state), omega (arith, i .loop-test .taken, l .loop .inv .1))
 
--- src/odd.rt:37:13
 sub-if1 : tie.Need-sub-if1 Inv-loop μ-loop
 sub-if1 c =
     let o = c .before .before in
@@ -72,7 +64,6 @@ sub-if1 c =
     let g = l .loop .inv .3 m xs (h .state) (t .pre .3) in
     taken-least w1 (l .loop .w) (a .s) (a .p) (l .loop .k) (l .loop .i) m xs g (o .take-component .last .0) (o .take-component .result) (o .take-component .ensures m (xs ++ joined (g .pieces)) (g .sweep .state)) .0
 
--- src/odd.rt:38:13
 same-length : tie.Need-same-length Inv-loop μ-loop
 same-length c =
     let o = c .before .before .before in
@@ -81,7 +72,6 @@ same-length c =
     let d = l .before .before .before in
     o .take-component .kept .0 ∙ l .loop .inv .0 ∙ d .mark-listed .kept .0
 
--- src/odd.rt:38:13
 returns : tie.Need-returns Inv-loop μ-loop
 returns c =
     λ m xs hs e.
@@ -96,15 +86,6 @@ returns c =
     let g = l .loop .inv .3 m xs (h .state) e in
     odd-found w1 (l .loop .w) (a .s) (a .p) (l .loop .k) (l .loop .i) m xs g (o .take-component .last .0) (o .take-component .result) (o .take-component .ensures m (xs ++ joined (g .pieces)) (g .sweep .state)) (c .if1 .taken) (a .w .now) (a .n) hs (h .aside)
 
--- src/odd.rt:41:9
-add-i : tie.Need-add-i Inv-loop μ-loop
-add-i c = search needs
-
--- src/odd.rt:35:5
-loop-less : tie.Need-loop-less Inv-loop μ-loop
-loop-less c = search needs
-
--- src/odd.rt:35:5
 loop-again : tie.Need-loop-again Inv-loop μ-loop
 loop-again c =
     let o = c .before .before .before in
@@ -122,14 +103,12 @@ loop-again c =
           evens-on w1 (l .loop .w) (a .s) (a .p) (l .loop .k) (l .loop .i) m xs g (o .take-component .last .0) (o .take-component .result) (o .take-component .ensures m (xs ++ joined (g .pieces)) (g .sweep .state)) (c .if1 .left),
     )
 
--- src/odd.rt:28:1
 same-length-2 : tie.Need-same-length-2 Inv-loop μ-loop
 same-length-2 c =
     let l = c .before in
     let d = l .before .before .before in
     l .loop .inv .0 ∙ d .mark-listed .kept .0
 
--- src/odd.rt:28:1
 returns-2 : tie.Need-returns-2 Inv-loop μ-loop
 returns-2 c =
     λ m xs hs e.
@@ -147,16 +126,5 @@ pub leaves-odd-anywhere-spec : {M : Type 1} → statement M
 leaves-odd-anywhere-spec =
     tie.close
     (tie.spec
-    Inv-loop
-    μ-loop
-    mark-listed-requires
-    loop-holds
-    take-component-requires
-    sub-if1
-    same-length
-    returns
-    add-i
-    loop-less
-    loop-again
-    same-length-2
-    returns-2)
+    Inv-loop μ-loop mark-listed-requires loop-holds take-component-requires sub-if1 same-length returns (λ c. search needs) (λ c. search needs) loop-again
+    same-length-2 returns-2)

@@ -7,21 +7,6 @@ use borrow.Author.Needs.{needs}
 use Rattle.crossings.proofs.boxes.around.Statement.{statement}
 use Rattle.crossings.proofs.boxes.around.Tie as tie
 
-at-requires : tie.Need-at-requires
-at-requires c κs = search needs
-
-alone-requires : tie.Need-alone-requires
-alone-requires c κs = search needs
-
-alone-requires-2 : tie.Need-alone-requires-2
-alone-requires-2 c κs = search needs
-
-alone-requires-3 : tie.Need-alone-requires-3
-alone-requires-3 c κs = search needs
-
-alone-requires-4 : tie.Need-alone-requires-4
-alone-requires-4 c κs = search needs
-
 returns : tie.Need-returns
 returns c =
     let k3 = c .before in
@@ -42,9 +27,4 @@ pub around-spec : {M : Type 1} → statement M
 around-spec =
     tie.close
     (tie.spec
-    at-requires
-    alone-requires
-    alone-requires-2
-    alone-requires-3
-    alone-requires-4
-    returns)
+    (λ c κs. search needs) (λ c κs. search needs) (λ c κs. search needs) (λ c κs. search needs) (λ c κs. search needs) returns)

@@ -9,15 +9,6 @@ use Rattle.crossings.proofs.Noted.{small, known-noted, keeps-noted, mor
 use Rattle.crossings.proofs.boxes.make_box.Statement.{statement}
 use Rattle.crossings.proofs.boxes.make_box.Tie as tie
 
-box-of-requires : tie.Need-box-of-requires
-box-of-requires c κs = search needs
-
-all-fine-requires : tie.Need-all-fine-requires
-all-fine-requires c κs = search needs
-
-same-length : tie.Need-same-length
-same-length c = search needs
-
 returns : tie.Need-returns
 returns c =
     let a = c .before .before .before .before .before .before .args in
@@ -30,9 +21,6 @@ put-box-requires c κs =
     let a = t .args in
     let y = t .pre .0 in
     (t .pre .1 .1, small (a .w .now) (a .q .now) (a .s) (a .p) (a .n) (y .0) (y .1) (y .2) (a .a) (x .box-of .result) (x .box-of .ensures (y .0) (y .1) (y .2)))
-
-same-length-2 : tie.Need-same-length-2
-same-length-2 c = search needs
 
 returns-2 : tie.Need-returns-2
 returns-2 c =
@@ -56,10 +44,4 @@ pub make-box-spec : {M : Type 1} → statement M
 make-box-spec =
     tie.close
     (tie.spec
-    box-of-requires
-    all-fine-requires
-    same-length
-    returns
-    put-box-requires
-    same-length-2
-    returns-2)
+    (λ c κs. search needs) (λ c κs. search needs) (λ c. search needs) returns put-box-requires (λ c. search needs) returns-2)

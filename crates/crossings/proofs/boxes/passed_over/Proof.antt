@@ -13,9 +13,6 @@ returns c =
     let a = c .before .before .before .args in
     (keeps-refl (a .w .now) (mesh-end (a .s) (a .p)), λ k m h. (h, λ e. absurd (false≢true e)))
 
-note-of-requires : tie.Need-note-of-requires
-note-of-requires c κs = search needs
-
 far-off-requires : tie.Need-far-off-requires
 far-off-requires c κs =
     let i2 = c .before in
@@ -25,9 +22,6 @@ far-off-requires c κs =
     let a = t .args in
     let y = t .pre .0 in
     can-look (a .w .now) (a .q .now) (a .s) (a .p) (a .n) (y .0) (y .1) (y .2) (a .a) (t .pre .1) (omega (arith, o .note-of .ensures, i2 .if2 .taken)) (i1 .if1 .left)
-
-same-length : tie.Need-same-length
-same-length c = search needs
 
 returns-2 : tie.Need-returns-2
 returns-2 c =
@@ -63,9 +57,6 @@ far-off-requires-2 c κs =
     let y = t .pre .0 in
     can-look (b .make-box .last .0) (a .q .now) (a .s) (a .p) (a .n) (y .0) (y .1) (b .make-box .ensures .1 .0 (y .0) (y .1) (y .2)) (a .a) (t .pre .1) (b .make-box .ensures .1 .1 (i3 .if3 .taken)) (i1 .if1 .left)
 
-same-length-2 : tie.Need-same-length-2
-same-length-2 c = search needs
-
 returns-3 : tie.Need-returns-3
 returns-3 c =
     let i3 = c .before .before in
@@ -80,9 +71,6 @@ returns-3 c =
           ),
     )
 
-same-length-3 : tie.Need-same-length-3
-same-length-3 c = search needs
-
 returns-4 : tie.Need-returns-4
 returns-4 c = let b = c .before .before .before in (b .make-box .ensures .0, λ k m h. (b .make-box .ensures .1 .0 k m h, λ e. absurd (false≢true e)))
 
@@ -90,14 +78,5 @@ pub passed-over-spec : {M : Type 1} → statement M
 passed-over-spec =
     tie.close
     (tie.spec
-    returns
-    note-of-requires
-    far-off-requires
-    same-length
-    returns-2
-    make-box-requires
-    far-off-requires-2
-    same-length-2
-    returns-3
-    same-length-3
-    returns-4)
+    returns (λ c κs. search needs) far-off-requires (λ c. search needs) returns-2 make-box-requires far-off-requires-2 (λ c. search needs) returns-3
+    (λ c. search needs) returns-4)

@@ -8,27 +8,6 @@ use borrow.Author.Needs.{needs}
 use Rattle.crossings.proofs.boxes.side_at.Statement.{statement}
 use Rattle.crossings.proofs.boxes.side_at.Tie as tie
 
-boxes-at-requires : tie.Need-boxes-at-requires
-boxes-at-requires c κs = search needs
-
-mul-wide : tie.Need-mul-wide
-mul-wide c = search needs
-
-add-wide : tie.Need-add-wide
-add-wide c = search needs
-
-add-wide-2 : tie.Need-add-wide-2
-add-wide-2 c = search needs
-
-mul-wide-2 : tie.Need-mul-wide-2
-mul-wide-2 c = search needs
-
-shared-slice-read-wide : tie.Need-shared-slice-read-wide
-shared-slice-read-wide c = search needs
-
-wide-requires : tie.Need-wide-requires
-wide-requires c κs = search needs
-
 -- the node that was read is the side
 abbrev Read : tie.After-wide → Type 0
 Read c =
@@ -53,12 +32,5 @@ pub side-at-spec : {M : Type 1} → statement M
 side-at-spec =
     tie.close
     (tie.spec
-    boxes-at-requires
-    mul-wide
-    add-wide
-    add-wide-2
-    mul-wide-2
-    shared-slice-read-wide
-    wide-requires
-    at-requires
-    returns)
+    (λ c κs. search needs) (λ c. search needs) (λ c. search needs) (λ c. search needs) (λ c. search needs) (λ c. search needs) (λ c κs. search needs)
+    at-requires returns)

@@ -7,21 +7,6 @@ use borrow.Author.Needs.{needs}
 use Rattle.crossings.proofs.boxes.widen.Statement.{statement}
 use Rattle.crossings.proofs.boxes.widen.Tie as tie
 
-at-requires : tie.Need-at-requires
-at-requires c κs = search needs
-
-lower-requires : tie.Need-lower-requires
-lower-requires c κs = search needs
-
-upper-requires : tie.Need-upper-requires
-upper-requires c κs = search needs
-
-lower-requires-2 : tie.Need-lower-requires-2
-lower-requires-2 c κs = search needs
-
-upper-requires-2 : tie.Need-upper-requires-2
-upper-requires-2 c κs = search needs
-
 returns : tie.Need-returns
 returns c =
     let k3 = c .before in
@@ -41,4 +26,5 @@ returns c =
 pub widen-spec : {M : Type 1} → statement M
 widen-spec =
     tie.close
-    (tie.spec at-requires lower-requires upper-requires lower-requires-2 upper-requires-2 returns)
+    (tie.spec
+    (λ c κs. search needs) (λ c κs. search needs) (λ c κs. search needs) (λ c κs. search needs) (λ c κs. search needs) returns)

@@ -5,18 +5,9 @@ use borrow.Author.Needs.{needs}
 use Rattle.crossings.proofs.buckets.above.Statement.{statement}
 use Rattle.crossings.proofs.buckets.above.Tie as tie
 
-greater-requires : tie.Need-greater-requires
-greater-requires c κs = search needs
-
-in-order-requires : tie.Need-in-order-requires
-in-order-requires c κs = search needs
-
 returns : tie.Need-returns
 unfolding 0·0 f64
 returns c = after-nan _ _ _
-
-in-order-requires-2 : tie.Need-in-order-requires-2
-in-order-requires-2 c κs = search needs
 
 returns-2 : tie.Need-returns-2
 unfolding 0·0 f64
@@ -30,4 +21,4 @@ returns-3 c =
     after-is _ _ _ _ (o1 .in-order .ensures (not-false (o1 .in-order .result) (i1 .if1 .left))) (o2 .in-order2 .ensures (not-false (o2 .in-order2 .result) (c .if2 .left)))
 
 pub above-spec : {M : Type 1} → statement M
-above-spec = tie.close (tie.spec greater-requires in-order-requires returns in-order-requires-2 returns-2 returns-3)
+above-spec = tie.close (tie.spec (λ c κs. search needs) (λ c κs. search needs) returns (λ c κs. search needs) returns-2 returns-3)

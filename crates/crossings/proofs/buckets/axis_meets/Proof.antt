@@ -3,21 +3,6 @@ use borrow.Author.Needs.{needs}
 use Rattle.crossings.proofs.buckets.axis_meets.Statement.{statement}
 use Rattle.crossings.proofs.buckets.axis_meets.Tie as tie
 
-bucket-key-requires : tie.Need-bucket-key-requires
-bucket-key-requires c κs = search needs
-
-bucket-key-requires-2 : tie.Need-bucket-key-requires-2
-bucket-key-requires-2 c κs = search needs
-
-bucket-key-requires-3 : tie.Need-bucket-key-requires-3
-bucket-key-requires-3 c κs = search needs
-
-bucket-key-requires-4 : tie.Need-bucket-key-requires-4
-bucket-key-requires-4 c κs = search needs
-
-ranges-meet-requires : tie.Need-ranges-meet-requires
-ranges-meet-requires c κs = search needs
-
 returns : tie.Need-returns
 returns c =
     let k4 = c .before in
@@ -32,9 +17,4 @@ pub axis-meets-spec : {M : Type 1} → statement M
 axis-meets-spec =
     tie.close
     (tie.spec
-    bucket-key-requires
-    bucket-key-requires-2
-    bucket-key-requires-3
-    bucket-key-requires-4
-    ranges-meet-requires
-    returns)
+    (λ c κs. search needs) (λ c κs. search needs) (λ c κs. search needs) (λ c κs. search needs) (λ c κs. search needs) returns)

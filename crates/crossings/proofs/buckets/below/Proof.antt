@@ -5,18 +5,9 @@ use borrow.Author.Needs.{needs}
 use Rattle.crossings.proofs.buckets.below.Statement.{statement}
 use Rattle.crossings.proofs.buckets.below.Tie as tie
 
-lesser-requires : tie.Need-lesser-requires
-lesser-requires c κs = search needs
-
-in-order-requires : tie.Need-in-order-requires
-in-order-requires c κs = search needs
-
 returns : tie.Need-returns
 unfolding 0·0 f64
 returns c = before-nan _ _ _
-
-in-order-requires-2 : tie.Need-in-order-requires-2
-in-order-requires-2 c κs = search needs
 
 returns-2 : tie.Need-returns-2
 unfolding 0·0 f64
@@ -30,4 +21,4 @@ returns-3 c =
     before-is _ _ _ _ (o1 .in-order .ensures (not-false (o1 .in-order .result) (i1 .if1 .left))) (o2 .in-order2 .ensures (not-false (o2 .in-order2 .result) (c .if2 .left)))
 
 pub below-spec : {M : Type 1} → statement M
-below-spec = tie.close (tie.spec lesser-requires in-order-requires returns in-order-requires-2 returns-2 returns-3)
+below-spec = tie.close (tie.spec (λ c κs. search needs) (λ c κs. search needs) returns (λ c κs. search needs) returns-2 returns-3)

@@ -3,12 +3,9 @@ use borrow.Author.Needs.{needs}
 use Rattle.crossings.proofs.buckets.bucket_key.Statement.{statement}
 use Rattle.crossings.proofs.buckets.bucket_key.Tie as tie
 
-floor-requires : tie.Need-floor-requires
-floor-requires c κs = search needs
-
 returns : tie.Need-returns
 unfolding _⊘_
 returns c = c .floor .ensures
 
 pub bucket-key-spec : {M : Type 1} → statement M
-bucket-key-spec = tie.close (tie.spec floor-requires returns)
+bucket-key-spec = tie.close (tie.spec (λ c κs. search needs) returns)

@@ -5,12 +5,6 @@ use borrow.Author.Needs.{needs}
 use Rattle.crossings.proofs.buckets.in_order.Statement.{statement}
 use Rattle.crossings.proofs.buckets.in_order.Tie as tie
 
-bucket-key-requires : tie.Need-bucket-key-requires
-bucket-key-requires c κs = search needs
-
-bucket-key-requires-2 : tie.Need-bucket-key-requires-2
-bucket-key-requires-2 c κs = search needs
-
 returns : tie.Need-returns
 unfolding 0·0 f64
 returns c = λ e.
@@ -23,4 +17,4 @@ returns-2 : tie.Need-returns-2
 returns-2 c = λ e. absurd (false≢true e)
 
 pub in-order-spec : {M : Type 1} → statement M
-in-order-spec = tie.close (tie.spec bucket-key-requires bucket-key-requires-2 returns returns-2)
+in-order-spec = tie.close (tie.spec (λ c κs. search needs) (λ c κs. search needs) returns returns-2)

@@ -4,24 +4,6 @@ use borrow.Author.Needs.{needs}
 use Rattle.crossings.proofs.buckets.limits_of.Statement.{statement}
 use Rattle.crossings.proofs.buckets.limits_of.Tie as tie
 
-at-requires : tie.Need-at-requires
-at-requires c κs = search needs
-
-at-requires-2 : tie.Need-at-requires-2
-at-requires-2 c κs = search needs
-
-below-requires : tie.Need-below-requires
-below-requires c κs = search needs
-
-above-requires : tie.Need-above-requires
-above-requires c κs = search needs
-
-below-requires-2 : tie.Need-below-requires-2
-below-requires-2 c κs = search needs
-
-above-requires-2 : tie.Need-above-requires-2
-above-requires-2 c κs = search needs
-
 returns : tie.Need-returns
 returns c =
     let k3 = c .before in
@@ -45,10 +27,4 @@ pub limits-of-spec : {M : Type 1} → statement M
 limits-of-spec =
     tie.close
     (tie.spec
-    at-requires
-    at-requires-2
-    below-requires
-    above-requires
-    below-requires-2
-    above-requires-2
-    returns)
+    (λ c κs. search needs) (λ c κs. search needs) (λ c κs. search needs) (λ c κs. search needs) (λ c κs. search needs) (λ c κs. search needs) returns)

@@ -3,18 +3,6 @@ use borrow.Author.Needs.{needs}
 use Rattle.crossings.proofs.buckets.ranges_meet.Statement.{statement}
 use Rattle.crossings.proofs.buckets.ranges_meet.Tie as tie
 
-lesser-requires : tie.Need-lesser-requires
-lesser-requires c κs = search needs
-
-greater-requires : tie.Need-greater-requires
-greater-requires c κs = search needs
-
-lesser-requires-2 : tie.Need-lesser-requires-2
-lesser-requires-2 c κs = search needs
-
-greater-requires-2 : tie.Need-greater-requires-2
-greater-requires-2 c κs = search needs
-
 returns : tie.Need-returns
 returns c =
     let l2 = c .before in
@@ -33,12 +21,4 @@ returns-2 c =
     meet-not (a .p) (a .q) (a .r) (a .s) (l .lesser .result) (g .greater .result) (l .lesser .ensures) (g .greater .ensures) (c .if1 .left)
 
 pub ranges-meet-spec : {M : Type 1} → statement M
-ranges-meet-spec =
-    tie.close
-    (tie.spec
-    lesser-requires
-    greater-requires
-    lesser-requires-2
-    greater-requires-2
-    returns
-    returns-2)
+ranges-meet-spec = tie.close (tie.spec (λ c κs. search needs) (λ c κs. search needs) (λ c κs. search needs) (λ c κs. search needs) returns returns-2)

@@ -12,9 +12,6 @@ returns c = (omega arith, λ m d. stays refl (λ h g t. omega (arith, c .if1 .ta
 returns-2 : tie.Need-returns-2
 returns-2 c = (omega arith, λ m d. stays refl (λ h g t. omega (arith, c .if2 .taken, g)))
 
-is-crossing-requires : tie.Need-is-crossing-requires
-is-crossing-requires c κs = search needs
-
 returns-3 : tie.Need-returns-3
 returns-3 c =
     let k = c .before in
@@ -47,4 +44,4 @@ returns-4 c =
     )
 
 pub better-of-spec : {M : Type 1} → statement M
-better-of-spec = tie.close (tie.spec returns returns-2 is-crossing-requires returns-3 returns-4)
+better-of-spec = tie.close (tie.spec returns returns-2 (λ c κs. search needs) returns-3 returns-4)

@@ -56,12 +56,6 @@ returns c =
           (z .0, first-at (a .w .now) (a .s) (a .p) (a .n) (a .u) (a .v) m (k .rep) (l .loop .a) (q .least-near .result) (y .1) (z .1) (c .if1 .taken)),
     )
 
-add-a : tie.Need-add-a Inv-loop μ-loop
-add-a c = search needs
-
-loop-less : tie.Need-loop-less Inv-loop μ-loop
-loop-less c = search needs
-
 loop-again : tie.Need-loop-again Inv-loop μ-loop
 loop-again c =
     let q = c .before .before .before in
@@ -93,15 +87,5 @@ pub first-crossing-spec : {M : Type 1} → statement M
 first-crossing-spec =
     tie.close
     (tie.spec
-    Inv-loop
-    μ-loop
-    limits-of-requires
-    loop-holds
-    least-near-requires
-    same-length
-    returns
-    add-a
-    loop-less
-    loop-again
-    same-length-2
+    Inv-loop μ-loop limits-of-requires loop-holds least-near-requires same-length returns (λ c. search needs) (λ c. search needs) loop-again same-length-2
     returns-2)

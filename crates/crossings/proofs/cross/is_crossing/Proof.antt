@@ -4,26 +4,17 @@ use borrow.Author.Needs.{needs}
 use Rattle.crossings.proofs.cross.is_crossing.Statement.{statement}
 use Rattle.crossings.proofs.cross.is_crossing.Tie as tie
 
-off-edge-requires : tie.Need-off-edge-requires
-off-edge-requires c κs = search needs
-
 returns : tie.Need-returns
 returns c = λ m e f.
     let o = c .before in
     let a = o .before .before .args in
     shares-a m (a .u) (a .v) (a .a) (a .b) (o .off-edge .result) (o .off-edge .ensures) (not-true (o .off-edge .result) (c .if1 .taken))
 
-off-edge-requires-2 : tie.Need-off-edge-requires-2
-off-edge-requires-2 c κs = search needs
-
 returns-2 : tie.Need-returns-2
 returns-2 c = λ m e f.
     let o2 = c .before in
     let a = o2 .before .before .before .before .args in
     shares-b m (a .u) (a .v) (a .a) (a .b) (o2 .off-edge2 .result) (o2 .off-edge2 .ensures) (not-true (o2 .off-edge2 .result) (c .if2 .taken))
-
-segments-cross-requires : tie.Need-segments-cross-requires
-segments-cross-requires c κs = search needs
 
 returns-3 : tie.Need-returns-3
 returns-3 c = λ m e f.
@@ -36,9 +27,6 @@ returns-3 c = λ m e f.
     parts-not m (a .u) (a .v) (a .a) (a .b) (o .off-edge .result) (o .off-edge .ensures) (not-false (o .off-edge .result) (e1 .if1 .left))
     (o2 .off-edge2 .result) (o2 .off-edge2 .ensures) (not-false (o2 .off-edge2 .result) (e2 .if2 .left))
     (a .q .now) f (x .segments-cross .result) (x .segments-cross .ensures) (not-true (x .segments-cross .result) (c .if3 .taken))
-
-overlaps-requires : tie.Need-overlaps-requires
-overlaps-requires c κs = search needs
 
 returns-4 : tie.Need-returns-4
 returns-4 c = λ m e f.
@@ -58,11 +46,4 @@ pub is-crossing-spec : {M : Type 1} → statement M
 is-crossing-spec =
     tie.close
     (tie.spec
-    off-edge-requires
-    returns
-    off-edge-requires-2
-    returns-2
-    segments-cross-requires
-    returns-3
-    overlaps-requires
-    returns-4)
+    (λ c κs. search needs) returns (λ c κs. search needs) returns-2 (λ c κs. search needs) returns-3 (λ c κs. search needs) returns-4)

@@ -6,12 +6,6 @@ use Rattle.crossings.proofs.Tests.{drawn}
 use Rattle.crossings.proofs.cross.least_near.Statement.{statement}
 use Rattle.crossings.proofs.cross.least_near.Tie as tie
 
-passed-over-requires : tie.Need-passed-over-requires
-passed-over-requires c κs = search needs
-
-same-length : tie.Need-same-length
-same-length c = search needs
-
 returns : tie.Need-returns
 returns c =
     let o = c .before .before .before in
@@ -34,9 +28,6 @@ least-beside-requires c κs =
     let y = t .pre .0 in
     ((y .0, o .passed-over .ensures .1 (t .args .bucket) (y .0) (y .1) .0), (t .pre .1 .0, t .pre .1 .1 .0))
 
-same-length-2 : tie.Need-same-length-2
-same-length-2 c = search needs
-
 returns-2 : tie.Need-returns-2
 returns-2 c =
     let o = c .before .before .before .before .before in
@@ -46,12 +37,4 @@ returns-2 c =
     )
 
 pub least-near-spec : {M : Type 1} → statement M
-least-near-spec =
-    tie.close
-    (tie.spec
-    passed-over-requires
-    same-length
-    returns
-    least-beside-requires
-    same-length-2
-    returns-2)
+least-near-spec = tie.close (tie.spec (λ c κs. search needs) (λ c. search needs) returns least-beside-requires (λ c. search needs) returns-2)

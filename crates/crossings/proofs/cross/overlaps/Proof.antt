@@ -3,24 +3,6 @@ use borrow.Author.Needs.{needs}
 use Rattle.crossings.proofs.cross.overlaps.Statement.{statement}
 use Rattle.crossings.proofs.cross.overlaps.Tie as tie
 
-at-requires : tie.Need-at-requires
-at-requires c κs = search needs
-
-at-requires-2 : tie.Need-at-requires-2
-at-requires-2 c κs = search needs
-
-at-requires-3 : tie.Need-at-requires-3
-at-requires-3 c κs = search needs
-
-at-requires-4 : tie.Need-at-requires-4
-at-requires-4 c κs = search needs
-
-axis-meets-requires : tie.Need-axis-meets-requires
-axis-meets-requires c κs = search needs
-
-axis-meets-requires-2 : tie.Need-axis-meets-requires-2
-axis-meets-requires-2 c κs = search needs
-
 returns : tie.Need-returns
 returns c = λ m e f.
     let t = c .before in
@@ -48,11 +30,5 @@ pub overlaps-spec : {M : Type 1} → statement M
 overlaps-spec =
     tie.close
     (tie.spec
-    at-requires
-    at-requires-2
-    at-requires-3
-    at-requires-4
-    axis-meets-requires
-    axis-meets-requires-2
-    returns
+    (λ c κs. search needs) (λ c κs. search needs) (λ c κs. search needs) (λ c κs. search needs) (λ c κs. search needs) (λ c κs. search needs) returns
     returns-2)

@@ -6,12 +6,6 @@ use Rattle.flips.proofs.flip.convex_pair.Tie as tie
 returns : tie.Need-returns
 returns c = λ m f. let a = c .before .before .args in convex-same (a .q .now) m (a .u) (a .v) (a .x) (a .y) f (c .if1 .taken)
 
-apart-requires : tie.Need-apart-requires
-apart-requires c κs = search needs
-
-apart-requires-2 : tie.Need-apart-requires-2
-apart-requires-2 c κs = search needs
-
 returns-2 : tie.Need-returns-2
 returns-2 c = λ m f.
     let t = c .before in
@@ -28,4 +22,4 @@ returns-3 c = λ m f.
     convex-flat (a .q .now) m (a .u) (a .v) (a .x) (a .y) f (e .if1 .left) (p .apart .result) (p .apart .ensures) (c .if2 .left)
 
 pub convex-pair-spec : {M : Type 1} → statement M
-convex-pair-spec = tie.close (tie.spec returns apart-requires apart-requires-2 returns-2 returns-3)
+convex-pair-spec = tie.close (tie.spec returns (λ c κs. search needs) (λ c κs. search needs) returns-2 returns-3)

@@ -90,17 +90,8 @@ module _ (v : tie.After-convex-pair) (m : Mesh) (r : Rep (top (known (v .before)
             (v .convex-pair .result) is-convex h (tri-read (a .w .now) (a .s) (slot1 k)) (one k m r .read);
       }
 
-two-tris-requires : tie.Need-two-tris-requires
-two-tris-requires c κs = search needs
-
-enum-known-t : tie.Need-enum-known-t
-enum-known-t c = search needs
-
 enum-told : tie.Need-enum-told
 enum-told c = search needs
-
-same-length : tie.Need-same-length
-same-length c = search needs
 
 returns : tie.Need-returns
 returns c =
@@ -140,9 +131,6 @@ convex-pair-requires c κs =
     let in-slice : (x : ℕ) → x < length (m .points) → Within (a .q .now) x = λ x h. within (a .q .now) (a .p) (length (m .points)) x h (r .points) (t .pre .0 .2 .fits) in
     (in-slice (a .u) (f .u-known), in-slice (a .v) (f .v-known), in-slice (node1 c) (f .x-known), in-slice (node2 c) (g .x-known))
 
-same-length-2 : tie.Need-same-length-2
-same-length-2 c = search needs
-
 returns-2 : tie.Need-returns-2
 returns-2 c =
     let v = c .before in
@@ -164,9 +152,6 @@ turn-evenly-requires c κs =
     let t = top (known (v .before)) in
     (t .pre .0 .0, t .pre .0 .1, flips v (t .pre .0 .0) (t .pre .0 .1) (t .pre .0 .2) (not-false (v .convex-pair .result) (e .if1 .left)))
 
-same-length-3 : tie.Need-same-length-3
-same-length-3 c = search needs
-
 returns-3 : tie.Need-returns-3
 returns-3 c =
     let s = c .before .before in
@@ -187,16 +172,5 @@ pub flip-spec : {M : Type 1} → statement M
 flip-spec =
     tie.close
     (tie.spec
-    two-tris-requires
-    enum-known-t
-    enum-told
-    same-length
-    returns
-    third-requires
-    third-requires-2
-    convex-pair-requires
-    same-length-2
-    returns-2
-    turn-evenly-requires
-    same-length-3
-    returns-3)
+    (λ c κs. search needs) (λ c. search needs) enum-told (λ c. search needs) returns third-requires third-requires-2 convex-pair-requires
+    (λ c. search needs) returns-2 turn-evenly-requires (λ c. search needs) returns-3)

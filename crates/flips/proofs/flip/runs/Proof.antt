@@ -3,18 +3,6 @@ use borrow.Author.Needs.{needs}
 use Rattle.flips.proofs.flip.runs.Statement.{statement}
 use Rattle.flips.proofs.flip.runs.Tie as tie
 
-node-requires : tie.Need-node-requires
-node-requires c κs = search needs
-
-node-requires-2 : tie.Need-node-requires-2
-node-requires-2 c κs = search needs
-
-node-requires-3 : tie.Need-node-requires-3
-node-requires-3 c κs = search needs
-
-is-step-requires : tie.Need-is-step-requires
-is-step-requires c κs = search needs
-
 returns : tie.Need-returns
 returns c =
     let p1 = c .before in
@@ -24,9 +12,6 @@ returns c =
     let a = n1 .before .before .args in
     runs-first (a .u) (a .v) _ _ _ (n1 .node .result) (n2 .node2 .result) (n3 .node3 .result) (n1 .node .ensures) (n2 .node2 .ensures) (n3 .node3 .ensures)
     (p1 .is-step .result) (p1 .is-step .ensures) (c .if1 .taken)
-
-is-step-requires-2 : tie.Need-is-step-requires-2
-is-step-requires-2 c κs = search needs
 
 returns-2 : tie.Need-returns-2
 returns-2 c =
@@ -39,9 +24,6 @@ returns-2 c =
     let a = n1 .before .before .args in
     runs-second (a .u) (a .v) _ _ _ (n1 .node .result) (n2 .node2 .result) (n3 .node3 .result) (n1 .node .ensures) (n2 .node2 .ensures) (n3 .node3 .ensures)
     (p1 .is-step .result) (p1 .is-step .ensures) (p2 .is-step2 .result) (p2 .is-step2 .ensures) (e1 .if1 .left) (c .if2 .taken)
-
-is-step-requires-3 : tie.Need-is-step-requires-3
-is-step-requires-3 c κs = search needs
 
 returns-3 : tie.Need-returns-3
 returns-3 c =
@@ -60,12 +42,5 @@ pub runs-spec : {M : Type 1} → statement M
 runs-spec =
     tie.close
     (tie.spec
-    node-requires
-    node-requires-2
-    node-requires-3
-    is-step-requires
-    returns
-    is-step-requires-2
-    returns-2
-    is-step-requires-3
-    returns-3)
+    (λ c κs. search needs) (λ c κs. search needs) (λ c κs. search needs) (λ c κs. search needs) returns (λ c κs. search needs) returns-2
+    (λ c κs. search needs) returns-3)

@@ -3,24 +3,12 @@ use borrow.Author.Needs.{needs}
 use Rattle.flips.proofs.flip.third.Statement.{statement}
 use Rattle.flips.proofs.flip.third.Tie as tie
 
-node-requires : tie.Need-node-requires
-node-requires c κs = search needs
-
-off-edge-requires : tie.Need-off-edge-requires
-off-edge-requires c κs = search needs
-
 returns : tie.Need-returns
 returns c =
     let o = c .before in
     let n = o .before in
     let a = n .before .before .args in
     third-a (a .u) (a .v) _ _ _ (n .node .result) (o .off-edge .result) (n .node .ensures) (o .off-edge .ensures) (c .if1 .taken)
-
-node-requires-2 : tie.Need-node-requires-2
-node-requires-2 c κs = search needs
-
-off-edge-requires-2 : tie.Need-off-edge-requires-2
-off-edge-requires-2 c κs = search needs
 
 returns-2 : tie.Need-returns-2
 returns-2 c =
@@ -32,9 +20,6 @@ returns-2 c =
     let a = n .before .before .args in
     third-b (a .u) (a .v) _ _ _ (n .node .result) (o .off-edge .result) (n .node .ensures) (o .off-edge .ensures) (e1 .if1 .left)
     (n2 .node2 .result) (o2 .off-edge2 .result) (n2 .node2 .ensures) (o2 .off-edge2 .ensures) (c .if2 .taken)
-
-node-requires-3 : tie.Need-node-requires-3
-node-requires-3 c κs = search needs
 
 returns-3 : tie.Need-returns-3
 returns-3 c =
@@ -52,11 +37,4 @@ pub third-spec : {M : Type 1} → statement M
 third-spec =
     tie.close
     (tie.spec
-    node-requires
-    off-edge-requires
-    returns
-    node-requires-2
-    off-edge-requires-2
-    returns-2
-    node-requires-3
-    returns-3)
+    (λ c κs. search needs) (λ c κs. search needs) returns (λ c κs. search needs) (λ c κs. search needs) returns-2 (λ c κs. search needs) returns-3)

@@ -8,9 +8,6 @@ use borrow.Author.Needs.{needs}
 use Rattle.flips.proofs.flip.turn.Statement.{statement}
 use Rattle.flips.proofs.flip.turn.Tie as tie
 
-runs-requires : tie.Need-runs-requires
-runs-requires c κs = search needs
-
 set-tri-requires : tie.Need-set-tri-requires
 set-tri-requires c κs =
     let t = c .before .before .before .before .before in
@@ -24,9 +21,6 @@ set-tri-requires-2 c κs =
     let a = t .args in
     let m = t .pre .0 in
     (set-cell m (a .i) (tri-of-nodes (a .x) (a .u) (a .y)), s1 .set-tri .ensures .rep m (t .pre .1) (can-xuy m (a .u) (a .v) (a .i) (a .j) (a .x) (a .y) (t .pre .2)), can-yvx m (a .u) (a .v) (a .i) (a .j) (a .x) (a .y) (t .pre .2))
-
-same-length : tie.Need-same-length
-same-length c = search needs
 
 returns : tie.Need-returns
 returns c =
@@ -56,9 +50,6 @@ set-tri-requires-4 c κs =
     let m = t .pre .0 in
     (set-cell m (a .i) (tri-of-nodes (a .x) (a .y) (a .u)), s1 .set-tri3 .ensures .rep m (t .pre .1) (can-xyu m (a .u) (a .v) (a .i) (a .j) (a .x) (a .y) (t .pre .2)), can-yxv m (a .u) (a .v) (a .i) (a .j) (a .x) (a .y) (t .pre .2))
 
-same-length-2 : tie.Need-same-length-2
-same-length-2 c = search needs
-
 returns-2 : tie.Need-returns-2
 returns-2 c =
     let s2 = c .before .before in
@@ -77,12 +68,5 @@ pub turn-spec : {M : Type 1} → statement M
 turn-spec =
     tie.close
     (tie.spec
-    runs-requires
-    set-tri-requires
-    set-tri-requires-2
-    same-length
-    returns
-    set-tri-requires-3
-    set-tri-requires-4
-    same-length-2
+    (λ c κs. search needs) set-tri-requires set-tri-requires-2 (λ c. search needs) returns set-tri-requires-3 set-tri-requires-4 (λ c. search needs)
     returns-2)

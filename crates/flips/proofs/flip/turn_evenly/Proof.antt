@@ -24,9 +24,6 @@ turn-requires c κs =
     let t = c .before .before .before .before in
     (t .pre .0, t .pre .1, t .pre .2 .can)
 
-same-length : tie.Need-same-length
-same-length c = search needs
-
 returns : tie.Need-returns
 returns c =
     let n = c .before .before .before in
@@ -39,9 +36,6 @@ note-even-requires c κs =
     let t = top n in
     (n .turn .ensures .rep (t .pre .0) (t .pre .1) (t .pre .2 .can) .room, some-slot t)
 
-same-length-2 : tie.Need-same-length-2
-same-length-2 c = search needs
-
 returns-2 : tie.Need-returns-2
 returns-2 c =
     let z = c .before .before in
@@ -53,13 +47,4 @@ returns-2 c =
     (f .is-even .result) (f .is-even .ensures) (not-false (f .is-even .result) (e .if1 .left)) (z .note-even .ensures)
 
 pub turn-evenly-spec : {M : Type 1} → statement M
-turn-evenly-spec =
-    tie.close
-    (tie.spec
-    is-even-requires
-    turn-requires
-    same-length
-    returns
-    note-even-requires
-    same-length-2
-    returns-2)
+turn-evenly-spec = tie.close (tie.spec is-even-requires turn-requires (λ c. search needs) returns note-even-requires (λ c. search needs) returns-2)

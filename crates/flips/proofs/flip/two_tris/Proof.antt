@@ -3,12 +3,6 @@ use borrow.Author.Needs.{needs}
 use Rattle.flips.proofs.flip.two_tris.Statement.{statement}
 use Rattle.flips.proofs.flip.two_tris.Tie as tie
 
-first-owner-requires : tie.Need-first-owner-requires
-first-owner-requires c κs = search needs
-
-mul-if1 : tie.Need-mul-if1
-mul-if1 c = search needs
-
 returns : tie.Need-returns
 returns c = λ m r.
     let f = c .before in
@@ -19,9 +13,6 @@ next-owner-requires : tie.Need-next-owner-requires
 next-owner-requires c κs =
     let t = c .before .before .before in
     ((_, c .before .first-owner .ensures (t .pre .0 .0) (t .pre .0 .1)), (t .pre .1, c .if1 .left))
-
-mul-if2 : tie.Need-mul-if2
-mul-if2 c = search needs
 
 returns-2 : tie.Need-returns-2
 returns-2 c = λ m r.
@@ -47,9 +38,6 @@ next-owner-requires-2 c κs =
       (t .pre .1, c .if2 .left),
     )
 
-mul-if3 : tie.Need-mul-if3
-mul-if3 c = search needs
-
 returns-3 : tie.Need-returns-3
 returns-3 c = λ m r.
     let n2 = c .before in
@@ -60,9 +48,6 @@ returns-3 c = λ m r.
     let a = f .before .before .args in
     three-owners (a .w .now) (a .s) (a .p) (a .u) (a .v) m (f .first-owner .result) (f .first-owner .ensures m r) (e .if1 .left) (n .next-owner .result) (n .next-owner .ensures)
     (e2 .if2 .left) (n2 .next-owner2 .result) (n2 .next-owner2 .ensures) (c .if3 .taken)
-
-tris-requires : tie.Need-tris-requires
-tris-requires c κs = search needs
 
 returns-4 : tie.Need-returns-4
 returns-4 c = λ m r.
@@ -83,14 +68,5 @@ pub two-tris-spec : {M : Type 1} → statement M
 two-tris-spec =
     tie.close
     (tie.spec
-    first-owner-requires
-    mul-if1
-    returns
-    next-owner-requires
-    mul-if2
-    returns-2
-    next-owner-requires-2
-    mul-if3
-    returns-3
-    tris-requires
-    returns-4)
+    (λ c κs. search needs) (λ c. search needs) returns next-owner-requires (λ c. search needs) returns-2 next-owner-requires-2 (λ c. search needs)
+    returns-3 (λ c κs. search needs) returns-4)

@@ -58,9 +58,6 @@ first-crossing-requires c κs =
     let g = l .loop .inv .2 (t .pre .0 .0) (t .pre .0 .1) (t .pre .0 .2) in
     ((g .mesh, g .known), t .pre .1)
 
-enum-known-e : tie.Need-enum-known-e Inv-loop μ-loop
-enum-known-e c = search needs
-
 enum-told : tie.Need-enum-told Inv-loop μ-loop
 enum-told c = search needs
 
@@ -134,12 +131,6 @@ returns-3 c =
           (q .flip .ensures .keeps);
     }
 
-add-k : tie.Need-add-k Inv-loop μ-loop
-add-k c = search needs
-
-loop-less : tie.Need-loop-less Inv-loop μ-loop
-loop-less c = search needs
-
 loop-again : tie.Need-loop-again Inv-loop μ-loop
 loop-again c =
     let q = c .before .before .before in
@@ -192,23 +183,5 @@ pub recover-spec : {M : Type 1} → statement M
 recover-spec =
     tie.close
     (tie.spec
-    Inv-loop
-    μ-loop
-    loop-holds
-    has-edge-requires
-    same-length
-    returns
-    first-crossing-requires
-    enum-known-e
-    enum-told
-    same-length-2
-    returns-2
-    flip-requires
-    same-length-3
-    returns-3
-    add-k
-    loop-less
-    loop-again
-    has-edge-requires-2
-    same-length-4
-    returns-4)
+    Inv-loop μ-loop loop-holds has-edge-requires same-length returns first-crossing-requires (λ c. search needs) enum-told same-length-2 returns-2
+    flip-requires same-length-3 returns-3 (λ c. search needs) (λ c. search needs) loop-again has-edge-requires-2 same-length-4 returns-4)

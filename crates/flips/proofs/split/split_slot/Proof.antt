@@ -88,9 +88,6 @@ push-tri-requires c κs =
       push-ok k m r h origin,
     )
 
-add-push-tri : tie.Need-add-push-tri
-add-push-tri c = search needs
-
 push-tri-requires-2 : tie.Need-push-tri-requires-2
 push-tri-requires-2 c κs =
     let s2 = c .before .before .before in
@@ -106,9 +103,6 @@ push-tri-requires-2 c κs =
       s2 .push-tri .ensures .rep m1 (s1 .set-tri .ensures .rep (with-point m origin) (with-new k m r h origin) (set-ok k m r h origin)) (push-ok k m r h origin),
       push-ok2 k m r h origin,
     )
-
-same-length : tie.Need-same-length
-same-length c = search needs
 
 returns : tie.Need-returns
 returns c = λ z.
@@ -134,12 +128,4 @@ pub split-slot-spec : {M : Type 1} → statement M
 split-slot-spec =
     tie.close
     (tie.spec
-    node-requires
-    node-requires-2
-    node-requires-3
-    set-tri-requires
-    push-tri-requires
-    add-push-tri
-    push-tri-requires-2
-    same-length
-    returns)
+    node-requires node-requires-2 node-requires-3 set-tri-requires push-tri-requires (λ c. search needs) push-tri-requires-2 (λ c. search needs) returns)

@@ -8,18 +8,6 @@ use borrow.Author.Needs.{needs}
 use Rattle.flips.proofs.split.split_triangle.Statement.{statement}
 use Rattle.flips.proofs.split.split_triangle.Tie as tie
 
-put-point-requires : tie.Need-put-point-requires
-put-point-requires c κs = search needs
-
-split-slot-requires : tie.Need-split-slot-requires
-split-slot-requires c κs = search needs
-
-same-length : tie.Need-same-length
-same-length c = search needs
-
-same-length-2 : tie.Need-same-length-2
-same-length-2 c = search needs
-
 returns : tie.Need-returns
 returns c =
     let d = c .before .before in
@@ -37,5 +25,4 @@ returns c =
     }
 
 pub split-triangle-spec : {M : Type 1} → statement M
-split-triangle-spec =
-    tie.close (tie.spec put-point-requires split-slot-requires same-length same-length-2 returns)
+split-triangle-spec = tie.close (tie.spec (λ c κs. search needs) (λ c κs. search needs) (λ c. search needs) (λ c. search needs) returns)

@@ -1,19 +1,9 @@
-use mathlib.Core.Path.{_≡_, refl, ap, sym, _∙_, subst}
+use mathlib.Core.Path.{_≡_, sym, _∙_}
 use mathlib.Core.Bool.{true, false}
-use Prim.Native.Nat.{ℕ, suc, _+_, _-_, _*_, _/_, _<_, _≤_, _^_}
-use native.Mathlib.Omega.{arith}
-use lib.ListN.{length, getD, set, length-set}
 use Rattle.lives.proofs.Steps.{corners-of, near, near-is, within, reach-0, reach-1, reach-2}
 use borrow.Author.Needs.{needs}
 use Rattle.lives.proofs.live.is_near.Statement.{statement}
 use Rattle.lives.proofs.live.is_near.Tie as tie
-use Rattle.lives.proofs.live.is_near.Reads as reads
-use Rattle.lives.proofs.live.is_near.Lts as lts
-use Rattle.cells.proofs.find.node.Reads as node-reads
-use Rattle.lives.proofs.live.near_node.Reads as near-node-reads
-
-node-requires : tie.Need-node-requires
-node-requires c κs = search needs
 
 near-node-requires : tie.Need-near-node-requires
 near-node-requires c κs =
@@ -36,9 +26,6 @@ returns c =
     let d = corners-of (a .w .now) (a .s) (a .p) (a .i) m rep k in
     let b0 : true ≡ near m (a .x) (a .y) (a .r) (k .t .n0) = near-is (a .q .now) (a .p) m pts (a .x) (a .y) (a .r) (n1 .node .result) (k .t .n0) true (n1 .node .ensures ∙ d .read .n0) (d .k0) (sym (c .if1 .taken) ∙ q1 .near-node .ensures) in
     reach-0 m (a .x) (a .y) (a .r) (k .t) b0
-
-node-requires-2 : tie.Need-node-requires-2
-node-requires-2 c κs = search needs
 
 near-node-requires-2 : tie.Need-near-node-requires-2
 near-node-requires-2 c κs =
@@ -68,9 +55,6 @@ returns-2 c =
     let b0 : false ≡ near m (a .x) (a .y) (a .r) (k .t .n0) = near-is (a .q .now) (a .p) m pts (a .x) (a .y) (a .r) (n1 .node .result) (k .t .n0) false (n1 .node .ensures ∙ d .read .n0) (d .k0) (sym (e1 .if1 .left) ∙ q1 .near-node .ensures) in
     let b1 : true ≡ near m (a .x) (a .y) (a .r) (k .t .n1) = near-is (a .q .now) (a .p) m pts (a .x) (a .y) (a .r) (n2 .node2 .result) (k .t .n1) true (n2 .node2 .ensures ∙ d .read .n1) (d .k1) (sym (c .if2 .taken) ∙ q2 .near-node2 .ensures) in
     reach-1 m (a .x) (a .y) (a .r) (k .t) b0 b1
-
-node-requires-3 : tie.Need-node-requires-3
-node-requires-3 c κs = search needs
 
 near-node-requires-3 : tie.Need-near-node-requires-3
 near-node-requires-3 c κs =
@@ -111,12 +95,5 @@ pub is-near-spec : {M : Type 1} → statement M
 is-near-spec =
     tie.close
     (tie.spec
-    node-requires
-    near-node-requires
-    returns
-    node-requires-2
-    near-node-requires-2
-    returns-2
-    node-requires-3
-    near-node-requires-3
+    (λ c κs. search needs) near-node-requires returns (λ c κs. search needs) near-node-requires-2 returns-2 (λ c κs. search needs) near-node-requires-3
     returns-3)

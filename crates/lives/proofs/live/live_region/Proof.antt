@@ -1,26 +1,19 @@
 -- The loop's invariant: the visits still to come give what all give; k cells were seen, which are different slots. The measure is how many slots are left.
-use mathlib.Core.Path.{_≡_, refl, ap, sym, _∙_, subst}
-use mathlib.Core.List.{List, [], _∷_, _++_, foldl}
-use Prim.Native.Nat.{ℕ, suc, _+_, _-_, _*_, _/_, _<_, _≤_, _^_}
+use mathlib.Core.Path.{_≡_, refl, _∙_}
+use mathlib.Core.List.{[], _∷_}
+use Prim.Native.Nat.{_+_, _-_, _*_, _≤_, _^_}
 use native.Mathlib.Omega.{arith}
-use lib.ListN.{length, getD, set, length-set}
+use lib.ListN.{length}
 use Rattle.definition.specs.Plane.{flat}
-use Rattle.definition.specs.Cells.{Live, Mesh, cell-of}
+use Rattle.definition.specs.Cells.{Mesh, cell-of}
 use Rattle.definition.specs.Candidates.{in-reach, seed-stack, live-region}
 use Rattle.cells.specs.Layout.{all-end}
 use Rattle.lives.specs.Stack.{Lent}
 use Rattle.lives.specs.Visit.{out-after, stack-after}
 use Rattle.lives.proofs.Scratches.{scratch-refl, scratch-trans, scratch-rep}
 use Rattle.lives.proofs.Steps.{Living, living-start, living-pop, living-few, living-on, living-end, scratch-back, live-trans}
-use borrow.Author.Needs.{needs}
 use Rattle.lives.proofs.live.live_region.Statement.{statement}
 use Rattle.lives.proofs.live.live_region.Tie as tie
-use Rattle.lives.proofs.live.live_region.Reads as reads
-use Rattle.lives.proofs.live.live_region.Lts as lts
-use Rattle.lives.proofs.stack.empty.Reads as empty-reads
-use Rattle.lives.proofs.live.seed_one.Reads as seed-one-reads
-use Rattle.lives.proofs.live.step.Reads as step-reads
-use Rattle.lives.proofs.stack.top.Reads as top-reads
 
 abbrev Inv-loop : tie.InvT-loop
 Inv-loop w₀ q s p used seed x y r n₀ k₀ j₀ w n k j =

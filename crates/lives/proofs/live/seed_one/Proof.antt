@@ -1,8 +1,5 @@
-use mathlib.Core.Path.{_≡_, refl, ap, sym, _∙_, subst}
-use mathlib.Core.List.{List, [], _∷_, _++_, foldl}
-use Prim.Native.Nat.{ℕ, suc, _+_, _-_, _*_, _/_, _<_, _≤_, _^_}
-use native.Mathlib.Omega.{arith}
-use lib.ListN.{length, getD, set, length-set}
+use mathlib.Core.Path.{sym, subst}
+use mathlib.Core.List.{List, []}
 use Rattle.definition.specs.Cells.{Live, tri, new-live}
 use Rattle.cells.proofs.Slots.{tri-in}
 use Rattle.lives.specs.Stack.{PushTo}
@@ -11,15 +8,6 @@ use Rattle.lives.proofs.Steps.{seed-none, seed-some, seed-met}
 use borrow.Author.Needs.{needs}
 use Rattle.lives.proofs.live.seed_one.Statement.{statement}
 use Rattle.lives.proofs.live.seed_one.Tie as tie
-use Rattle.lives.proofs.live.seed_one.Reads as reads
-use Rattle.lives.proofs.live.seed_one.Lts as lts
-use Rattle.lives.proofs.stack.push_one.Reads as push-one-reads
-
-mul-if1 : tie.Need-mul-if1
-mul-if1 c = search needs
-
-slice-read-if1 : tie.Need-slice-read-if1
-slice-read-if1 c = search needs
 
 returns : tie.Need-returns
 returns c =
@@ -38,9 +26,6 @@ push-one-requires c κs =
     let k = tri-in (a .w .now) (a .s) (a .p) m (h .rep) (a .i) (t .pre .1) (e1 .if1 .left) in
     (m, [], [], [], new-live (a .i) (tri (k .t)), seed-met (a .w .now) (a .s) (a .p) (a .i) m h k (t .pre .1))
 
-same-length : tie.Need-same-length
-same-length c = search needs
-
 returns-2 : tie.Need-returns-2
 returns-2 c =
     let po = c .before .before in
@@ -53,12 +38,4 @@ returns-2 c =
     (po .push-one .ensures m [] [] [] (new-live (a .i) (tri (k .t))) (seed-met (a .w .now) (a .s) (a .p) (a .i) m h k (t .pre .1)))
 
 pub seed-one-spec : {M : Type 1} → statement M
-seed-one-spec =
-    tie.close
-    (tie.spec
-    mul-if1
-    slice-read-if1
-    returns
-    push-one-requires
-    same-length
-    returns-2)
+seed-one-spec = tie.close (tie.spec (λ c. search needs) (λ c. search needs) returns push-one-requires (λ c. search needs) returns-2)

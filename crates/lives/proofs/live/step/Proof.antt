@@ -1,22 +1,11 @@
-use mathlib.Core.Path.{_≡_, refl, ap, sym, _∙_, subst}
-use mathlib.Core.List.{List, [], _∷_, _++_, foldl}
-use Prim.Native.Nat.{ℕ, suc, _+_, _-_, _*_, _/_, _<_, _≤_, _^_}
+use mathlib.Core.Path.{sym, _∙_}
+use mathlib.Core.List.{[], _∷_, _++_, foldl}
 use native.Mathlib.Omega.{arith}
-use lib.ListN.{length, getD, set, length-set}
 use Rattle.definition.specs.Candidates.{on-top, neighbours}
 use Rattle.lives.proofs.Steps.{top-tri, can-list, seen-few, step-near, step-far, push-trans}
 use borrow.Author.Needs.{needs}
 use Rattle.lives.proofs.live.step.Statement.{statement}
 use Rattle.lives.proofs.live.step.Tie as tie
-use Rattle.lives.proofs.live.step.Reads as reads
-use Rattle.lives.proofs.live.step.Lts as lts
-use Rattle.lives.proofs.live.is_near.Reads as is-near-reads
-use Rattle.lives.proofs.stack.list_one.Reads as list-one-reads
-use Rattle.lives.proofs.stack.push_around.Reads as push-around-reads
-use Rattle.lives.proofs.stack.take.Reads as take-reads
-
-take-requires : tie.Need-take-requires
-take-requires c κs = search needs
 
 is-near-requires : tie.Need-is-near-requires
 is-near-requires c κs =
@@ -97,9 +86,6 @@ add-result c =
     let h = t .pre .6 in
     omega (arith, h .len, h .top .hold .few, seen-few w (a .s) (a .p) (a .n) (a .i) m out seen st x h, h .top .hold .rep .used, h .top .hold .rep .room .small)
 
-same-length : tie.Need-same-length
-same-length c = search needs
-
 returns : tie.Need-returns
 returns c =
     let pa = c .before .before in
@@ -122,9 +108,6 @@ returns c =
     step-near w (a .s) (a .p) (a .n) (a .i) m out seen st x h (a .x) (a .y) (a .r) w3 (sym (lo .before .before .if1 .taken) ∙ nr .is-near .ensures m (f1 .hold .rep) pts (k .t))
     (push-trans w w1 w3 (a .s) (a .p) m (out ++ x ∷ []) (x ∷ seen) st3 (f1 .scratch) (push-trans w1 w2 w3 (a .s) (a .p) m (out ++ x ∷ []) (x ∷ seen) st3 (f2 .scratch) f3))
 
-same-length-2 : tie.Need-same-length-2
-same-length-2 c = search needs
-
 returns-2 : tie.Need-returns-2
 returns-2 c =
     let nr = c .before in
@@ -142,12 +125,4 @@ pub step-spec : {M : Type 1} → statement M
 step-spec =
     tie.close
     (tie.spec
-    take-requires
-    is-near-requires
-    list-one-requires
-    push-around-requires
-    add-result
-    same-length
-    returns
-    same-length-2
-    returns-2)
+    (λ c κs. search needs) is-near-requires list-one-requires push-around-requires add-result (λ c. search needs) returns (λ c. search needs) returns-2)

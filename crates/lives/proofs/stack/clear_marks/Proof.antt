@@ -1,14 +1,11 @@
 -- The loop's invariant: the first i marks are 0, and nothing else changed.
-use mathlib.Core.Path.{_≡_, refl, ap, sym, _∙_, subst}
-use Prim.Native.Nat.{ℕ, suc, _+_, _-_, _*_, _/_, _<_, _≤_, _^_}
+use Prim.Native.Nat.{_-_}
 use native.Mathlib.Omega.{arith}
 use Rattle.lives.proofs.Scratches.{scratch-refl}
 use Rattle.lives.proofs.Takes.{Clearing, clearing-more}
 use borrow.Author.Needs.{needs}
 use Rattle.lives.proofs.stack.clear_marks.Statement.{statement}
 use Rattle.lives.proofs.stack.clear_marks.Tie as tie
-use Rattle.lives.proofs.stack.clear_marks.Reads as reads
-use Rattle.lives.proofs.stack.clear_marks.Lts as lts
 
 abbrev Inv-loop : tie.InvT-loop
 Inv-loop w₀ s p n i₀ w i = Clearing w₀ w s p n i
@@ -21,15 +18,6 @@ loop-holds c =
     let a = c .args in
     record { within = omega arith; few = c .pre .few; zero = λ k h. absurd (omega (arith, h)); scratch = scratch-refl (a .w .now) (a .s) (a .p) }
 
-mul-w : tie.Need-mul-w Inv-loop μ-loop
-mul-w c = search needs
-
-mul-w-2 : tie.Need-mul-w-2 Inv-loop μ-loop
-mul-w-2 c = search needs
-
-add-w : tie.Need-add-w Inv-loop μ-loop
-add-w c = search needs
-
 add-w-2 : tie.Need-add-w-2 Inv-loop μ-loop
 add-w-2 c =
     omega (arith, c .loop-test .taken, c .before .loop .inv .few, c .before .before .pre .small)
@@ -41,12 +29,6 @@ mul-w-3 c =
 slice-write-w : tie.Need-slice-write-w Inv-loop μ-loop
 slice-write-w c =
     omega (arith, c .loop-test .taken, c .before .loop .inv .few, c .before .before .pre .fits, c .before .loop .inv .scratch .len)
-
-add-i : tie.Need-add-i Inv-loop μ-loop
-add-i c = search needs
-
-loop-less : tie.Need-loop-less Inv-loop μ-loop
-loop-less c = search needs
 
 loop-again : tie.Need-loop-again Inv-loop μ-loop
 loop-again c =
@@ -67,16 +49,6 @@ returns c =
 pub clear-marks-spec : {M : Type 1} → statement M
 clear-marks-spec =
     tie.close
-    (tie.spec Inv-loop μ-loop
-    loop-holds
-    mul-w
-    mul-w-2
-    add-w
-    add-w-2
-    mul-w-3
-    slice-write-w
-    add-i
-    loop-less
-    loop-again
-    same-length
-    returns)
+    (tie.spec
+    Inv-loop μ-loop loop-holds (λ c. search needs) (λ c. search needs) (λ c. search needs) add-w-2 mul-w-3 slice-write-w (λ c. search needs)
+    (λ c. search needs) loop-again same-length returns)

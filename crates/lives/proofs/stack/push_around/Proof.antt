@@ -1,28 +1,13 @@
-use mathlib.Core.Path.{_≡_, refl, ap, sym, _∙_, subst}
-use mathlib.Core.List.{List, [], _∷_, _++_, foldl}
-use Prim.Native.Nat.{ℕ, suc, _+_, _-_, _*_, _/_, _<_, _≤_, _^_}
-use native.Mathlib.Omega.{arith}
-use lib.ListN.{length, getD, set, length-set}
-use Rattle.definition.specs.Cells.{Live, Mesh, key, owners}
+use mathlib.Core.Path.{_≡_, sym, _∙_, subst}
+use mathlib.Core.List.{List, foldl}
+use lib.ListN.{length}
+use Rattle.definition.specs.Cells.{Live, key, owners}
 use Rattle.definition.specs.Candidates.{on-top}
 use Rattle.lives.specs.Stack.{PushTo}
 use Rattle.lives.proofs.Steps.{corners-of, edge-is, around-read, push-trans}
 use borrow.Author.Needs.{needs}
 use Rattle.lives.proofs.stack.push_around.Statement.{statement}
 use Rattle.lives.proofs.stack.push_around.Tie as tie
-use Rattle.lives.proofs.stack.push_around.Reads as reads
-use Rattle.lives.proofs.stack.push_around.Lts as lts
-use Rattle.cells.proofs.find.node.Reads as node-reads
-use Rattle.lives.proofs.stack.push_edge.Reads as push-edge-reads
-
-node-requires : tie.Need-node-requires
-node-requires c κs = search needs
-
-node-requires-2 : tie.Need-node-requires-2
-node-requires-2 c κs = search needs
-
-node-requires-3 : tie.Need-node-requires-3
-node-requires-3 c κs = search needs
 
 push-edge-requires : tie.Need-push-edge-requires
 push-edge-requires c κs =
@@ -105,9 +90,6 @@ push-edge-requires-3 c κs =
     let st2 = foldl (on-top seen) st1 (owners m (key v y)) in
     ((m, out, seen, st2, f2 .hold), edge-is (a .p) (length (m .points)) (k .t .n2) (k .t .n0) y u ey eu (d .k2) (h .rep .points) (d .d20))
 
-same-length : tie.Need-same-length
-same-length c = search needs
-
 returns : tie.Need-returns
 returns c =
     let o3 = c .before .before in
@@ -143,11 +125,5 @@ pub push-around-spec : {M : Type 1} → statement M
 push-around-spec =
     tie.close
     (tie.spec
-    node-requires
-    node-requires-2
-    node-requires-3
-    push-edge-requires
-    push-edge-requires-2
-    push-edge-requires-3
-    same-length
+    (λ c κs. search needs) (λ c κs. search needs) (λ c κs. search needs) push-edge-requires push-edge-requires-2 push-edge-requires-3 (λ c. search needs)
     returns)

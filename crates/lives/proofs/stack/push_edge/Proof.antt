@@ -1,9 +1,7 @@
 -- The loop's invariant: the owners still to come, pushed onto the stack as it is now, give what all give. The measure is how many links are left.
-use mathlib.Core.Path.{_≡_, refl, ap, sym, _∙_, subst}
-use mathlib.Core.List.{List, [], _∷_, _++_, foldl}
-use Prim.Native.Nat.{ℕ, suc, _+_, _-_, _*_, _/_, _<_, _≤_, _^_}
-use native.Mathlib.Omega.{arith}
-use lib.ListN.{length, getD, set, length-set}
+use mathlib.Core.Path.{_≡_, refl, _∙_}
+use mathlib.Core.List.{List}
+use lib.ListN.{length}
 use Rattle.definition.specs.Cells.{Live, Mesh}
 use Rattle.cells.specs.Walk.{left}
 use Rattle.lives.specs.Stack.{Hold}
@@ -11,11 +9,6 @@ use Rattle.lives.proofs.Walking.{Going, going-start, going-end, going-h
 use borrow.Author.Needs.{needs}
 use Rattle.lives.proofs.stack.push_edge.Statement.{statement}
 use Rattle.lives.proofs.stack.push_edge.Tie as tie
-use Rattle.lives.proofs.stack.push_edge.Reads as reads
-use Rattle.lives.proofs.stack.push_edge.Lts as lts
-use Rattle.cells.proofs.find.first_owner.Reads as first-owner-reads
-use Rattle.cells.proofs.find.next_owner.Reads as next-owner-reads
-use Rattle.lives.proofs.stack.push_one.Reads as push-one-reads
 
 abbrev Inv-loop : tie.InvT-loop
 Inv-loop w₀ s p u v c₀ w c = (length w ≡ length w₀) × ((m : Mesh) (out seen st : List Live) → Hold w₀ s p m out seen st → Going w₀ w s p u v c m out seen st)
@@ -33,9 +26,6 @@ loop-holds c =
     let t = c .before .before .before in
     let a = t .args in
     (refl, λ m out seen st h. going-start (a .w .now) (a .s) (a .p) (a .u) (a .v) (c .first-owner .result) m out seen st h (c .first-owner .ensures m (h .rep)))
-
-mul-loop : tie.Need-mul-loop Inv-loop μ-loop
-mul-loop c = search needs
 
 push-one-requires : tie.Need-push-one-requires Inv-loop μ-loop
 push-one-requires c κs =
@@ -120,13 +110,5 @@ returns c =
 pub push-edge-spec : {M : Type 1} → statement M
 push-edge-spec =
     tie.close
-    (tie.spec Inv-loop μ-loop
-    first-owner-requires
-    loop-holds
-    mul-loop
-    push-one-requires
-    next-owner-requires
-    loop-less
-    loop-again
-    same-length
-    returns)
+    (tie.spec
+    Inv-loop μ-loop first-owner-requires loop-holds (λ c. search needs) push-one-requires next-owner-requires loop-less loop-again same-length returns)

@@ -1,8 +1,7 @@
-use mathlib.Core.Path.{_≡_, refl, ap, sym, _∙_, subst}
-use mathlib.Core.List.{List, [], _∷_, _++_, foldl}
-use Prim.Native.Nat.{ℕ, suc, _+_, _-_, _*_, _/_, _<_, _≤_, _^_}
+use mathlib.Core.Path.{_∙_}
+use Prim.Native.Nat.{_+_, _*_}
 use native.Mathlib.Omega.{arith}
-use lib.ListN.{length, getD, set, length-set}
+use lib.ListN.{set, length-set}
 use Rattle.rings.specs.Rings.{without}
 use Rattle.cells.specs.Rep.{slots}
 use Rattle.lives.specs.Stack.{rev}
@@ -11,28 +10,6 @@ use Rattle.lives.proofs.Pushes.{on-stack, push-seen, push-other, push-a
 use borrow.Author.Needs.{needs}
 use Rattle.lives.proofs.stack.push_one.Statement.{statement}
 use Rattle.lives.proofs.stack.push_one.Tie as tie
-use Rattle.lives.proofs.stack.push_one.Reads as reads
-use Rattle.lives.proofs.stack.push_one.Lts as lts
-use Rattle.rings.proofs.link.Reads as link-reads
-use Rattle.rings.proofs.unlink.Reads as unlink-reads
-
-mul-m : tie.Need-mul-m
-mul-m c = search needs
-
-mul-m-2 : tie.Need-mul-m-2
-mul-m-2 c = search needs
-
-add-m : tie.Need-add-m
-add-m c = search needs
-
-add-m-2 : tie.Need-add-m-2
-add-m-2 c = search needs
-
-mul-m-3 : tie.Need-mul-m-3
-mul-m-3 c = search needs
-
-slice-read-m : tie.Need-slice-read-m
-slice-read-m c = search needs
 
 returns : tie.Need-returns
 returns c =
@@ -40,30 +17,12 @@ returns c =
     let a = t .args in
     λ m out seen st e h. push-seen (a .w .now) (a .s) (a .p) (a .j) m out seen st e h (c .if1 .taken)
 
-mul-if2 : tie.Need-mul-if2
-mul-if2 c = search needs
-
-slice-read-if2 : tie.Need-slice-read-if2
-slice-read-if2 c = search needs
-
 returns-2 : tie.Need-returns-2
 returns-2 c =
     let e1 = c .before .before in
     let t = e1 .before .before .before in
     let a = t .args in
     λ m out seen st e h. push-other (a .w .now) (a .s) (a .p) (a .j) m out seen st e h (c .if2 .taken)
-
-mul-unlink : tie.Need-mul-unlink
-mul-unlink c = search needs
-
-mul-unlink-2 : tie.Need-mul-unlink-2
-mul-unlink-2 c = search needs
-
-add-unlink : tie.Need-add-unlink
-add-unlink c = search needs
-
-add-unlink-2 : tie.Need-add-unlink-2
-add-unlink-2 c = search needs
 
 unlink-requires : tie.Need-unlink-requires
 unlink-requires c κs =
@@ -79,18 +38,6 @@ unlink-requires c κs =
     let e = t .pre .4 in
     let h = t .pre .5 in
     can-unlink-in (a .w .now) (a .s) (a .p) (a .j) (rev (slots st)) (h .hold .fits) (h .inside) (h .hold .ring) (on-stack (a .w .now) (a .s) (a .p) (a .j) m out seen st e h (th .if3 .taken))
-
-mul-link : tie.Need-mul-link
-mul-link c = search needs
-
-mul-link-2 : tie.Need-mul-link-2
-mul-link-2 c = search needs
-
-add-link : tie.Need-add-link
-add-link c = search needs
-
-add-link-2 : tie.Need-add-link-2
-add-link-2 c = search needs
 
 link-requires : tie.Need-link-requires
 link-requires c κs =
@@ -108,9 +55,6 @@ link-requires c κs =
     let h = t .pre .5 in
     can-link-in (k .unlink .last .0) (a .s) (a .p) (a .j) (without (a .j) (rev (slots st))) (omega (arith, h .hold .fits, k .unlink .ensures .kept .len)) (h .hold .rep .room .small) (h .inside) (ring-again (a .w .now) (a .s) (a .p) (a .j) m out seen st e h (k .unlink .last .0) (k .unlink .ensures))
 
-same-length : tie.Need-same-length
-same-length c = search needs
-
 returns-3 : tie.Need-returns-3
 returns-3 c =
     let q = c .before .before in
@@ -121,36 +65,6 @@ returns-3 c =
     let t = e1 .before .before .before in
     let a = t .args in
     λ m out seen st e h. push-again (a .w .now) (a .s) (a .p) (a .j) m out seen st e h (e1 .if1 .left) (e2 .if2 .left) (th .if3 .taken) (k .unlink .last .0) (q .link .last .0) (k .unlink .ensures) (q .link .ensures)
-
-mul-w : tie.Need-mul-w
-mul-w c = search needs
-
-mul-w-2 : tie.Need-mul-w-2
-mul-w-2 c = search needs
-
-add-w : tie.Need-add-w
-add-w c = search needs
-
-add-w-2 : tie.Need-add-w-2
-add-w-2 c = search needs
-
-mul-w-3 : tie.Need-mul-w-3
-mul-w-3 c = search needs
-
-slice-write-w : tie.Need-slice-write-w
-slice-write-w c = search needs
-
-mul-link-3 : tie.Need-mul-link-3
-mul-link-3 c = search needs
-
-mul-link-4 : tie.Need-mul-link-4
-mul-link-4 c = search needs
-
-add-link-3 : tie.Need-add-link-3
-add-link-3 c = search needs
-
-add-link-4 : tie.Need-add-link-4
-add-link-4 c = search needs
 
 link-requires-2 : tie.Need-link-requires-2
 link-requires-2 c κs =
@@ -185,38 +99,8 @@ pub push-one-spec : {M : Type 1} → statement M
 push-one-spec =
     tie.close
     (tie.spec
-    mul-m
-    mul-m-2
-    add-m
-    add-m-2
-    mul-m-3
-    slice-read-m
-    returns
-    mul-if2
-    slice-read-if2
-    returns-2
-    mul-unlink
-    mul-unlink-2
-    add-unlink
-    add-unlink-2
-    unlink-requires
-    mul-link
-    mul-link-2
-    add-link
-    add-link-2
-    link-requires
-    same-length
-    returns-3
-    mul-w
-    mul-w-2
-    add-w
-    add-w-2
-    mul-w-3
-    slice-write-w
-    mul-link-3
-    mul-link-4
-    add-link-3
-    add-link-4
-    link-requires-2
-    same-length-2
-    returns-4)
+    (λ c. search needs) (λ c. search needs) (λ c. search needs) (λ c. search needs) (λ c. search needs) (λ c. search needs) returns (λ c. search needs)
+    (λ c. search needs) returns-2 (λ c. search needs) (λ c. search needs) (λ c. search needs) (λ c. search needs) unlink-requires (λ c. search needs)
+    (λ c. search needs) (λ c. search needs) (λ c. search needs) link-requires (λ c. search needs) returns-3 (λ c. search needs) (λ c. search needs)
+    (λ c. search needs) (λ c. search needs) (λ c. search needs) (λ c. search needs) (λ c. search needs) (λ c. search needs) (λ c. search needs)
+    (λ c. search needs) link-requires-2 same-length-2 returns-4)

@@ -19,9 +19,6 @@ Inv-loop w₀ s p n k j₀ b₀ i₀ w j b i =
 abbrev μ-loop : tie.MeasureT-loop
 μ-loop w₀ s p n k j₀ b₀ i₀ w j b i = k - i
 
-list-edges-requires : tie.Need-list-edges-requires Inv-loop μ-loop
-list-edges-requires c κs = search needs
-
 next-fresh-requires : tie.Need-next-fresh-requires Inv-loop μ-loop
 next-fresh-requires c κs =
     let le = c .before .before .before in
@@ -143,16 +140,5 @@ pub front-loops-spec : {M : Type 1} → statement M
 front-loops-spec =
     tie.close
     (tie.spec
-    Inv-loop
-    μ-loop
-    list-edges-requires
-    next-fresh-requires
-    loop-holds
-    trace-requires
-    add-j
-    add-next-fresh
-    next-fresh-requires-2
-    loop-less
-    loop-again
-    same-length
-    returns)
+    Inv-loop μ-loop (λ c κs. search needs) next-fresh-requires loop-holds trace-requires add-j add-next-fresh next-fresh-requires-2 loop-less loop-again
+    same-length returns)

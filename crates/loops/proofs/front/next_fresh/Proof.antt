@@ -16,23 +16,11 @@ Inv-loop w s p k i used x₀ x = (used ≡ front-used-at s p) × Passing w s p k
 abbrev μ-loop : tie.MeasureT-loop
 μ-loop w s p k i used x₀ x = k - x
 
-front-used-at-requires : tie.Need-front-used-at-requires Inv-loop μ-loop
-front-used-at-requires c κs = search needs
-
 loop-holds : tie.Need-loop-holds Inv-loop μ-loop
 loop-holds c =
     let t = c .before .before in
     let a = t .args in
     (c .front-used-at .ensures, passing-start (a .w .now) (a .s) (a .p) (a .k) (a .i) (t .pre .within))
-
-add-if1 : tie.Need-add-if1 Inv-loop μ-loop
-add-if1 c = search needs
-
-mul-if1 : tie.Need-mul-if1 Inv-loop μ-loop
-mul-if1 c = search needs
-
-shared-slice-read-if1 : tie.Need-shared-slice-read-if1 Inv-loop μ-loop
-shared-slice-read-if1 c = search needs
 
 returns : tie.Need-returns Inv-loop μ-loop
 returns c =
@@ -41,12 +29,6 @@ returns c =
     let a = l .before .before .before .args in
     passing-found (a .w .now) (a .s) (a .p) (a .k) (a .i) (x .x) (x .inv .1)
     (ap (λ (y : ℕ). eqb (getD (a .w .now) (y + x .x) 0) 0) (sym (x .inv .0)) ∙ eq-eqb _ 0 (c .if1 .taken))
-
-add-x : tie.Need-add-x Inv-loop μ-loop
-add-x c = search needs
-
-loop-less : tie.Need-loop-less Inv-loop μ-loop
-loop-less c = search needs
 
 loop-again : tie.Need-loop-again Inv-loop μ-loop
 loop-again c =
@@ -70,15 +52,5 @@ pub next-fresh-spec : {M : Type 1} → statement M
 next-fresh-spec =
     tie.close
     (tie.spec
-    Inv-loop
-    μ-loop
-    front-used-at-requires
-    loop-holds
-    add-if1
-    mul-if1
-    shared-slice-read-if1
-    returns
-    add-x
-    loop-less
-    loop-again
-    returns-2)
+    Inv-loop μ-loop (λ c κs. search needs) loop-holds (λ c. search needs) (λ c. search needs) (λ c. search needs) returns (λ c. search needs)
+    (λ c. search needs) loop-again returns-2)

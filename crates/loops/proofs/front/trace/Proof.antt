@@ -11,51 +11,6 @@ use borrow.Author.Needs.{needs}
 use Rattle.loops.proofs.front.trace.Statement.{statement}
 use Rattle.loops.proofs.front.trace.Tie as tie
 
-cast-w : tie.Need-cast-w
-cast-w c = search needs
-
-starts-at-requires : tie.Need-starts-at-requires
-starts-at-requires c κs = search needs
-
-add-w : tie.Need-add-w
-add-w c = search needs
-
-mul-w : tie.Need-mul-w
-mul-w c = search needs
-
-slice-write-w : tie.Need-slice-write-w
-slice-write-w c = search needs
-
-front-u-at-requires : tie.Need-front-u-at-requires
-front-u-at-requires c κs = search needs
-
-add-wide : tie.Need-add-wide
-add-wide c = search needs
-
-mul-wide : tie.Need-mul-wide
-mul-wide c = search needs
-
-slice-read-wide : tie.Need-slice-read-wide
-slice-read-wide c = simp length-set (omega arith)
-
-wide-requires : tie.Need-wide-requires
-wide-requires c κs = search needs
-
-front-v-at-requires : tie.Need-front-v-at-requires
-front-v-at-requires c κs = search needs
-
-add-wide-2 : tie.Need-add-wide-2
-add-wide-2 c = search needs
-
-mul-wide-2 : tie.Need-mul-wide-2
-mul-wide-2 c = search needs
-
-slice-read-wide-2 : tie.Need-slice-read-wide-2
-slice-read-wide-2 c = simp length-set (omega arith)
-
-wide-requires-2 : tie.Need-wide-requires-2
-wide-requires-2 c κs = search needs
-
 place-requires : tie.Need-place-requires
 place-requires c κs =
     let d2 = c .before in
@@ -73,9 +28,6 @@ place-requires c κs =
     let q = t .pre .3 in
     let e = started w (a .s) (a .p) (a .j) (a .b) (st .starts-at .result) (st .starts-at .ensures) (trace-start w (a .s) (a .p) n (a .k) (a .b) (a .j) (a .i) es ls q) in
     (n, a .k, es, concat ls, trace-place w (a .s) (a .p) n (a .k) (a .b) (a .j) (a .i) es ls q w1 e)
-
-add-walk : tie.Need-add-walk
-add-walk c = search needs
 
 walk-requires : tie.Need-walk-requires
 walk-requires c κs =
@@ -132,23 +84,6 @@ pub trace-spec : {M : Type 1} → statement M
 trace-spec =
     tie.close
     (tie.spec
-    cast-w
-    starts-at-requires
-    add-w
-    mul-w
-    slice-write-w
-    front-u-at-requires
-    add-wide
-    mul-wide
-    slice-read-wide
-    wide-requires
-    front-v-at-requires
-    add-wide-2
-    mul-wide-2
-    slice-read-wide-2
-    wide-requires-2
-    place-requires
-    add-walk
-    walk-requires
-    same-length
-    returns)
+    (λ c. search needs) (λ c κs. search needs) (λ c. search needs) (λ c. search needs) (λ c. search needs) (λ c κs. search needs) (λ c. search needs)
+    (λ c. search needs) (λ c. simp length-set (omega arith)) (λ c κs. search needs) (λ c κs. search needs) (λ c. search needs) (λ c. search needs)
+    (λ c. simp length-set (omega arith)) (λ c κs. search needs) place-requires (λ c. search needs) walk-requires same-length returns)

@@ -23,9 +23,6 @@ loop-holds c =
     let a = c .before .args in
     (refl, λ n es g. going-start (a .w .now) (a .s) (a .p) n (a .k) es g)
 
-sub-i : tie.Need-sub-i Inv-loop μ-loop
-sub-i c = search needs
-
 link-edge-requires : tie.Need-link-edge-requires Inv-loop μ-loop
 link-edge-requires c κs =
     let t = c .before in
@@ -67,15 +64,4 @@ returns c =
     λ n es q. going-end (a .w .now) (x .w) (a .s) (a .p) n (a .k) es (x .i) (c .loop-test .left) (x .inv .1 n es q)
 
 pub link-all-spec : {M : Type 1} → statement M
-link-all-spec =
-    tie.close
-    (tie.spec
-    Inv-loop
-    μ-loop
-    loop-holds
-    sub-i
-    link-edge-requires
-    loop-less
-    loop-again
-    same-length
-    returns)
+link-all-spec = tie.close (tie.spec Inv-loop μ-loop loop-holds (λ c. search needs) link-edge-requires loop-less loop-again same-length returns)

@@ -6,39 +6,6 @@ use borrow.Author.Needs.{needs}
 use Rattle.loops.proofs.links.link_edge.Statement.{statement}
 use Rattle.loops.proofs.links.link_edge.Tie as tie
 
-front-u-at-requires : tie.Need-front-u-at-requires
-front-u-at-requires c κs = search needs
-
-add-wide : tie.Need-add-wide
-add-wide c = search needs
-
-mul-wide : tie.Need-mul-wide
-mul-wide c = search needs
-
-slice-read-wide : tie.Need-slice-read-wide
-slice-read-wide c = search needs
-
-wide-requires : tie.Need-wide-requires
-wide-requires c κs = search needs
-
-front-v-at-requires : tie.Need-front-v-at-requires
-front-v-at-requires c κs = search needs
-
-add-wide-2 : tie.Need-add-wide-2
-add-wide-2 c = search needs
-
-mul-wide-2 : tie.Need-mul-wide-2
-mul-wide-2 c = search needs
-
-slice-read-wide-2 : tie.Need-slice-read-wide-2
-slice-read-wide-2 c = search needs
-
-wide-requires-2 : tie.Need-wide-requires-2
-wide-requires-2 c κs = search needs
-
-mul-link : tie.Need-mul-link
-mul-link c = search needs
-
 link-requires : tie.Need-link-requires
 link-requires c κs =
     let w2 = c .before in
@@ -50,12 +17,6 @@ link-requires c κs =
     can-link-first (a .w .now) (a .s) (a .p) (t .pre .0) (t .pre .1) (t .pre .3) (a .i) (t .pre .2) (t .pre .4) (w1 .wide .result) (w2 .wide2 .result)
     (w1 .wide .ensures ∙ ap (λ (x : ℕ). getD (a .w .now) (x + a .i) 0) (fu .front-u-at .ensures))
     (w2 .wide2 .ensures ∙ ap (λ (x : ℕ). getD (a .w .now) (x + a .i) 0) (fv .front-v-at .ensures))
-
-mul-link-2 : tie.Need-mul-link-2
-mul-link-2 c = search needs
-
-add-link : tie.Need-add-link
-add-link c = search needs
 
 link-requires-2 : tie.Need-link-requires-2
 link-requires-2 c κs =
@@ -70,9 +31,6 @@ link-requires-2 c κs =
     (w1 .wide .ensures ∙ ap (λ (x : ℕ). getD (a .w .now) (x + a .i) 0) (fu .front-u-at .ensures))
     (w2 .wide2 .ensures ∙ ap (λ (x : ℕ). getD (a .w .now) (x + a .i) 0) (fv .front-v-at .ensures))
     (l1 .link .last .0) (l1 .link .kept .0)
-
-same-length : tie.Need-same-length
-same-length c = search needs
 
 returns : tie.Need-returns
 returns c =
@@ -94,20 +52,6 @@ pub link-edge-spec : {M : Type 1} → statement M
 link-edge-spec =
     tie.close
     (tie.spec
-    front-u-at-requires
-    add-wide
-    mul-wide
-    slice-read-wide
-    wide-requires
-    front-v-at-requires
-    add-wide-2
-    mul-wide-2
-    slice-read-wide-2
-    wide-requires-2
-    mul-link
-    link-requires
-    mul-link-2
-    add-link
-    link-requires-2
-    same-length
-    returns)
+    (λ c κs. search needs) (λ c. search needs) (λ c. search needs) (λ c. search needs) (λ c κs. search needs) (λ c κs. search needs) (λ c. search needs)
+    (λ c. search needs) (λ c. search needs) (λ c κs. search needs) (λ c. search needs) link-requires (λ c. search needs) (λ c. search needs)
+    link-requires-2 (λ c. search needs) returns)

@@ -7,21 +7,6 @@ use borrow.Author.Needs.{needs}
 use Rattle.loops.proofs.links.list_edges.Statement.{statement}
 use Rattle.loops.proofs.links.list_edges.Tie as tie
 
-front-used-at-requires : tie.Need-front-used-at-requires
-front-used-at-requires c κs = search needs
-
-fill-requires : tie.Need-fill-requires
-fill-requires c κs = search needs
-
-heads-at-requires : tie.Need-heads-at-requires
-heads-at-requires c κs = search needs
-
-cast-fill : tie.Need-cast-fill
-cast-fill c = search needs
-
-fill-requires-2 : tie.Need-fill-requires-2
-fill-requires-2 c κs = search needs
-
 link-all-requires : tie.Need-link-all-requires
 link-all-requires c κs =
     let f2 = c .before .before .before in
@@ -36,9 +21,6 @@ link-all-requires c κs =
     let x : Filled w w1 (front-used-at (a .s) (a .p)) (a .k) 0 = subst (λ (i : ℕ). Filled w w1 i (a .k) 0) (u .front-used-at .ensures) (f1 .fill .ensures) in
     let y : Filled w1 w2 (heads-at (a .s) (a .p)) (a .n) (a .k) = subst (λ (i : ℕ). Filled w1 w2 i (a .n) (a .k)) (h .heads-at .ensures) (f2 .fill2 .ensures) in
     (a .n, t .pre .0, cleared w w1 w2 (a .s) (a .p) (a .n) (a .k) (t .pre .0) (t .pre .1) x y)
-
-same-length : tie.Need-same-length
-same-length c = search needs
 
 returns : tie.Need-returns
 returns c =
@@ -61,11 +43,5 @@ pub list-edges-spec : {M : Type 1} → statement M
 list-edges-spec =
     tie.close
     (tie.spec
-    front-used-at-requires
-    fill-requires
-    heads-at-requires
-    cast-fill
-    fill-requires-2
-    link-all-requires
-    same-length
+    (λ c κs. search needs) (λ c κs. search needs) (λ c κs. search needs) (λ c. search needs) (λ c κs. search needs) link-all-requires (λ c. search needs)
     returns)

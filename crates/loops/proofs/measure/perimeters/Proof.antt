@@ -25,9 +25,6 @@ loop-holds c =
     let a = c .before .before .before .args in
     (refl, λ m ls o. measuring-start (a .w .now) (a .q .now) (a .f .now) (a .s) (a .p) (a .k) (a .r) m ls o)
 
-starts-at-requires : tie.Need-starts-at-requires Inv-loop μ-loop
-starts-at-requires c κs = search needs
-
 add-wide : tie.Need-add-wide Inv-loop μ-loop
 add-wide c =
     let h = c .before in
@@ -70,9 +67,6 @@ shared-slice-read-wide c =
     let g = x .inv .1 m ls o in
     let few = loops-room (a .w .now) (a .q .now) (a .f .now) (a .s) (a .p) (a .k) (a .r) m ls o in
     omega (arith, h .loop-test .taken, few, o .room .fits, st .starts-at .ensures)
-
-wide-requires : tie.Need-wide-requires Inv-loop μ-loop
-wide-requires c κs = search needs
 
 end-of-requires : tie.Need-end-of-requires Inv-loop μ-loop
 end-of-requires c κs =
@@ -178,20 +172,5 @@ pub perimeters-spec : {M : Type 1} → statement M
 perimeters-spec =
     tie.close
     (tie.spec
-    Inv-loop
-    μ-loop
-    loop-holds
-    starts-at-requires
-    add-wide
-    mul-wide
-    shared-slice-read-wide
-    wide-requires
-    end-of-requires
-    perimeter-requires
-    mul-f
-    slice-write-f
-    add-j
-    loop-less
-    loop-again
-    same-length
-    returns)
+    Inv-loop μ-loop loop-holds (λ c κs. search needs) add-wide mul-wide shared-slice-read-wide (λ c κs. search needs) end-of-requires perimeter-requires
+    mul-f slice-write-f add-j loop-less loop-again same-length returns)

@@ -8,24 +8,6 @@ use borrow.Author.Needs.{needs}
 use Rattle.loops.proofs.sift.is_open_at.Statement.{statement}
 use Rattle.loops.proofs.sift.is_open_at.Tie as tie
 
-order-at-requires : tie.Need-order-at-requires
-order-at-requires c κs = search needs
-
-add-wide : tie.Need-add-wide
-add-wide c = search needs
-
-mul-wide : tie.Need-mul-wide
-mul-wide c = search needs
-
-shared-slice-read-wide : tie.Need-shared-slice-read-wide
-shared-slice-read-wide c = search needs
-
-wide-requires : tie.Need-wide-requires
-wide-requires c κs = search needs
-
-front-u-at-requires : tie.Need-front-u-at-requires
-front-u-at-requires c κs = search needs
-
 add-wide-2 : tie.Need-add-wide-2
 add-wide-2 c =
     let d1 = c .before in
@@ -60,12 +42,6 @@ shared-slice-read-wide-2 c =
     let n = number-low (a .w .now) (a .s) (a .p) (a .i) (t .pre .0) k (d1 .wide .result) qc in
     omega (arith, n, k .room .fits, fu .front-u-at .ensures)
 
-wide-requires-2 : tie.Need-wide-requires-2
-wide-requires-2 c κs = search needs
-
-front-v-at-requires : tie.Need-front-v-at-requires
-front-v-at-requires c κs = search needs
-
 add-wide-3 : tie.Need-add-wide-3
 add-wide-3 c =
     let d1 = c .before .before .before .before in
@@ -99,15 +75,6 @@ shared-slice-read-wide-3 c =
     let qc = d1 .wide .ensures ∙ ap (λ (x : ℕ). getD (a .w .now) (x + a .i) 0) (oa .order-at .ensures) in
     let n = number-low (a .w .now) (a .s) (a .p) (a .i) (t .pre .0) k (d1 .wide .result) qc in
     omega (arith, n, k .room .fits, fv .front-v-at .ensures)
-
-wide-requires-3 : tie.Need-wide-requires-3
-wide-requires-3 c κs = search needs
-
-refused-at-requires : tie.Need-refused-at-requires
-refused-at-requires c κs = search needs
-
-mul-is-blocked : tie.Need-mul-is-blocked
-mul-is-blocked c = search needs
 
 is-blocked-requires : tie.Need-is-blocked-requires
 is-blocked-requires c κs =
@@ -150,22 +117,6 @@ pub is-open-at-spec : {M : Type 1} → statement M
 is-open-at-spec =
     tie.close
     (tie.spec
-    order-at-requires
-    add-wide
-    mul-wide
-    shared-slice-read-wide
-    wide-requires
-    front-u-at-requires
-    add-wide-2
-    mul-wide-2
-    shared-slice-read-wide-2
-    wide-requires-2
-    front-v-at-requires
-    add-wide-3
-    mul-wide-3
-    shared-slice-read-wide-3
-    wide-requires-3
-    refused-at-requires
-    mul-is-blocked
-    is-blocked-requires
-    returns)
+    (λ c κs. search needs) (λ c. search needs) (λ c. search needs) (λ c. search needs) (λ c κs. search needs) (λ c κs. search needs) add-wide-2 mul-wide-2
+    shared-slice-read-wide-2 (λ c κs. search needs) (λ c κs. search needs) add-wide-3 mul-wide-3 shared-slice-read-wide-3 (λ c κs. search needs)
+    (λ c κs. search needs) (λ c. search needs) is-blocked-requires returns)

@@ -6,24 +6,6 @@ use borrow.Author.Needs.{needs}
 use Rattle.loops.proofs.sift.sift_one.Statement.{statement}
 use Rattle.loops.proofs.sift.sift_one.Tie as tie
 
-starts-at-requires : tie.Need-starts-at-requires
-starts-at-requires c κs = search needs
-
-add-wide : tie.Need-add-wide
-add-wide c = search needs
-
-mul-wide : tie.Need-mul-wide
-mul-wide c = search needs
-
-slice-read-wide : tie.Need-slice-read-wide
-slice-read-wide c = search needs
-
-wide-requires : tie.Need-wide-requires
-wide-requires c κs = search needs
-
-end-of-requires : tie.Need-end-of-requires
-end-of-requires c κs = search needs
-
 any-open-requires : tie.Need-any-open-requires
 any-open-requires c κs =
     let en = c .before in
@@ -33,9 +15,6 @@ any-open-requires c κs =
     let a = t .args in
     let qb = d .wide .ensures ∙ ap (λ (z : ℕ). getD (a .w .now) (z + a .j) 0) (st .starts-at .ensures) in
     (t .pre .4, t .pre .2, sift-loop (a .w .now) (a .s) (a .p) (t .pre .0) (a .k) (a .r) (a .j) (a .x .loops) (a .x .edges) (t .pre .1) (t .pre .2) (t .pre .3) (t .pre .4) (t .pre .5) (d .wide .result) (en .end-of .result) qb (en .end-of .ensures))
-
-same-length : tie.Need-same-length
-same-length c = search needs
 
 returns : tie.Need-returns
 returns c =
@@ -60,9 +39,6 @@ keep-requires c κs =
     let qb = d .wide .ensures ∙ ap (λ (z : ℕ). getD (a .w .now) (z + a .j) 0) (st .starts-at .ensures) in
     sift-can-keep (a .w .now) (a .s) (a .p) (t .pre .0) (a .k) (a .r) (a .j) (a .x .loops) (a .x .edges) (t .pre .1) (t .pre .2) (t .pre .3) (t .pre .4) (t .pre .5) (d .wide .result) (en .end-of .result) qb (en .end-of .ensures)
 
-same-length-2 : tie.Need-same-length-2
-same-length-2 c = search needs
-
 returns-2 : tie.Need-returns-2
 returns-2 c =
     let kp = c .before .before in
@@ -82,15 +58,5 @@ pub sift-one-spec : {M : Type 1} → statement M
 sift-one-spec =
     tie.close
     (tie.spec
-    starts-at-requires
-    add-wide
-    mul-wide
-    slice-read-wide
-    wide-requires
-    end-of-requires
-    any-open-requires
-    same-length
-    returns
-    keep-requires
-    same-length-2
-    returns-2)
+    (λ c κs. search needs) (λ c. search needs) (λ c. search needs) (λ c. search needs) (λ c κs. search needs) (λ c κs. search needs) any-open-requires
+    (λ c. search needs) returns keep-requires (λ c. search needs) returns-2)

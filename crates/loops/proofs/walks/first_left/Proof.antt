@@ -20,24 +20,6 @@ Inv-loop w s p k v used c₀ c = (used ≡ front-used-at s p) × ((n : ℕ) (es 
 abbrev μ-loop : tie.MeasureT-loop
 μ-loop w s p k v used c₀ c = k - c
 
-front-used-at-requires : tie.Need-front-used-at-requires Inv-loop μ-loop
-front-used-at-requires c κs = search needs
-
-heads-at-requires : tie.Need-heads-at-requires Inv-loop μ-loop
-heads-at-requires c κs = search needs
-
-add-wide : tie.Need-add-wide Inv-loop μ-loop
-add-wide c = search needs
-
-mul-wide : tie.Need-mul-wide Inv-loop μ-loop
-mul-wide c = search needs
-
-shared-slice-read-wide : tie.Need-shared-slice-read-wide Inv-loop μ-loop
-shared-slice-read-wide c = search needs
-
-wide-requires : tie.Need-wide-requires Inv-loop μ-loop
-wide-requires c κs = search needs
-
 loop-holds : tie.Need-loop-holds Inv-loop μ-loop
 loop-holds c =
     let h = c .before .before in
@@ -48,15 +30,6 @@ loop-holds c =
           seeking-start (a .w .now) (a .s) (a .p) (a .k) (a .v) (c .wide .result) es
           (c .wide .ensures ∙ ap (λ (x : ℕ). getD (a .w .now) (x + a .v) 0) (h .heads-at .ensures) ∙ r .lists .heads (a .v) k),
     )
-
-add-if1 : tie.Need-add-if1 Inv-loop μ-loop
-add-if1 c = search needs
-
-mul-if1 : tie.Need-mul-if1 Inv-loop μ-loop
-mul-if1 c = search needs
-
-shared-slice-read-if1 : tie.Need-shared-slice-read-if1 Inv-loop μ-loop
-shared-slice-read-if1 c = search needs
 
 returns : tie.Need-returns Inv-loop μ-loop
 returns c =
@@ -127,20 +100,5 @@ pub first-left-spec : {M : Type 1} → statement M
 first-left-spec =
     tie.close
     (tie.spec
-    Inv-loop
-    μ-loop
-    front-used-at-requires
-    heads-at-requires
-    add-wide
-    mul-wide
-    shared-slice-read-wide
-    wide-requires
-    loop-holds
-    add-if1
-    mul-if1
-    shared-slice-read-if1
-    returns
-    next-at-requires
-    loop-less
-    loop-again
-    returns-2)
+    Inv-loop μ-loop (λ c κs. search needs) (λ c κs. search needs) (λ c. search needs) (λ c. search needs) (λ c. search needs) (λ c κs. search needs)
+    loop-holds (λ c. search needs) (λ c. search needs) (λ c. search needs) returns next-at-requires loop-less loop-again returns-2)

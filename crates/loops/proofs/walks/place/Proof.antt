@@ -7,24 +7,6 @@ use borrow.Author.Needs.{needs}
 use Rattle.loops.proofs.walks.place.Statement.{statement}
 use Rattle.loops.proofs.walks.place.Tie as tie
 
-front-used-at-requires : tie.Need-front-used-at-requires
-front-used-at-requires c κs = search needs
-
-add-w : tie.Need-add-w
-add-w c = search needs
-
-mul-w : tie.Need-mul-w
-mul-w c = search needs
-
-slice-write-w : tie.Need-slice-write-w
-slice-write-w c = search needs
-
-cast-w : tie.Need-cast-w
-cast-w c = search needs
-
-order-at-requires : tie.Need-order-at-requires
-order-at-requires c κs = search needs
-
 add-w-2 : tie.Need-add-w-2
 add-w-2 c =
     let t = c .before .before .before in
@@ -32,18 +14,12 @@ add-w-2 c =
     let q = t .pre .4 in
     omega (arith, place-room (a .w .now) (a .w .now) (a .s) (a .p) (t .pre .0) (t .pre .1) (a .b) (a .c) (t .pre .2) (t .pre .3) q, q .placed .ready .front .at .few, q .placed .ready .front .room .small, c .order-at .ensures)
 
-mul-w-2 : tie.Need-mul-w-2
-mul-w-2 c = search needs
-
 slice-write-w-2 : tie.Need-slice-write-w-2
 slice-write-w-2 c =
     let t = c .before .before .before in
     let a = t .args in
     let q = t .pre .4 in
     simp length-set (omega (arith, place-room (a .w .now) (a .w .now) (a .s) (a .p) (t .pre .0) (t .pre .1) (a .b) (a .c) (t .pre .2) (t .pre .3) q, q .placed .ready .front .at .few, q .placed .ready .front .room .fits, c .order-at .ensures))
-
-same-length : tie.Need-same-length
-same-length c = search needs
 
 returns : tie.Need-returns
 returns c =
@@ -61,14 +37,5 @@ pub place-spec : {M : Type 1} → statement M
 place-spec =
     tie.close
     (tie.spec
-    front-used-at-requires
-    add-w
-    mul-w
-    slice-write-w
-    cast-w
-    order-at-requires
-    add-w-2
-    mul-w-2
-    slice-write-w-2
-    same-length
-    returns)
+    (λ c κs. search needs) (λ c. search needs) (λ c. search needs) (λ c. search needs) (λ c. search needs) (λ c κs. search needs) add-w-2
+    (λ c. search needs) slice-write-w-2 (λ c. search needs) returns)

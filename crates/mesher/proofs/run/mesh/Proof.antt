@@ -36,12 +36,6 @@ build-requires c κs =
     let a = t .args in
     mesh-build (a .points .now) (a .triangles .now) (a .quads .now) (a .work .now) (a .float-work .now) (stated t) (t .pre .0) (t .pre .1)
 
-new-requires : tie.Need-new-requires
-new-requires c κs = search needs
-
-bucket-of-requires : tie.Need-bucket-of-requires
-bucket-of-requires c κs = search needs
-
 -- no more triangles than a call may have
 few : (t : tie.Start) → t .args .count ≤ 4096
 few t = passed (stated t) (t .pre .0) (t .pre .1 .passed) .limited .count
@@ -59,18 +53,6 @@ front-loop-requires c κs =
     let l = t .pre .0 in
     (given-tris (stated t) l, given-points (stated t) l, can-run b l (t .pre .1))
 
-same-length : tie.Need-same-length
-same-length c = search needs
-
-same-length-2 : tie.Need-same-length-2
-same-length-2 c = search needs
-
-same-length-3 : tie.Need-same-length-3
-same-length-3 c = search needs
-
-same-length-4 : tie.Need-same-length-4
-same-length-4 c = search needs
-
 returns : tie.Need-returns
 returns c =
     let f = c .before .before .before .before .before .before .before .before in
@@ -86,14 +68,5 @@ pub mesh-spec : {M : Type 1} → statement M
 mesh-spec =
     tie.close
     (tie.spec
-    build-requires
-    new-requires
-    bucket-of-requires
-    mul-attempts
-    add-attempts
-    front-loop-requires
-    same-length
-    same-length-2
-    same-length-3
-    same-length-4
-    returns)
+    build-requires (λ c κs. search needs) (λ c κs. search needs) mul-attempts add-attempts front-loop-requires (λ c. search needs) (λ c. search needs)
+    (λ c. search needs) (λ c. search needs) returns)

@@ -1,10 +1,8 @@
 -- The loop's invariant: the memory stands for every mesh of the first i triangles. The measure is how many are left.
-use mathlib.Core.Path.{_≡_, refl, ap, sym, _∙_, subst}
-use mathlib.Core.List.{List, [], _∷_, _++_}
-use Prim.Native.Nat.{ℕ, suc, _+_, _-_, _*_, _/_, _<_, _≤_}
+use mathlib.Core.Path.{_≡_, _∙_}
+use Prim.Native.Nat.{_-_, _≤_}
 use native.Mathlib.Omega.{arith}
 use borrow.Author.Needs.{needs}
-use lib.ListN.{length, getD, set, length-set}
 use Rattle.definition.specs.Cells.{Mesh}
 use Rattle.cells.specs.Layout.{mesh-end}
 use Rattle.cells.specs.Rep.{Rep}
@@ -14,11 +12,6 @@ use Rattle.cells.proofs.Frames.{keeps-refl, keeps-trans}
 use Rattle.meshes.proofs.Builds.{sample, sample-new, build-can, build-more, new-none}
 use Rattle.meshes.proofs.build.build.Statement.{statement}
 use Rattle.meshes.proofs.build.build.Tie as tie
-use Rattle.meshes.proofs.build.build.Reads as reads
-use Rattle.meshes.proofs.build.build.Lts as lts
-use Rattle.meshes.proofs.build.empty.Reads as empty-reads
-use Rattle.meshes.proofs.store.push_tri.Reads as push-tri-reads
-use Rattle.rings.proofs.wide.Reads as wide-reads
 
 abbrev Inv-loop : tie.InvT-loop
 Inv-loop w₀ triangles s p n g i₀ w i = (i ≤ n) × Keeps w₀ w (mesh-end s p) × ((m : Mesh) → IsNew m triangles i g → Rep w s p m)
@@ -26,12 +19,10 @@ Inv-loop w₀ triangles s p n g i₀ w i = (i ≤ n) × Keeps w₀ w (mesh-end s
 abbrev μ-loop : tie.MeasureT-loop
 μ-loop w₀ triangles s p n g i₀ w i = n - i
 
--- src/build.rt:23:5
 empty-requires : tie.Need-empty-requires Inv-loop μ-loop
 empty-requires c κs =
     c .before .before .before .pre .room
 
--- src/build.rt:25:5
 loop-holds : tie.Need-loop-holds Inv-loop μ-loop
 loop-holds c =
     let t = c .before .before .before .before .before .before in
@@ -42,71 +33,38 @@ loop-holds c =
           c .before .before .empty .ensures .rep m (omega (arith, k .used)) (omega (arith, k .points, t .pre .points)) (new-none m (a .triangles .now) (a .g) k),
     )
 
--- src/build.rt:26:32
 mul-wide : tie.Need-mul-wide Inv-loop μ-loop
 mul-wide c =
     omega (arith, c .before .before .before .before .before .before .before .before .pre .long, c .loop-test .taken)
 
--- src/build.rt:26:22
-mul-wide-2 : tie.Need-mul-wide-2 Inv-loop μ-loop
-mul-wide-2 c = search needs
-
--- src/build.rt:26:22
 shared-slice-read-wide : tie.Need-shared-slice-read-wide Inv-loop μ-loop
 shared-slice-read-wide c =
     omega (arith, c .before .before .before .before .before .before .before .before .before .pre .long, c .before .loop-test .taken)
 
--- src/build.rt:26:13
-wide-requires : tie.Need-wide-requires Inv-loop μ-loop
-wide-requires c κs = search needs
-
--- src/build.rt:27:32
 mul-wide-3 : tie.Need-mul-wide-3 Inv-loop μ-loop
 mul-wide-3 c =
     omega (arith, c .before .before .before .before .before .before .before .before .before .before .pre .long, c .before .before .loop-test .taken)
 
--- src/build.rt:27:32
 add-wide : tie.Need-add-wide Inv-loop μ-loop
 add-wide c =
     omega (arith, c .before .before .before .before .before .before .before .before .before .before .pre .long, c .before .before .loop-test .taken)
 
--- src/build.rt:27:22
-mul-wide-4 : tie.Need-mul-wide-4 Inv-loop μ-loop
-mul-wide-4 c = search needs
-
--- src/build.rt:27:22
 shared-slice-read-wide-2 : tie.Need-shared-slice-read-wide-2 Inv-loop μ-loop
 shared-slice-read-wide-2 c =
     omega (arith, c .before .before .before .before .before .before .before .before .before .before .before .pre .long, c .before .before .before .loop-test .taken)
 
--- src/build.rt:27:13
-wide-requires-2 : tie.Need-wide-requires-2 Inv-loop μ-loop
-wide-requires-2 c κs = search needs
-
--- src/build.rt:28:32
 mul-wide-5 : tie.Need-mul-wide-5 Inv-loop μ-loop
 mul-wide-5 c =
     omega (arith, c .before .before .before .before .before .before .before .before .before .before .before .before .pre .long, c .before .before .before .before .loop-test .taken)
 
--- src/build.rt:28:32
 add-wide-2 : tie.Need-add-wide-2 Inv-loop μ-loop
 add-wide-2 c =
     omega (arith, c .before .before .before .before .before .before .before .before .before .before .before .before .pre .long, c .before .before .before .before .loop-test .taken)
 
--- src/build.rt:28:22
-mul-wide-6 : tie.Need-mul-wide-6 Inv-loop μ-loop
-mul-wide-6 c = search needs
-
--- src/build.rt:28:22
 shared-slice-read-wide-3 : tie.Need-shared-slice-read-wide-3 Inv-loop μ-loop
 shared-slice-read-wide-3 c =
     omega (arith, c .before .before .before .before .before .before .before .before .before .before .before .before .before .pre .long, c .before .before .before .before .before .loop-test .taken)
 
--- src/build.rt:28:13
-wide-requires-3 : tie.Need-wide-requires-3 Inv-loop μ-loop
-wide-requires-3 c κs = search needs
-
--- src/build.rt:29:9
 push-tri-requires : tie.Need-push-tri-requires Inv-loop μ-loop
 push-tri-requires c κs =
     let t = c .before .before .before .before .before .before .before .before .before .before .before .before .before .before .before in
@@ -116,17 +74,14 @@ push-tri-requires c κs =
     let k = sample-new (a .triangles .now) (x .i) (a .g) in
     (m, x .inv .2 m k, build-can (a .w .now) (a .s) (a .p) (a .triangles .now) (a .n) (a .g) (x .i) (c .before .before .before .before .before .wide .result) (c .before .before .before .wide2 .result) (c .before .wide3 .result) (t .pre) (c .before .before .before .before .before .before .before .loop-test .taken) (c .before .before .before .before .before .wide .ensures) (c .before .before .before .wide2 .ensures) (c .before .wide3 .ensures) m k)
 
--- src/build.rt:30:9
 add-i : tie.Need-add-i Inv-loop μ-loop
 add-i c =
     omega (arith, c .before .before .before .before .before .before .before .before .before .before .loop-test .taken)
 
--- src/build.rt:25:5
 loop-less : tie.Need-loop-less Inv-loop μ-loop
 loop-less c =
     omega (arith, c .before .before .before .before .before .before .before .before .before .before .loop-test .taken)
 
--- src/build.rt:25:5
 loop-again : tie.Need-loop-again Inv-loop μ-loop
 loop-again c =
     let t = c .before .before .before .before .before .before .before .before .before .before .before .before .before .before .before .before .before .before in
@@ -138,12 +93,10 @@ loop-again c =
       build-more (a .w .now) (a .s) (a .p) (a .triangles .now) (a .n) (a .g) (x .i) (c .before .before .before .before .before .before .before .before .wide .result) (c .before .before .before .before .before .before .wide2 .result) (c .before .before .before .before .wide3 .result) (t .pre) (c .before .before .before .before .before .before .before .before .before .before .loop-test .taken) (c .before .before .before .before .before .before .before .before .wide .ensures) (c .before .before .before .before .before .before .wide2 .ensures) (c .before .before .before .before .wide3 .ensures) (x .w) (q .last .0) (x .inv .2) (q .ensures),
     )
 
--- src/build.rt:19:1
 same-length : tie.Need-same-length Inv-loop μ-loop
 same-length c =
     c .before .loop .inv .1 .len ∙ c .before .before .before .before .empty .ensures .keeps .len
 
--- src/build.rt:19:1
 returns : tie.Need-returns Inv-loop μ-loop
 returns c =
     let t = c .before .before .before .before .before .before .before .before in
@@ -159,27 +112,6 @@ pub build-spec : {M : Type 1} → statement M
 build-spec =
     tie.close
     (tie.spec
-    Inv-loop
-    μ-loop
-    empty-requires
-    loop-holds
-    mul-wide
-    mul-wide-2
-    shared-slice-read-wide
-    wide-requires
-    mul-wide-3
-    add-wide
-    mul-wide-4
-    shared-slice-read-wide-2
-    wide-requires-2
-    mul-wide-5
-    add-wide-2
-    mul-wide-6
-    shared-slice-read-wide-3
-    wide-requires-3
-    push-tri-requires
-    add-i
-    loop-less
-    loop-again
-    same-length
-    returns)
+    Inv-loop μ-loop empty-requires loop-holds mul-wide (λ c. search needs) shared-slice-read-wide (λ c κs. search needs) mul-wide-3 add-wide
+    (λ c. search needs) shared-slice-read-wide-2 (λ c κs. search needs) mul-wide-5 add-wide-2 (λ c. search needs) shared-slice-read-wide-3
+    (λ c κs. search needs) push-tri-requires add-i loop-less loop-again same-length returns)

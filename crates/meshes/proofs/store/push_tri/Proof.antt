@@ -1,22 +1,14 @@
 -- What was noted of the components is forgotten; a push puts the cell into the next slot.
-use mathlib.Core.Path.{_≡_, refl, ap, sym, _∙_, subst}
-use mathlib.Core.List.{List, [], _∷_, _++_}
-use Prim.Native.Nat.{ℕ, suc, _+_, _-_, _*_, _/_, _<_, _≤_}
+use mathlib.Core.Path.{_∙_}
+use Prim.Native.Nat.{suc, _≤_}
 use native.Mathlib.Omega.{arith}
-use borrow.Author.Needs.{needs}
-use lib.ListN.{length, getD, set, length-set}
-use Rattle.definition.specs.Cells.{Mesh, remove-cell}
 use Rattle.cells.specs.Layout.{mesh-end}
 use Rattle.cells.proofs.Frames.{keeps-trans}
-use Rattle.meshes.specs.Changes.{tri-of-nodes, quad-of-nodes}
+use Rattle.meshes.specs.Changes.{tri-of-nodes}
 use Rattle.meshes.proofs.Evens.{forgotten-rep, forgotten-none, forgotten-keeps, forgotten-length}
 use Rattle.meshes.proofs.Puts.{push-put, push-is}
 use Rattle.meshes.proofs.store.push_tri.Statement.{statement}
 use Rattle.meshes.proofs.store.push_tri.Tie as tie
-use Rattle.meshes.proofs.store.push_tri.Reads as reads
-use Rattle.meshes.proofs.store.push_tri.Lts as lts
-use Rattle.cells.proofs.evens.forget_even.Reads as forget-even-reads
-use Rattle.meshes.proofs.store.put_tri.Reads as put-tri-reads
 
 forget-even-requires : tie.Need-forget-even-requires
 forget-even-requires c κs =

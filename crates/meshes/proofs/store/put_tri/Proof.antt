@@ -1,30 +1,17 @@
 -- The kind is stored, then node after node is placed.
-use mathlib.Core.Path.{_≡_, refl, ap, sym, _∙_, subst}
-use mathlib.Core.List.{List, [], _∷_, _++_}
-use Prim.Native.Nat.{ℕ, suc, _+_, _-_, _*_, _/_, _<_, _≤_}
+use mathlib.Core.Path.{refl, _∙_}
+use mathlib.Core.List.{[], _∷_}
 use native.Mathlib.Omega.{arith}
 use borrow.Author.Needs.{needs}
-use lib.ListN.{length, getD, set, length-set}
-use Rattle.definition.specs.Cells.{Mesh, nodes, tri-nodes, quad-nodes, new-tri, new-quad}
+use lib.ListN.{set, length-set}
+use Rattle.definition.specs.Cells.{nodes, tri-nodes, new-tri}
 use Rattle.cells.specs.Layout.{fronts-at, mesh-end}
-use Rattle.meshes.specs.Changes.{tri-of-nodes, quad-of-nodes}
+use Rattle.meshes.specs.Changes.{tri-of-nodes}
 use Rattle.meshes.proofs.Puts.{put-start, put-done, known-at}
 use Rattle.cells.proofs.Frames.{keeps-set, keeps-trans, keeps-more}
 use Rattle.meshes.proofs.store.put_tri.Statement.{statement}
 use Rattle.meshes.proofs.store.put_tri.Tie as tie
-use Rattle.meshes.proofs.store.put_tri.Reads as reads
-use Rattle.meshes.proofs.store.put_tri.Lts as lts
-use Rattle.meshes.proofs.store.place.Reads as place-reads
 
--- src/store.rt:24:5
-mul-w : tie.Need-mul-w
-mul-w c = search needs
-
--- src/store.rt:24:5
-slice-write-w : tie.Need-slice-write-w
-slice-write-w c = search needs
-
--- src/store.rt:25:5
 place-requires : tie.Need-place-requires
 unfolding nodes tri-nodes new-tri
 place-requires c κs =
@@ -38,7 +25,6 @@ place-requires c κs =
     let f0 = put-start (a .w .now) (a .s) (a .p) (a .i) n m cell r o 3 in
     record { n = 3; m = m; ns = []; is = f0; many = refl; few = omega arith; node = known-at r o 0 (omega arith) }
 
--- src/store.rt:26:5
 place-requires-2 : tie.Need-place-requires-2
 unfolding nodes tri-nodes new-tri
 place-requires-2 c κs =
@@ -53,7 +39,6 @@ place-requires-2 c κs =
     let f1 = c .before .before .before .place .ensures .is 3 m [] f0 refl in
     record { n = 3; m = m; ns = a .a ∷ []; is = f1; many = refl; few = omega arith; node = known-at r o 1 (omega arith) }
 
--- src/store.rt:27:5
 place-requires-3 : tie.Need-place-requires-3
 unfolding nodes tri-nodes new-tri
 place-requires-3 c κs =
@@ -69,12 +54,10 @@ place-requires-3 c κs =
     let f2 = c .before .before .before .place2 .ensures .is 3 m (a .a ∷ []) f1 refl in
     record { n = 3; m = m; ns = a .a ∷ a .b ∷ []; is = f2; many = refl; few = omega arith; node = known-at r o 2 (omega arith) }
 
--- src/store.rt:20:1
 same-length : tie.Need-same-length
 same-length c =
     c .before .before .place3 .ensures .keeps .len ∙ c .before .before .before .before .before .before .place2 .ensures .keeps .len ∙ c .before .before .before .before .before .before .before .before .before .before .place .ensures .keeps .len ∙ simp length-set
 
--- src/store.rt:20:1
 returns : tie.Need-returns
 unfolding nodes tri-nodes new-tri
 returns c =
@@ -94,13 +77,4 @@ returns c =
     }
 
 pub put-tri-spec : {M : Type 1} → statement M
-put-tri-spec =
-    tie.close
-    (tie.spec
-    mul-w
-    slice-write-w
-    place-requires
-    place-requires-2
-    place-requires-3
-    same-length
-    returns)
+put-tri-spec = tie.close (tie.spec (λ c. search needs) (λ c. search needs) place-requires place-requires-2 place-requires-3 same-length returns)

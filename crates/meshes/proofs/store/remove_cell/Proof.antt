@@ -1,21 +1,12 @@
 -- What was noted of the components is forgotten, then the cell is taken out.
-use mathlib.Core.Path.{_≡_, refl, ap, sym, _∙_, subst}
-use mathlib.Core.List.{List, [], _∷_, _++_}
-use Prim.Native.Nat.{ℕ, suc, _+_, _-_, _*_, _/_, _<_, _≤_}
+use mathlib.Core.Path.{_∙_}
+use Prim.Native.Nat.{_≤_}
 use native.Mathlib.Omega.{arith}
-use borrow.Author.Needs.{needs}
-use lib.ListN.{length, getD, set, length-set}
-use Rattle.definition.specs.Cells.{Mesh, remove-cell}
 use Rattle.cells.specs.Layout.{mesh-end}
 use Rattle.cells.proofs.Frames.{keeps-trans}
-use Rattle.meshes.specs.Changes.{tri-of-nodes, quad-of-nodes}
 use Rattle.meshes.proofs.Evens.{forgotten-rep, forgotten-none, forgotten-keeps, forgotten-length}
 use Rattle.meshes.proofs.store.remove_cell.Statement.{statement}
 use Rattle.meshes.proofs.store.remove_cell.Tie as tie
-use Rattle.meshes.proofs.store.remove_cell.Reads as reads
-use Rattle.meshes.proofs.store.remove_cell.Lts as lts
-use Rattle.cells.proofs.evens.forget_even.Reads as forget-even-reads
-use Rattle.meshes.proofs.store.take_out.Reads as take-out-reads
 
 forget-even-requires : tie.Need-forget-even-requires
 forget-even-requires c κs =

@@ -1,23 +1,15 @@
 -- The old cell goes, then the new one is put into its slot.
-use mathlib.Core.Path.{_≡_, refl, ap, sym, _∙_, subst}
-use mathlib.Core.List.{List, [], _∷_, _++_}
-use Prim.Native.Nat.{ℕ, suc, _+_, _-_, _*_, _/_, _<_, _≤_}
+use mathlib.Core.Path.{_∙_}
+use Prim.Native.Nat.{_≤_}
 use native.Mathlib.Omega.{arith}
-use borrow.Author.Needs.{needs}
-use lib.ListN.{length, getD, set, length-set}
-use Rattle.definition.specs.Cells.{Mesh, remove-cell}
+use Rattle.definition.specs.Cells.{remove-cell}
 use Rattle.cells.specs.Layout.{mesh-end}
 use Rattle.cells.proofs.Frames.{keeps-trans}
-use Rattle.meshes.specs.Changes.{tri-of-nodes, quad-of-nodes}
+use Rattle.meshes.specs.Changes.{quad-of-nodes}
 use Rattle.meshes.proofs.Evens.{forgotten-rep, forgotten-none, forgotten-keeps, forgotten-length}
 use Rattle.meshes.proofs.Removes.{set-put, set-is}
 use Rattle.meshes.proofs.store.set_quad.Statement.{statement}
 use Rattle.meshes.proofs.store.set_quad.Tie as tie
-use Rattle.meshes.proofs.store.set_quad.Reads as reads
-use Rattle.meshes.proofs.store.set_quad.Lts as lts
-use Rattle.cells.proofs.evens.forget_even.Reads as forget-even-reads
-use Rattle.meshes.proofs.store.put_quad.Reads as put-quad-reads
-use Rattle.meshes.proofs.store.remove_cell.Reads as remove-cell-reads
 
 remove-cell-requires : tie.Need-remove-cell-requires
 remove-cell-requires c κs =

@@ -1,10 +1,9 @@
 -- The loop's invariant: the first k corners of the slot were taken out of their rings, and nothing is noted of their nodes. The measure is how many are left.
-use mathlib.Core.Path.{_≡_, refl, ap, sym, _∙_, subst}
-use mathlib.Core.List.{List, [], _∷_, _++_}
-use Prim.Native.Nat.{ℕ, suc, _+_, _-_, _*_, _/_, _<_, _≤_}
+use mathlib.Core.Path.{_≡_}
+use Prim.Native.Nat.{_-_, _≤_}
 use native.Mathlib.Omega.{arith}
 use borrow.Author.Needs.{needs}
-use lib.ListN.{length, getD, set, length-set}
+use lib.ListN.{getD, set, length-set}
 use Rattle.definition.specs.Cells.{Mesh}
 use Rattle.cells.specs.Layout.{rings-at, codes, fronts-at, mesh-end}
 use Rattle.cells.specs.Rep.{Rep}
@@ -13,11 +12,6 @@ use Rattle.meshes.proofs.Removes.{Lifting, lift-start, lift-can-forget,
 use Rattle.cells.proofs.Frames.{keeps-refl, keeps-trans, keeps-kept, keeps-more, keeps-set}
 use Rattle.meshes.proofs.store.take_out.Statement.{statement}
 use Rattle.meshes.proofs.store.take_out.Tie as tie
-use Rattle.meshes.proofs.store.take_out.Reads as reads
-use Rattle.meshes.proofs.store.take_out.Lts as lts
-use Rattle.meshes.proofs.store.forget.Reads as forget-reads
-use Rattle.rings.proofs.unlink.Reads as unlink-reads
-use Rattle.rings.proofs.wide.Reads as wide-reads
 
 abbrev Inv-loop : tie.InvT-loop
 Inv-loop w₀ s p i n k₀ w k =
@@ -26,26 +20,12 @@ Inv-loop w₀ s p i n k₀ w k =
 abbrev μ-loop : tie.MeasureT-loop
 μ-loop w₀ s p i n k₀ w k = n - k
 
--- src/store.rt:91:18
-mul-wide : tie.Need-mul-wide Inv-loop μ-loop
-mul-wide c = search needs
-
--- src/store.rt:91:18
-slice-read-wide : tie.Need-slice-read-wide Inv-loop μ-loop
-slice-read-wide c = search needs
-
--- src/store.rt:91:9
-wide-requires : tie.Need-wide-requires Inv-loop μ-loop
-wide-requires c κs = search needs
-
--- src/store.rt:93:5
 loop-holds : tie.Need-loop-holds Inv-loop μ-loop
 loop-holds c =
     let t = c .before .before .before in
     let a = t .args in
     (omega arith, keeps-refl (a .w .now) (fronts-at (a .s) (a .p)), λ m r. lift-start (a .w .now) (a .s) (a .p) (a .i) m r (t .pre .1 .0))
 
--- src/store.rt:94:28
 mul-wide-2 : tie.Need-mul-wide-2 Inv-loop μ-loop
 mul-wide-2 c =
     let t = c .before .before .before .before .before in
@@ -54,7 +34,6 @@ mul-wide-2 c =
     let q = kind-most (a .w .now) (a .s) (a .p) (a .i) (t .pre .0 .0) (t .pre .0 .1) (t .pre .1 .0) in
     omega (arith, x .inv .1 .len, t .pre .0 .1 .room .fits, t .pre .1 .0, c .before .before .wide .ensures, c .loop-test .taken)
 
--- src/store.rt:94:24
 add-wide : tie.Need-add-wide Inv-loop μ-loop
 add-wide c =
     let t = c .before .before .before .before .before in
@@ -63,7 +42,6 @@ add-wide c =
     let q = kind-most (a .w .now) (a .s) (a .p) (a .i) (t .pre .0 .0) (t .pre .0 .1) (t .pre .1 .0) in
     omega (arith, x .inv .1 .len, t .pre .0 .1 .room .fits, t .pre .1 .0, c .before .before .wide .ensures, c .loop-test .taken)
 
--- src/store.rt:94:24
 add-wide-2 : tie.Need-add-wide-2 Inv-loop μ-loop
 add-wide-2 c =
     let t = c .before .before .before .before .before in
@@ -72,7 +50,6 @@ add-wide-2 c =
     let q = kind-most (a .w .now) (a .s) (a .p) (a .i) (t .pre .0 .0) (t .pre .0 .1) (t .pre .1 .0) in
     omega (arith, x .inv .1 .len, t .pre .0 .1 .room .fits, t .pre .1 .0, c .before .before .wide .ensures, c .loop-test .taken)
 
--- src/store.rt:94:22
 mul-wide-3 : tie.Need-mul-wide-3 Inv-loop μ-loop
 mul-wide-3 c =
     let t = c .before .before .before .before .before in
@@ -81,7 +58,6 @@ mul-wide-3 c =
     let q = kind-most (a .w .now) (a .s) (a .p) (a .i) (t .pre .0 .0) (t .pre .0 .1) (t .pre .1 .0) in
     omega (arith, x .inv .1 .len, t .pre .0 .1 .room .fits, t .pre .1 .0, c .before .before .wide .ensures, c .loop-test .taken)
 
--- src/store.rt:94:22
 slice-read-wide-2 : tie.Need-slice-read-wide-2 Inv-loop μ-loop
 slice-read-wide-2 c =
     let t = c .before .before .before .before .before .before in
@@ -90,11 +66,6 @@ slice-read-wide-2 c =
     let q = kind-most (a .w .now) (a .s) (a .p) (a .i) (t .pre .0 .0) (t .pre .0 .1) (t .pre .1 .0) in
     omega (arith, x .inv .1 .len, t .pre .0 .1 .room .fits, t .pre .1 .0, c .before .before .before .wide .ensures, c .before .loop-test .taken)
 
--- src/store.rt:94:13
-wide-requires-2 : tie.Need-wide-requires-2 Inv-loop μ-loop
-wide-requires-2 c κs = search needs
-
--- src/store.rt:95:9
 forget-requires : tie.Need-forget-requires Inv-loop μ-loop
 forget-requires c κs =
     let t = c .before .before .before .before .before .before .before .before in
@@ -105,27 +76,22 @@ forget-requires c κs =
     lift-can-forget (a .w .now) (a .s) (a .p) (a .i) m (t .pre .0 .1) (t .pre .1 .0) (x .w) (x .k) (x .inv .2 m (t .pre .0 .1)) (omega (arith, c .before .before .before .before .before .wide .ensures, c .before .before .before .loop-test .taken))
     (y .result) (y .ensures)
 
--- src/store.rt:96:19
 mul-unlink : tie.Need-mul-unlink Inv-loop μ-loop
 mul-unlink c =
     omega (arith, c .before .before .before .before .before .before .before .before .loop .inv .1 .len, c .before .before .before .before .before .before .before .before .before .before .before .before .pre .0 .1 .room .fits)
 
--- src/store.rt:96:31
 mul-unlink-2 : tie.Need-mul-unlink-2 Inv-loop μ-loop
 mul-unlink-2 c =
     omega (arith, c .before .before .before .before .before .before .before .before .loop .inv .1 .len, c .before .before .before .before .before .before .before .before .before .before .before .before .pre .0 .1 .room .fits)
 
--- src/store.rt:96:31
 add-unlink : tie.Need-add-unlink Inv-loop μ-loop
 add-unlink c =
     omega (arith, c .before .before .before .before .before .before .before .before .loop .inv .1 .len, c .before .before .before .before .before .before .before .before .before .before .before .before .pre .0 .1 .room .fits)
 
--- src/store.rt:96:48
 mul-unlink-3 : tie.Need-mul-unlink-3 Inv-loop μ-loop
 mul-unlink-3 c =
     omega (arith, c .before .before .before .before .before .before .before .before .loop .inv .1 .len, c .before .before .before .before .before .before .before .before .before .before .before .before .pre .0 .1 .room .fits)
 
--- src/store.rt:96:48
 add-unlink-2 : tie.Need-add-unlink-2 Inv-loop μ-loop
 add-unlink-2 c =
     let t = c .before .before .before .before .before .before .before .before .before .before .before .before in
@@ -133,7 +99,6 @@ add-unlink-2 c =
     let q = kind-most (a .w .now) (a .s) (a .p) (a .i) (t .pre .0 .0) (t .pre .0 .1) (t .pre .1 .0) in
     omega (arith, t .pre .0 .1 .room .fits, c .before .before .before .before .before .before .before .before .before .wide .ensures, c .before .before .before .before .before .before .before .loop-test .taken)
 
--- src/store.rt:96:9
 unlink-requires : tie.Need-unlink-requires Inv-loop μ-loop
 unlink-requires c κs =
     let t = c .before .before .before .before .before .before .before .before .before .before .before .before in
@@ -145,17 +110,14 @@ unlink-requires c κs =
     lift-can (a .w .now) (a .s) (a .p) (a .i) m (t .pre .0 .1) (t .pre .1 .0) (x .w) (x .k) (x .inv .2 m (t .pre .0 .1)) (omega (arith, c .before .before .before .before .before .before .before .before .before .wide .ensures, c .before .before .before .before .before .before .before .loop-test .taken))
     (g .last .0) (y .result) (y .ensures) (g .ensures)
 
--- src/store.rt:97:9
 add-k : tie.Need-add-k Inv-loop μ-loop
 add-k c =
     omega (arith, c .before .before .before .before .before .before .before .before .before .before .loop-test .taken)
 
--- src/store.rt:93:5
 loop-less : tie.Need-loop-less Inv-loop μ-loop
 loop-less c =
     omega (arith, c .before .before .before .before .before .before .before .before .before .before .loop-test .taken)
 
--- src/store.rt:93:5
 loop-again : tie.Need-loop-again Inv-loop μ-loop
 loop-again c =
     let t = c .before .before .before .before .before .before .before .before .before .before .before .before .before .before .before in
@@ -173,20 +135,13 @@ loop-again c =
           (g .last .0) (y .result) (y .ensures) (g .ensures) (q .last .0) (q .ensures),
     )
 
--- src/store.rt:99:5
-mul-w : tie.Need-mul-w Inv-loop μ-loop
-mul-w c = search needs
-
--- src/store.rt:99:5
 slice-write-w : tie.Need-slice-write-w Inv-loop μ-loop
 slice-write-w c =
     omega (arith, c .before .loop .inv .1 .len, c .before .before .before .before .before .pre .0 .1 .room .fits, c .before .before .before .before .before .pre .1 .0)
 
--- src/store.rt:86:1
 same-length : tie.Need-same-length Inv-loop μ-loop
 same-length c = simp length-set (c .before .loop .inv .1 .len)
 
--- src/store.rt:86:1
 returns : tie.Need-returns Inv-loop μ-loop
 returns c =
     let t = c .before .before .before .before .before in
@@ -204,29 +159,6 @@ pub take-out-spec : {M : Type 1} → statement M
 take-out-spec =
     tie.close
     (tie.spec
-    Inv-loop
-    μ-loop
-    mul-wide
-    slice-read-wide
-    wide-requires
-    loop-holds
-    mul-wide-2
-    add-wide
-    add-wide-2
-    mul-wide-3
-    slice-read-wide-2
-    wide-requires-2
-    forget-requires
-    mul-unlink
-    mul-unlink-2
-    add-unlink
-    mul-unlink-3
-    add-unlink-2
-    unlink-requires
-    add-k
-    loop-less
-    loop-again
-    mul-w
-    slice-write-w
-    same-length
-    returns)
+    Inv-loop μ-loop (λ c. search needs) (λ c. search needs) (λ c κs. search needs) loop-holds mul-wide-2 add-wide add-wide-2 mul-wide-3 slice-read-wide-2
+    (λ c κs. search needs) forget-requires mul-unlink mul-unlink-2 add-unlink mul-unlink-3 add-unlink-2 unlink-requires add-k loop-less loop-again
+    (λ c. search needs) slice-write-w same-length returns)

@@ -5,21 +5,6 @@ use borrow.Author.Needs.{needs}
 use Rattle.plane.proofs.area.quad_area.Statement.{statement}
 use Rattle.plane.proofs.area.quad_area.Tie as tie
 
-at-requires : tie.Need-at-requires
-at-requires c κs = search needs
-
-at-requires-2 : tie.Need-at-requires-2
-at-requires-2 c κs = search needs
-
-at-requires-3 : tie.Need-at-requires-3
-at-requires-3 c κs = search needs
-
-at-requires-4 : tie.Need-at-requires-4
-at-requires-4 c κs = search needs
-
-twice-area-requires : tie.Need-twice-area-requires
-twice-area-requires c κs = search needs
-
 returns : tie.Need-returns
 unfolding quad-area _⊘_ 2·0 f64
 returns c =
@@ -29,4 +14,5 @@ returns c =
 pub quad-area-spec : {M : Type 1} → statement M
 quad-area-spec =
     tie.close
-    (tie.spec at-requires at-requires-2 at-requires-3 at-requires-4 twice-area-requires returns)
+    (tie.spec
+    (λ c κs. search needs) (λ c κs. search needs) (λ c κs. search needs) (λ c κs. search needs) (λ c κs. search needs) returns)

@@ -8,15 +8,9 @@ use borrow.Author.Needs.{needs}
 use Rattle.plane.proofs.jacobian.first_column.Statement.{statement}
 use Rattle.plane.proofs.jacobian.first_column.Tie as tie
 
-first-sum-requires : tie.Need-first-sum-requires
-first-sum-requires c κs = search needs
-
-first-sum-requires-2 : tie.Need-first-sum-requires-2
-first-sum-requires-2 c κs = search needs
-
 returns : tie.Need-returns
 unfolding vec column corner node flat
 returns c = λ z. ap₂ corner (c .before .first-sum .ensures z) (c .first-sum2 .ensures z)
 
 pub first-column-spec : {M : Type 1} → statement M
-first-column-spec = tie.close (tie.spec first-sum-requires first-sum-requires-2 returns)
+first-column-spec = tie.close (tie.spec (λ c κs. search needs) (λ c κs. search needs) returns)

@@ -8,57 +8,6 @@ use borrow.Author.Needs.{needs}
 use Rattle.plane.proofs.jacobian.least_jacobian.Statement.{statement}
 use Rattle.plane.proofs.jacobian.least_jacobian.Tie as tie
 
-first-column-requires : tie.Need-first-column-requires
-first-column-requires c κs = search needs
-
-first-column-requires-2 : tie.Need-first-column-requires-2
-first-column-requires-2 c κs = search needs
-
-second-column-requires : tie.Need-second-column-requires
-second-column-requires c κs = search needs
-
-second-column-requires-2 : tie.Need-second-column-requires-2
-second-column-requires-2 c κs = search needs
-
-between-requires : tie.Need-between-requires
-between-requires c κs = search needs
-
-norm-by-requires : tie.Need-norm-by-requires
-norm-by-requires c κs = search needs
-
-between-requires-2 : tie.Need-between-requires-2
-between-requires-2 c κs = search needs
-
-norm-by-requires-2 : tie.Need-norm-by-requires-2
-norm-by-requires-2 c κs = search needs
-
-between-requires-3 : tie.Need-between-requires-3
-between-requires-3 c κs = search needs
-
-norm-by-requires-3 : tie.Need-norm-by-requires-3
-norm-by-requires-3 c κs = search needs
-
-between-requires-4 : tie.Need-between-requires-4
-between-requires-4 c κs = search needs
-
-norm-by-requires-4 : tie.Need-norm-by-requires-4
-norm-by-requires-4 c κs = search needs
-
-scaled-requires : tie.Need-scaled-requires
-scaled-requires c κs = search needs
-
-scaled-requires-2 : tie.Need-scaled-requires-2
-scaled-requires-2 c κs = search needs
-
-scaled-requires-3 : tie.Need-scaled-requires-3
-scaled-requires-3 c κs = search needs
-
-scaled-requires-4 : tie.Need-scaled-requires-4
-scaled-requires-4 c κs = search needs
-
-least-requires : tie.Need-least-requires
-least-requires c κs = search needs
-
 returns : tie.Need-returns
 unfolding corner c0 c2 1·0 f64 dist
 returns c =
@@ -87,21 +36,6 @@ pub least-jacobian-spec : {M : Type 1} → statement M
 least-jacobian-spec =
     tie.close
     (tie.spec
-    first-column-requires
-    first-column-requires-2
-    second-column-requires
-    second-column-requires-2
-    between-requires
-    norm-by-requires
-    between-requires-2
-    norm-by-requires-2
-    between-requires-3
-    norm-by-requires-3
-    between-requires-4
-    norm-by-requires-4
-    scaled-requires
-    scaled-requires-2
-    scaled-requires-3
-    scaled-requires-4
-    least-requires
-    returns)
+    (λ c κs. search needs) (λ c κs. search needs) (λ c κs. search needs) (λ c κs. search needs) (λ c κs. search needs) (λ c κs. search needs)
+    (λ c κs. search needs) (λ c κs. search needs) (λ c κs. search needs) (λ c κs. search needs) (λ c κs. search needs) (λ c κs. search needs)
+    (λ c κs. search needs) (λ c κs. search needs) (λ c κs. search needs) (λ c κs. search needs) (λ c κs. search needs) returns)

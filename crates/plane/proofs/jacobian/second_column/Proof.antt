@@ -8,15 +8,9 @@ use borrow.Author.Needs.{needs}
 use Rattle.plane.proofs.jacobian.second_column.Statement.{statement}
 use Rattle.plane.proofs.jacobian.second_column.Tie as tie
 
-second-sum-requires : tie.Need-second-sum-requires
-second-sum-requires c κs = search needs
-
-second-sum-requires-2 : tie.Need-second-sum-requires-2
-second-sum-requires-2 c κs = search needs
-
 returns : tie.Need-returns
 unfolding vec column corner node flat
 returns c = λ z. ap₂ corner (c .before .second-sum .ensures z) (c .second-sum2 .ensures z)
 
 pub second-column-spec : {M : Type 1} → statement M
-second-column-spec = tie.close (tie.spec second-sum-requires second-sum-requires-2 returns)
+second-column-spec = tie.close (tie.spec (λ c κs. search needs) (λ c κs. search needs) returns)

@@ -9,9 +9,6 @@ returns : tie.Need-returns
 unfolding _⊕_ 0·0 f64
 returns c = λ _. half-zero _ _ (c .before .if1 .taken) (c .if2 .taken)
 
-abs-requires : tie.Need-abs-requires
-abs-requires c κs = search needs
-
 returns-2 : tie.Need-returns-2
 unfolding _⊕_ _≼_ smallest largest f64
 returns-2 c =
@@ -27,4 +24,4 @@ returns-4 : tie.Need-returns-4
 returns-4 c = λ e. absurd (false≢true e)
 
 pub half-of-spec : {M : Type 1} → statement M
-half-of-spec = tie.close (tie.spec returns abs-requires returns-2 returns-3 returns-4)
+half-of-spec = tie.close (tie.spec returns (λ c κs. search needs) returns-2 returns-3 returns-4)

@@ -5,21 +5,6 @@ use borrow.Author.Needs.{needs}
 use Rattle.plane.proofs.metrics.bent.Statement.{statement}
 use Rattle.plane.proofs.metrics.bent.Tie as tie
 
-not-convex-requires : tie.Need-not-convex-requires
-not-convex-requires c κs = search needs
-
-not-convex-requires-2 : tie.Need-not-convex-requires-2
-not-convex-requires-2 c κs = search needs
-
-not-convex-requires-3 : tie.Need-not-convex-requires-3
-not-convex-requires-3 c κs = search needs
-
-not-convex-requires-4 : tie.Need-not-convex-requires-4
-not-convex-requires-4 c κs = search needs
-
-any-of-requires : tie.Need-any-of-requires
-any-of-requires c κs = search needs
-
 returns : tie.Need-returns
 unfolding any corners
 returns c =
@@ -37,9 +22,4 @@ pub bent-spec : {M : Type 1} → statement M
 bent-spec =
     tie.close
     (tie.spec
-    not-convex-requires
-    not-convex-requires-2
-    not-convex-requires-3
-    not-convex-requires-4
-    any-of-requires
-    returns)
+    (λ c κs. search needs) (λ c κs. search needs) (λ c κs. search needs) (λ c κs. search needs) (λ c κs. search needs) returns)

@@ -3,12 +3,6 @@ use borrow.Author.Needs.{needs}
 use Rattle.plane.proofs.metrics.good.Statement.{statement}
 use Rattle.plane.proofs.metrics.good.Tie as tie
 
-finite-requires : tie.Need-finite-requires
-finite-requires c κs = search needs
-
-finite-requires-2 : tie.Need-finite-requires-2
-finite-requires-2 c κs = search needs
-
 returns : tie.Need-returns
 unfolding _≺_
 returns c = rw (← c .before .before .before .before .finite .ensures, c .before .before .before .if1 .taken, ← c .before .before .finite2 .ensures, c .before .if2 .taken, c .if3 .taken)
@@ -26,5 +20,4 @@ unfolding _≺_
 returns-4 c = rw (← c .before .finite .ensures, c .if1 .left)
 
 pub good-spec : {M : Type 1} → statement M
-good-spec =
-    tie.close (tie.spec finite-requires finite-requires-2 returns returns-2 returns-3 returns-4)
+good-spec = tie.close (tie.spec (λ c κs. search needs) (λ c κs. search needs) returns returns-2 returns-3 returns-4)

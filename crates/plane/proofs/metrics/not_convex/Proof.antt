@@ -4,20 +4,9 @@ use borrow.Author.Needs.{needs}
 use Rattle.plane.proofs.metrics.not_convex.Statement.{statement}
 use Rattle.plane.proofs.metrics.not_convex.Tie as tie
 
-cross-of-requires : tie.Need-cross-of-requires
-cross-of-requires c κs = search needs
-
-tiny-requires : tie.Need-tiny-requires
-tiny-requires c κs = search needs
-
 returns : tie.Need-returns
 unfolding not-convex corner-of
 returns c = λ num fixed. c .tiny .ensures num fixed ∙ rw (c .before .cross-of .ensures)
 
 pub not-convex-spec : {M : Type 1} → statement M
-not-convex-spec =
-    tie.close
-    (tie.spec
-    cross-of-requires
-    tiny-requires
-    returns)
+not-convex-spec = tie.close (tie.spec (λ c κs. search needs) (λ c κs. search needs) returns)

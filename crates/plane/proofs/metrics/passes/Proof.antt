@@ -10,12 +10,6 @@ use Rattle.plane.proofs.metrics.passes.Tie as tie
 enum-told : tie.Need-enum-told
 enum-told c = search needs
 
-enum-known-m : tie.Need-enum-known-m
-enum-known-m c = search needs
-
-good-requires : tie.Need-good-requires
-good-requires c κs = search needs
-
 returns : tie.Need-returns
 unfolding metrics-of-enum passes
 returns c = λ num e f. sym (ap (λ (m : Metrics). passes num (metrics-of-enum m)) (c .enum-told .given .1))
@@ -27,4 +21,4 @@ returns-2 c =
     c .good2 .ensures ∙ passes-by num _ _ e f ∙ sym (ap (λ (m : Metrics). passes num (metrics-of-enum m)) (c .before .before .m .given .1))
 
 pub passes-spec : {M : Type 1} → statement M
-passes-spec = tie.close (tie.spec enum-told enum-known-m good-requires returns returns-2)
+passes-spec = tie.close (tie.spec enum-told (λ c. search needs) (λ c κs. search needs) returns returns-2)

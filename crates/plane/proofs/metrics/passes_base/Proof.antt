@@ -4,11 +4,8 @@ use Rattle.plane.specs.Limits.{base-least, base-largest}
 use Rattle.plane.proofs.metrics.passes_base.Statement.{statement}
 use Rattle.plane.proofs.metrics.passes_base.Tie as tie
 
-passes-requires : tie.Need-passes-requires
-passes-requires c κs = search needs
-
 returns : tie.Need-returns
 returns c = c .passes .ensures base base-least base-largest
 
 pub passes-base-spec : {M : Type 1} → statement M
-passes-base-spec = tie.close (tie.spec passes-requires returns)
+passes-base-spec = tie.close (tie.spec (λ c κs. search needs) returns)

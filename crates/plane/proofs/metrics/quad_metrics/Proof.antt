@@ -4,21 +4,6 @@ use borrow.Author.Needs.{needs}
 use Rattle.plane.proofs.metrics.quad_metrics.Statement.{statement}
 use Rattle.plane.proofs.metrics.quad_metrics.Tie as tie
 
-at-requires : tie.Need-at-requires
-at-requires c κs = search needs
-
-at-requires-2 : tie.Need-at-requires-2
-at-requires-2 c κs = search needs
-
-at-requires-3 : tie.Need-at-requires-3
-at-requires-3 c κs = search needs
-
-at-requires-4 : tie.Need-at-requires-4
-at-requires-4 c κs = search needs
-
-quad-metrics-of-requires : tie.Need-quad-metrics-of-requires
-quad-metrics-of-requires c κs = search needs
-
 returns : tie.Need-returns
 returns c =
     λ num fixed.
@@ -29,9 +14,4 @@ pub quad-metrics-spec : {M : Type 1} → statement M
 quad-metrics-spec =
     tie.close
     (tie.spec
-    at-requires
-    at-requires-2
-    at-requires-3
-    at-requires-4
-    quad-metrics-of-requires
-    returns)
+    (λ c κs. search needs) (λ c κs. search needs) (λ c κs. search needs) (λ c κs. search needs) (λ c κs. search needs) returns)

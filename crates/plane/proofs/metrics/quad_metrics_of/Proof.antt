@@ -13,12 +13,6 @@ use borrow.Author.Needs.{needs}
 use Rattle.plane.proofs.metrics.quad_metrics_of.Statement.{statement}
 use Rattle.plane.proofs.metrics.quad_metrics_of.Tie as tie
 
-twice-area-requires : tie.Need-twice-area-requires
-twice-area-requires c κs = search needs
-
-tiny-requires : tie.Need-tiny-requires
-tiny-requires c κs = search needs
-
 -- the area's test, in the definition's words
 area-of : (c : tie.After-tiny) (num : Numbers)
     → Fixed num
@@ -31,9 +25,6 @@ returns c =
     λ num fixed.
     sym (metrics-by _ _ _ _ num true _ _ (area-of (c .before) num fixed ∙ c .if1 .taken) refl refl)
 
-bent-requires : tie.Need-bent-requires
-bent-requires c κs = search needs
-
 returns-2 : tie.Need-returns-2
 unfolding metrics-of-enum
 returns-2 c =
@@ -41,19 +32,10 @@ returns-2 c =
     let k = c .before in
     sym (metrics-by _ _ _ _ num false true _ (area-of (k .before .before) num fixed ∙ k .before .if1 .left) (sym (k .bent .ensures num fixed) ∙ c .if2 .taken) refl)
 
-lengths-of-requires : tie.Need-lengths-of-requires
-lengths-of-requires c κs = search needs
-
-sides-of-requires : tie.Need-sides-of-requires
-sides-of-requires c κs = search needs
-
 -- the products are those of the quad
 sides : (c : tie.After-sides-of)
     → (let args = c .before .before .before .before .before .before .before .args in SidesOf (c .sides-of .result) (node (args .a)) (node (args .b)) (node (args .c)) (node (args .d)))
 sides c = c .sides-of .ensures _ _ _ _ (c .before .lengths-of .ensures)
-
-flat-side-requires : tie.Need-flat-side-requires
-flat-side-requires c κs = search needs
 
 -- the metrics by the third test, where the first two are passed
 third : (c : tie.After-flat-side) (t : Bool) (num : Numbers)
@@ -75,12 +57,6 @@ returns-3 : tie.Need-returns-3
 unfolding metrics-of-enum
 returns-3 c = λ num fixed. sym (third (c .before) true num (c .if3 .taken) fixed)
 
-least-jacobian-requires : tie.Need-least-jacobian-requires
-least-jacobian-requires c κs = search needs
-
-largest-cosine-requires : tie.Need-largest-cosine-requires
-largest-cosine-requires c κs = search needs
-
 returns-4 : tie.Need-returns-4
 unfolding metrics-of-enum
 returns-4 c =
@@ -93,15 +69,5 @@ pub quad-metrics-of-spec : {M : Type 1} → statement M
 quad-metrics-of-spec =
     tie.close
     (tie.spec
-    twice-area-requires
-    tiny-requires
-    returns
-    bent-requires
-    returns-2
-    lengths-of-requires
-    sides-of-requires
-    flat-side-requires
-    returns-3
-    least-jacobian-requires
-    largest-cosine-requires
-    returns-4)
+    (λ c κs. search needs) (λ c κs. search needs) returns (λ c κs. search needs) returns-2 (λ c κs. search needs) (λ c κs. search needs)
+    (λ c κs. search needs) returns-3 (λ c κs. search needs) (λ c κs. search needs) returns-4)

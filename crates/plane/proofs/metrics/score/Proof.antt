@@ -11,15 +11,6 @@ use Rattle.plane.proofs.metrics.score.Tie as tie
 enum-told : tie.Need-enum-told
 enum-told c = search needs
 
-enum-known-m : tie.Need-enum-known-m
-enum-known-m c = search needs
-
-sqrt-requires : tie.Need-sqrt-requires
-sqrt-requires c κs = search needs
-
-lesser-requires : tie.Need-lesser-requires
-lesser-requires c κs = search needs
-
 returns : tie.Need-returns
 unfolding metrics-of-enum score
 returns c = zero-over-zero ∙ sym (ap (λ (m : Metrics). score (metrics-of-enum m)) (c .enum-told .given .1))
@@ -31,5 +22,4 @@ returns-2 c =
     c .lesser .ensures ∙ ap (lesser (k .m .given .0 .0)) (c .before .sqrt .ensures .0) ∙ sym (ap (λ (m : Metrics). score (metrics-of-enum m)) (k .m .given .1))
 
 pub score-spec : {M : Type 1} → statement M
-score-spec =
-    tie.close (tie.spec enum-told enum-known-m sqrt-requires lesser-requires returns returns-2)
+score-spec = tie.close (tie.spec enum-told (λ c. search needs) (λ c κs. search needs) (λ c κs. search needs) returns returns-2)

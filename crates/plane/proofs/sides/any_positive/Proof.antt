@@ -4,21 +4,6 @@ use borrow.Author.Needs.{needs}
 use Rattle.plane.proofs.sides.any_positive.Statement.{statement}
 use Rattle.plane.proofs.sides.any_positive.Tie as tie
 
-positive-requires : tie.Need-positive-requires
-positive-requires c κs = search needs
-
-positive-requires-2 : tie.Need-positive-requires-2
-positive-requires-2 c κs = search needs
-
-positive-requires-3 : tie.Need-positive-requires-3
-positive-requires-3 c κs = search needs
-
-positive-requires-4 : tie.Need-positive-requires-4
-positive-requires-4 c κs = search needs
-
-any-of-requires : tie.Need-any-of-requires
-any-of-requires c κs = search needs
-
 returns : tie.Need-returns
 unfolding any
 returns c =
@@ -35,9 +20,4 @@ pub any-positive-spec : {M : Type 1} → statement M
 any-positive-spec =
     tie.close
     (tie.spec
-    positive-requires
-    positive-requires-2
-    positive-requires-3
-    positive-requires-4
-    any-of-requires
-    returns)
+    (λ c κs. search needs) (λ c κs. search needs) (λ c κs. search needs) (λ c κs. search needs) (λ c κs. search needs) returns)

@@ -3,24 +3,6 @@ use borrow.Author.Needs.{needs}
 use Rattle.plane.proofs.sides.inside_quad.Statement.{statement}
 use Rattle.plane.proofs.sides.inside_quad.Tie as tie
 
-cross-requires : tie.Need-cross-requires
-cross-requires c κs = search needs
-
-cross-requires-2 : tie.Need-cross-requires-2
-cross-requires-2 c κs = search needs
-
-cross-requires-3 : tie.Need-cross-requires-3
-cross-requires-3 c κs = search needs
-
-cross-requires-4 : tie.Need-cross-requires-4
-cross-requires-4 c κs = search needs
-
-any-positive-requires : tie.Need-any-positive-requires
-any-positive-requires c κs = search needs
-
-any-negative-requires : tie.Need-any-negative-requires
-any-negative-requires c κs = search needs
-
 returns : tie.Need-returns
 returns c =
     λ num fixed.
@@ -45,11 +27,5 @@ pub inside-quad-spec : {M : Type 1} → statement M
 inside-quad-spec =
     tie.close
     (tie.spec
-    cross-requires
-    cross-requires-2
-    cross-requires-3
-    cross-requires-4
-    any-positive-requires
-    any-negative-requires
-    returns
+    (λ c κs. search needs) (λ c κs. search needs) (λ c κs. search needs) (λ c κs. search needs) (λ c κs. search needs) (λ c κs. search needs) returns
     returns-2)

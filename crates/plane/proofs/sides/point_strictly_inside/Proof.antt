@@ -6,27 +6,6 @@ use borrow.Author.Needs.{needs}
 use Rattle.plane.proofs.sides.point_strictly_inside.Statement.{statement}
 use Rattle.plane.proofs.sides.point_strictly_inside.Tie as tie
 
-at-requires : tie.Need-at-requires
-at-requires c κs = search needs
-
-at-requires-2 : tie.Need-at-requires-2
-at-requires-2 c κs = search needs
-
-at-requires-3 : tie.Need-at-requires-3
-at-requires-3 c κs = search needs
-
-cross-of-requires : tie.Need-cross-of-requires
-cross-of-requires c κs = search needs
-
-cross-of-requires-2 : tie.Need-cross-of-requires-2
-cross-of-requires-2 c κs = search needs
-
-cross-of-requires-3 : tie.Need-cross-of-requires-3
-cross-of-requires-3 c κs = search needs
-
-all-positive-requires : tie.Need-all-positive-requires
-all-positive-requires c κs = search needs
-
 returns : tie.Need-returns
 returns c =
     λ num fixed.
@@ -41,9 +20,6 @@ returns c =
     let y = k .before .cross-of2 .ensures ∙ cross-ground _ _ sb sc p g in
     let z = k .cross-of3 .ensures ∙ cross-ground _ _ sc sa p g in
     rw (strictly-by num _ _ _ p x y z, ← c .before .all-positive .ensures num fixed, c .if1 .taken)
-
-all-negative-requires : tie.Need-all-negative-requires
-all-negative-requires c κs = search needs
 
 returns-2 : tie.Need-returns-2
 returns-2 c =
@@ -64,13 +40,5 @@ pub point-strictly-inside-spec : {M : Type 1} → statement M
 point-strictly-inside-spec =
     tie.close
     (tie.spec
-    at-requires
-    at-requires-2
-    at-requires-3
-    cross-of-requires
-    cross-of-requires-2
-    cross-of-requires-3
-    all-positive-requires
-    returns
-    all-negative-requires
-    returns-2)
+    (λ c κs. search needs) (λ c κs. search needs) (λ c κs. search needs) (λ c κs. search needs) (λ c κs. search needs) (λ c κs. search needs)
+    (λ c κs. search needs) returns (λ c κs. search needs) returns-2)

@@ -1,28 +1,9 @@
 use mathlib.Core.Path.{_∙_}
-use mathlib.Core.Bool.{_&&_}
 use Rattle.definition.specs.Plane.{segments-cross}
 use Rattle.plane.proofs.Ground.{parts-ground}
 use borrow.Author.Needs.{needs}
 use Rattle.plane.proofs.sides.segments_cross.Statement.{statement}
 use Rattle.plane.proofs.sides.segments_cross.Tie as tie
-
-at-requires : tie.Need-at-requires
-at-requires c κs = search needs
-
-at-requires-2 : tie.Need-at-requires-2
-at-requires-2 c κs = search needs
-
-at-requires-3 : tie.Need-at-requires-3
-at-requires-3 c κs = search needs
-
-at-requires-4 : tie.Need-at-requires-4
-at-requires-4 c κs = search needs
-
-parts-of-requires : tie.Need-parts-of-requires
-parts-of-requires c κs = search needs
-
-parts-of-requires-2 : tie.Need-parts-of-requires-2
-parts-of-requires-2 c κs = search needs
 
 returns : tie.Need-returns
 unfolding segments-cross
@@ -51,11 +32,5 @@ pub segments-cross-spec : {M : Type 1} → statement M
 segments-cross-spec =
     tie.close
     (tie.spec
-    at-requires
-    at-requires-2
-    at-requires-3
-    at-requires-4
-    parts-of-requires
-    parts-of-requires-2
-    returns
+    (λ c κs. search needs) (λ c κs. search needs) (λ c κs. search needs) (λ c κs. search needs) (λ c κs. search needs) (λ c κs. search needs) returns
     returns-2)

@@ -5,12 +5,6 @@ use borrow.Author.Needs.{needs}
 use Rattle.plane.proofs.vectors.dist.Statement.{statement}
 use Rattle.plane.proofs.vectors.dist.Tie as tie
 
-at-requires : tie.Need-at-requires
-at-requires c κs = search needs
-
-dist-of-requires : tie.Need-dist-of-requires
-dist-of-requires c κs = search needs
-
 returns : tie.Need-returns
 returns c =
     let args = c .before .before .before .args in
@@ -20,4 +14,4 @@ returns c =
     (c .dist-of .ensures .0 ∙ dist-ground _ p h g, c .dist-of .ensures .1 ∙ dist-ground p _ g h)
 
 pub dist-spec : {M : Type 1} → statement M
-dist-spec = tie.close (tie.spec at-requires dist-of-requires returns)
+dist-spec = tie.close (tie.spec (λ c κs. search needs) (λ c κs. search needs) returns)

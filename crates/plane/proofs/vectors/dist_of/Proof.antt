@@ -5,12 +5,6 @@ use borrow.Author.Needs.{needs}
 use Rattle.plane.proofs.vectors.dist_of.Statement.{statement}
 use Rattle.plane.proofs.vectors.dist_of.Tie as tie
 
-between-requires : tie.Need-between-requires
-between-requires c κs = search needs
-
-norm-requires : tie.Need-norm-requires
-norm-requires c κs = search needs
-
 returns : tie.Need-returns
 unfolding dist
 returns c =
@@ -18,4 +12,4 @@ returns c =
     (h, h ∙ norm-mirror _ _)
 
 pub dist-of-spec : {M : Type 1} → statement M
-dist-of-spec = tie.close (tie.spec between-requires norm-requires returns)
+dist-of-spec = tie.close (tie.spec (λ c κs. search needs) (λ c κs. search needs) returns)

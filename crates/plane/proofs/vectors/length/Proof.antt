@@ -4,15 +4,6 @@ use borrow.Author.Needs.{needs}
 use Rattle.plane.proofs.vectors.length.Statement.{statement}
 use Rattle.plane.proofs.vectors.length.Tie as tie
 
-at-requires : tie.Need-at-requires
-at-requires c κs = search needs
-
-at-requires-2 : tie.Need-at-requires-2
-at-requires-2 c κs = search needs
-
-dist-of-requires : tie.Need-dist-of-requires
-dist-of-requires c κs = search needs
-
 returns : tie.Need-returns
 returns c =
     let hb = c .before .before .at .ensures in
@@ -20,4 +11,4 @@ returns c =
     (c .dist-of .ensures .0 ∙ dist-ground _ _ hb ha, c .dist-of .ensures .1 ∙ dist-ground _ _ ha hb)
 
 pub length-spec : {M : Type 1} → statement M
-length-spec = tie.close (tie.spec at-requires at-requires-2 dist-of-requires returns)
+length-spec = tie.close (tie.spec (λ c κs. search needs) (λ c κs. search needs) (λ c κs. search needs) returns)

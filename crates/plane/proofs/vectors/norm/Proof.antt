@@ -5,12 +5,9 @@ use borrow.Author.Needs.{needs}
 use Rattle.plane.proofs.vectors.norm.Statement.{statement}
 use Rattle.plane.proofs.vectors.norm.Tie as tie
 
-sqrt-requires : tie.Need-sqrt-requires
-sqrt-requires c κs = search needs
-
 returns : tie.Need-returns
 unfolding norm vec _⊕_ _⊗_
 returns c = c .sqrt .ensures .0
 
 pub norm-spec : {M : Type 1} → statement M
-norm-spec = tie.close (tie.spec sqrt-requires returns)
+norm-spec = tie.close (tie.spec (λ c κs. search needs) returns)

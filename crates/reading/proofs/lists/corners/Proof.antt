@@ -5,7 +5,6 @@ use Rattle.reading.proofs.Threes.{three-off, three-one, three-two, thre
 use mathlib.Core.Path.{_≡_}
 use lib.ListN.{drop}
 use denote.Ref.{now}
-use Rattle.definition.specs.Text.{node}
 use Rattle.reading.specs.Found.{taken, number-as, up-to, and-then}
 use Rattle.reading.proofs.lists.corners.Statement.{statement}
 use Rattle.reading.proofs.lists.corners.Tie as tie
@@ -26,39 +25,15 @@ third : (c : tie.After-known-told3)
     ≡ and-then 10 (up-to 4294967295) (drop (c .before .before .before .before .before .b .given .0 .1 .0) (now (c .before .before .before .before .before .before .before .before .before .before .before .before .before .args .s)))
 third c = found (number-as (now (c .before .before .before .before .before .before .before .before .before .before .before .before .before .args .s))) (c .before .before .before .decimal-then3 .ensures) (c .before .c .given .1)
 
-decimal-then-requires : tie.Need-decimal-then-requires
-decimal-then-requires c κs = search needs
-
-enum-known-a : tie.Need-enum-known-a
-enum-known-a c = search needs
-
 enum-told : tie.Need-enum-told
 enum-told c = search needs
 
 returns : tie.Need-returns
 returns c = rw node-is (three-off (now (c .before .before .before .before .args .s)) (up-to 4294967295) _ (found (number-as (now (c .before .before .before .before .args .s))) (c .before .before .decimal-then .ensures) (c .enum-told .given .1)))
 
-decimal-then-requires-2 : tie.Need-decimal-then-requires-2
-decimal-then-requires-2 c κs = search needs
-
-enum-known-b : tie.Need-enum-known-b
-enum-known-b c = search needs
-
-enum-told-2 : tie.Need-enum-told-2
-enum-told-2 c = search needs
-
 returns-2 : tie.Need-returns-2
 returns-2 c = rw node-is (three-one (now (c .before .before .before .before .before .before .before .before .args .s)) (up-to 4294967295) _ (c .before .before .before .before .a .given .0 .0) (c .before .before .before .before .a .given .0 .1 .0) (first (c .before .before .before))
     (found (number-as (now (c .before .before .before .before .before .before .before .before .args .s))) (c .before .before .decimal-then2 .ensures) (c .enum-told2 .given .1)))
-
-decimal-then-requires-3 : tie.Need-decimal-then-requires-3
-decimal-then-requires-3 c κs = search needs
-
-enum-known-c : tie.Need-enum-known-c
-enum-known-c c = search needs
-
-enum-told-3 : tie.Need-enum-told-3
-enum-told-3 c = search needs
 
 returns-3 : tie.Need-returns-3
 returns-3 c = rw node-is (three-two (now (c .before .before .before .before .before .before .before .before .before .before .before .before .args .s)) (up-to 4294967295) _ (c .before .before .before .before .before .before .before .before .a .given .0 .0) (c .before .before .before .before .before .before .before .before .a .given .0 .1 .0) (first (c .before .before .before .before .before .before .before)) (c .before .before .before .before .b .given .0 .0) (c .before .before .before .before .b .given .0 .1 .0) (second (c .before .before .before))
@@ -71,16 +46,5 @@ pub corners-spec : {M : Type 1} → statement M
 corners-spec =
     tie.close
     (tie.spec
-    decimal-then-requires
-    enum-known-a
-    enum-told
-    returns
-    decimal-then-requires-2
-    enum-known-b
-    enum-told-2
-    returns-2
-    decimal-then-requires-3
-    enum-known-c
-    enum-told-3
-    returns-3
-    returns-4)
+    (λ c κs. search needs) (λ c. search needs) enum-told returns (λ c κs. search needs) (λ c. search needs) (λ c. search needs) returns-2
+    (λ c κs. search needs) (λ c. search needs) (λ c. search needs) returns-3 returns-4)

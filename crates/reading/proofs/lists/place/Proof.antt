@@ -26,39 +26,15 @@ third : (c : tie.After-known-told3)
     ≡ and-then 10 hex (drop (c .before .before .before .before .before .y .given .0 .1 .0) (now (c .before .before .before .before .before .before .before .before .before .before .before .before .before .args .s)))
 third c = found (bits-as (now (c .before .before .before .before .before .before .before .before .before .before .before .before .before .args .s))) (c .before .before .before .bits-then3 .ensures) (c .before .z .given .1)
 
-bits-then-requires : tie.Need-bits-then-requires
-bits-then-requires c κs = search needs
-
-enum-known-x : tie.Need-enum-known-x
-enum-known-x c = search needs
-
 enum-told : tie.Need-enum-told
 enum-told c = search needs
 
 returns : tie.Need-returns
 returns c = (three-off (now (c .before .before .before .before .args .s)) hex _ (found (bits-as (now (c .before .before .before .before .args .s))) (c .before .before .bits-then .ensures) (c .enum-told .given .1)))
 
-bits-then-requires-2 : tie.Need-bits-then-requires-2
-bits-then-requires-2 c κs = search needs
-
-enum-known-y : tie.Need-enum-known-y
-enum-known-y c = search needs
-
-enum-told-2 : tie.Need-enum-told-2
-enum-told-2 c = search needs
-
 returns-2 : tie.Need-returns-2
 returns-2 c = (three-one (now (c .before .before .before .before .before .before .before .before .args .s)) hex _ (c .before .before .before .before .x .given .0 .0) (c .before .before .before .before .x .given .0 .1 .0) (first (c .before .before .before))
     (found (bits-as (now (c .before .before .before .before .before .before .before .before .args .s))) (c .before .before .bits-then2 .ensures) (c .enum-told2 .given .1)))
-
-bits-then-requires-3 : tie.Need-bits-then-requires-3
-bits-then-requires-3 c κs = search needs
-
-enum-known-z : tie.Need-enum-known-z
-enum-known-z c = search needs
-
-enum-told-3 : tie.Need-enum-told-3
-enum-told-3 c = search needs
 
 returns-3 : tie.Need-returns-3
 returns-3 c = (three-two (now (c .before .before .before .before .before .before .before .before .before .before .before .before .args .s)) hex _ (c .before .before .before .before .before .before .before .before .x .given .0 .0) (c .before .before .before .before .before .before .before .before .x .given .0 .1 .0) (first (c .before .before .before .before .before .before .before)) (c .before .before .before .before .y .given .0 .0) (c .before .before .before .before .y .given .0 .1 .0) (second (c .before .before .before))
@@ -71,16 +47,5 @@ pub place-spec : {M : Type 1} → statement M
 place-spec =
     tie.close
     (tie.spec
-    bits-then-requires
-    enum-known-x
-    enum-told
-    returns
-    bits-then-requires-2
-    enum-known-y
-    enum-told-2
-    returns-2
-    bits-then-requires-3
-    enum-known-z
-    enum-told-3
-    returns-3
-    returns-4)
+    (λ c κs. search needs) (λ c. search needs) enum-told returns (λ c κs. search needs) (λ c. search needs) (λ c. search needs) returns-2
+    (λ c κs. search needs) (λ c. search needs) (λ c. search needs) returns-3 returns-4)

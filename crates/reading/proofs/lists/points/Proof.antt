@@ -2,14 +2,14 @@
 use borrow.Author.Needs.{needs}
 use Rattle.reading.proofs.Chains.{found}
 use Rattle.reading.proofs.Rows.{prepend, rows-start, rows-off, rows-more, rows-done, rows-store, past-store}
-use mathlib.Core.Path.{_≡_, refl, sym, ap, _∙_}
-use mathlib.Core.List.{List, [], _∷_}
-use Prim.Native.Nat.{ℕ, _+_, _-_, _*_, _≤_}
+use mathlib.Core.Path.{_≡_, refl, sym, _∙_}
+use mathlib.Core.List.{List}
+use Prim.Native.Nat.{ℕ, _-_, _*_, _≤_}
 use lib.ListN.{length, drop, length-set}
 use denote.Ref.{now}
 use Rattle.definition.specs.Lists.{rows}
-use Rattle.definition.specs.Text.{three, node, hex, times}
-use Rattle.reading.specs.Found.{taken, place-as, rows-as}
+use Rattle.definition.specs.Text.{three, hex, times}
+use Rattle.reading.specs.Found.{taken, place-as}
 use native.Mathlib.Omega.{arith}
 use Rattle.reading.proofs.lists.points.Statement.{statement}
 use Rattle.reading.proofs.lists.points.Tie as tie
@@ -30,12 +30,6 @@ abbrev μ-loop : tie.MeasureT-loop
 loop-holds : tie.Need-loop-holds Inv-loop μ-loop
 loop-holds c = record { within = omega arith; long = refl; reads = rows-start (now (c .before .before .args .bits)) (three hex) (c .before .before .args .n) _; past = refl }
 
-place-requires : tie.Need-place-requires Inv-loop μ-loop
-place-requires c κs = search needs
-
-enum-known-x : tie.Need-enum-known-x Inv-loop μ-loop
-enum-known-x c = search needs
-
 enum-told : tie.Need-enum-told Inv-loop μ-loop
 enum-told c = search needs
 
@@ -52,39 +46,6 @@ returns c =
       past = l .inv .past;
     }
 
-mul-k : tie.Need-mul-k Inv-loop μ-loop
-mul-k c = search needs
-
-mul-bits : tie.Need-mul-bits Inv-loop μ-loop
-mul-bits c = omega arith
-
-slice-write-bits : tie.Need-slice-write-bits Inv-loop μ-loop
-slice-write-bits c = omega arith
-
-add-bits : tie.Need-add-bits Inv-loop μ-loop
-add-bits c = search needs
-
-mul-bits-2 : tie.Need-mul-bits-2 Inv-loop μ-loop
-mul-bits-2 c = omega arith
-
-slice-write-bits-2 : tie.Need-slice-write-bits-2 Inv-loop μ-loop
-slice-write-bits-2 c = simp length-set (omega arith)
-
-add-bits-2 : tie.Need-add-bits-2 Inv-loop μ-loop
-add-bits-2 c = search needs
-
-mul-bits-3 : tie.Need-mul-bits-3 Inv-loop μ-loop
-mul-bits-3 c = omega arith
-
-slice-write-bits-3 : tie.Need-slice-write-bits-3 Inv-loop μ-loop
-slice-write-bits-3 c = simp length-set (omega arith)
-
-add-i : tie.Need-add-i Inv-loop μ-loop
-add-i c = search needs
-
-loop-less : tie.Need-loop-less Inv-loop μ-loop
-loop-less c = search needs
-
 loop-again : tie.Need-loop-again Inv-loop μ-loop
 loop-again c =
     let a = c .before .before .before .before .before .before .before .before .args in
@@ -99,9 +60,6 @@ loop-again c =
       past = past-store (l .bits) (l .i) (a .n) (c .before .x .given .0 .0) (c .before .x .given .0 .1 .0) (c .before .x .given .0 .1 .1 .0) (c .before .before .before .before .loop-test .taken) ∙ l .inv .past;
     }
 
-same-length-2 : tie.Need-same-length-2 Inv-loop μ-loop
-same-length-2 c = search needs
-
 returns-2 : tie.Need-returns-2 Inv-loop μ-loop
 returns-2 c =
     let a = c .before .before .before .before .args in
@@ -115,25 +73,6 @@ pub points-spec : {M : Type 1} → statement M
 points-spec =
     tie.close
     (tie.spec
-    Inv-loop
-    μ-loop
-    loop-holds
-    place-requires
-    enum-known-x
-    enum-told
-    same-length
-    returns
-    mul-k
-    mul-bits
-    slice-write-bits
-    add-bits
-    mul-bits-2
-    slice-write-bits-2
-    add-bits-2
-    mul-bits-3
-    slice-write-bits-3
-    add-i
-    loop-less
-    loop-again
-    same-length-2
-    returns-2)
+    Inv-loop μ-loop loop-holds (λ c κs. search needs) (λ c. search needs) enum-told same-length returns (λ c. search needs) (λ c. omega arith)
+    (λ c. omega arith) (λ c. search needs) (λ c. omega arith) (λ c. simp length-set (omega arith)) (λ c. search needs) (λ c. omega arith)
+    (λ c. simp length-set (omega arith)) (λ c. search needs) (λ c. search needs) loop-again (λ c. search needs) returns-2)

@@ -10,15 +10,6 @@ use Rattle.reading.specs.Found.{step-as, triangle-list}
 use Rattle.reading.proofs.lists.triangle_list.Statement.{statement}
 use Rattle.reading.proofs.lists.triangle_list.Tie as tie
 
-slice-aggregate-expect : tie.Need-slice-aggregate-expect
-slice-aggregate-expect c = search needs
-
-expect-requires : tie.Need-expect-requires
-expect-requires c κs = search needs
-
-enum-known-p : tie.Need-enum-known-p
-enum-known-p c = search needs
-
 enum-told : tie.Need-enum-told
 enum-told c = search needs
 
@@ -30,12 +21,6 @@ returns c =
       reads = names-off (now (a .s)) _ (times (a .n) (three node)) (drop (a .at) (now (a .s))) (found (step-as (now (a .s))) (c .before .before .expect .ensures) (c .enum-told .given .1));
       past = refl;
     }
-
-triangles-requires : tie.Need-triangles-requires
-triangles-requires c κs = search needs
-
-same-length : tie.Need-same-length
-same-length c = search needs
 
 returns-2 : tie.Need-returns-2
 unfolding triangle-list lit bytes
@@ -51,11 +36,4 @@ pub triangle-list-spec : {M : Type 1} → statement M
 triangle-list-spec =
     tie.close
     (tie.spec
-    slice-aggregate-expect
-    expect-requires
-    enum-known-p
-    enum-told
-    returns
-    triangles-requires
-    same-length
-    returns-2)
+    (λ c. search needs) (λ c κs. search needs) (λ c. search needs) enum-told returns (λ c κs. search needs) (λ c. search needs) returns-2)

@@ -2,14 +2,14 @@
 use borrow.Author.Needs.{needs}
 use Rattle.reading.proofs.Chains.{found}
 use Rattle.reading.proofs.Rows.{prepend, rows-start, rows-off, rows-more, rows-done, rows-store, past-store}
-use mathlib.Core.Path.{_≡_, refl, sym, ap, _∙_}
-use mathlib.Core.List.{List, [], _∷_}
-use Prim.Native.Nat.{ℕ, _+_, _-_, _*_, _≤_}
+use mathlib.Core.Path.{_≡_, refl, sym, _∙_}
+use mathlib.Core.List.{List}
+use Prim.Native.Nat.{ℕ, _-_, _*_, _≤_}
 use lib.ListN.{length, drop, length-set}
 use denote.Ref.{now}
 use Rattle.definition.specs.Lists.{rows}
-use Rattle.definition.specs.Text.{three, node, hex, times}
-use Rattle.reading.specs.Found.{taken, corners-as, rows-as}
+use Rattle.definition.specs.Text.{three, node, times}
+use Rattle.reading.specs.Found.{taken, corners-as}
 use native.Mathlib.Omega.{arith}
 use Rattle.reading.proofs.lists.triangles.Statement.{statement}
 use Rattle.reading.proofs.lists.triangles.Tie as tie
@@ -30,12 +30,6 @@ abbrev μ-loop : tie.MeasureT-loop
 loop-holds : tie.Need-loop-holds Inv-loop μ-loop
 loop-holds c = record { within = omega arith; long = refl; reads = rows-start (now (c .before .before .args .tris)) (three node) (c .before .before .args .n) _; past = refl }
 
-corners-requires : tie.Need-corners-requires Inv-loop μ-loop
-corners-requires c κs = search needs
-
-enum-known-a : tie.Need-enum-known-a Inv-loop μ-loop
-enum-known-a c = search needs
-
 enum-told : tie.Need-enum-told Inv-loop μ-loop
 enum-told c = search needs
 
@@ -52,39 +46,6 @@ returns c =
       past = l .inv .past;
     }
 
-mul-k : tie.Need-mul-k Inv-loop μ-loop
-mul-k c = search needs
-
-mul-tris : tie.Need-mul-tris Inv-loop μ-loop
-mul-tris c = omega arith
-
-slice-write-tris : tie.Need-slice-write-tris Inv-loop μ-loop
-slice-write-tris c = omega arith
-
-add-tris : tie.Need-add-tris Inv-loop μ-loop
-add-tris c = search needs
-
-mul-tris-2 : tie.Need-mul-tris-2 Inv-loop μ-loop
-mul-tris-2 c = omega arith
-
-slice-write-tris-2 : tie.Need-slice-write-tris-2 Inv-loop μ-loop
-slice-write-tris-2 c = simp length-set (omega arith)
-
-add-tris-2 : tie.Need-add-tris-2 Inv-loop μ-loop
-add-tris-2 c = search needs
-
-mul-tris-3 : tie.Need-mul-tris-3 Inv-loop μ-loop
-mul-tris-3 c = omega arith
-
-slice-write-tris-3 : tie.Need-slice-write-tris-3 Inv-loop μ-loop
-slice-write-tris-3 c = simp length-set (omega arith)
-
-add-i : tie.Need-add-i Inv-loop μ-loop
-add-i c = search needs
-
-loop-less : tie.Need-loop-less Inv-loop μ-loop
-loop-less c = search needs
-
 loop-again : tie.Need-loop-again Inv-loop μ-loop
 loop-again c =
     let a = c .before .before .before .before .before .before .before .before .args in
@@ -99,9 +60,6 @@ loop-again c =
       past = past-store (l .tris) (l .i) (a .n) (c .before .a .given .0 .0) (c .before .a .given .0 .1 .0) (c .before .a .given .0 .1 .1 .0) (c .before .before .before .before .loop-test .taken) ∙ l .inv .past;
     }
 
-same-length-2 : tie.Need-same-length-2 Inv-loop μ-loop
-same-length-2 c = search needs
-
 returns-2 : tie.Need-returns-2 Inv-loop μ-loop
 returns-2 c =
     let a = c .before .before .before .before .args in
@@ -115,25 +73,6 @@ pub triangles-spec : {M : Type 1} → statement M
 triangles-spec =
     tie.close
     (tie.spec
-    Inv-loop
-    μ-loop
-    loop-holds
-    corners-requires
-    enum-known-a
-    enum-told
-    same-length
-    returns
-    mul-k
-    mul-tris
-    slice-write-tris
-    add-tris
-    mul-tris-2
-    slice-write-tris-2
-    add-tris-2
-    mul-tris-3
-    slice-write-tris-3
-    add-i
-    loop-less
-    loop-again
-    same-length-2
-    returns-2)
+    Inv-loop μ-loop loop-holds (λ c κs. search needs) (λ c. search needs) enum-told same-length returns (λ c. search needs) (λ c. omega arith)
+    (λ c. omega arith) (λ c. search needs) (λ c. omega arith) (λ c. simp length-set (omega arith)) (λ c. search needs) (λ c. omega arith)
+    (λ c. simp length-set (omega arith)) (λ c. search needs) (λ c. search needs) loop-again (λ c. search needs) returns-2)

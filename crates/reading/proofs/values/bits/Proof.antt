@@ -1,9 +1,9 @@
 -- `values::bits` reads sixteen digits. Invariant: i are read, v is their number, of 4 i bits, and the definition's reading goes on from it.
 use borrow.Author.Needs.{needs}
 use Rattle.reading.proofs.Hexes.{hexes, hex-start, hexes-short, hexes-other, hexes-more, hexes-done, bits-more, bits-fit}
-use mathlib.Core.Path.{_≡_, refl, sym, _∙_}
-use lib.ListN.{length, drop}
-use Prim.Native.Nat.{_+_, _-_, _*_, _^_, _<_, _≤_}
+use mathlib.Core.Path.{_≡_, sym, _∙_}
+use lib.ListN.{drop}
+use Prim.Native.Nat.{_-_, _*_, _^_, _<_, _≤_}
 use denote.Ref.{now}
 use Rattle.definition.specs.Text.{hex}
 use native.Mathlib.Omega.{arith}
@@ -24,12 +24,6 @@ returns c =
     let l = c .before .before .loop in
     hexes-short (now (c .before .before .before .before .args .s)) (l .v) (l .p) (l .i) (omega arith) (c .if1 .taken) ∙ sym (l .inv .2)
 
-shared-slice-read-hex-value : tie.Need-shared-slice-read-hex-value Inv-loop μ-loop
-shared-slice-read-hex-value c = search needs
-
-hex-value-requires : tie.Need-hex-value-requires Inv-loop μ-loop
-hex-value-requires c κs = search needs
-
 returns-2 : tie.Need-returns-2 Inv-loop μ-loop
 returns-2 c =
     let l = c .before .before .before .before .before .loop in
@@ -44,15 +38,6 @@ add-v : tie.Need-add-v Inv-loop μ-loop
 add-v c =
     let l = c .before .before .before .before .before .loop in
     record { fits = bits-fit (l .v) (c .before .hex-value .result) (l .i) (omega arith) (omega arith) (l .inv .1) }
-
-add-p : tie.Need-add-p Inv-loop μ-loop
-add-p c = search needs
-
-add-i : tie.Need-add-i Inv-loop μ-loop
-add-i c = search needs
-
-loop-less : tie.Need-loop-less Inv-loop μ-loop
-loop-less c = search needs
 
 loop-again : tie.Need-loop-again Inv-loop μ-loop
 loop-again c =
@@ -71,17 +56,5 @@ pub bits-spec : {M : Type 1} → statement M
 bits-spec =
     tie.close
     (tie.spec
-    Inv-loop
-    μ-loop
-    loop-holds
-    returns
-    shared-slice-read-hex-value
-    hex-value-requires
-    returns-2
-    mul-v
-    add-v
-    add-p
-    add-i
-    loop-less
-    loop-again
-    returns-3)
+    Inv-loop μ-loop loop-holds returns (λ c. search needs) (λ c κs. search needs) returns-2 mul-v add-v (λ c. search needs) (λ c. search needs)
+    (λ c. search needs) loop-again returns-3)

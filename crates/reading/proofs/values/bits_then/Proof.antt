@@ -4,8 +4,8 @@ use Rattle.reading.proofs.Chains.{found, then-off, then-other, then-bot
 use mathlib.Core.Path.{_≡_}
 use lib.ListN.{drop}
 use denote.Ref.{now}
-use Rattle.definition.specs.Text.{exactly, hex, one-digit}
-use Rattle.reading.specs.Found.{taken, step-as, number-as, bits-as, up-to}
+use Rattle.definition.specs.Text.{hex}
+use Rattle.reading.specs.Found.{taken, step-as, bits-as}
 use Rattle.reading.proofs.values.bits_then.Statement.{statement}
 use Rattle.reading.proofs.values.bits_then.Tie as tie
 
@@ -14,12 +14,6 @@ value : (c : tie.After-known-told)
     → taken (now (c .before .before .before .before .before .args .s)) (c .before .v .given .0 .0) (c .before .v .given .0 .1 .0) ≡ hex (drop (c .before .before .before .before .before .args .at) (now (c .before .before .before .before .before .args .s)))
 value c = found (bits-as (now (c .before .before .before .before .before .args .s))) (c .before .before .before .bits .ensures) (c .before .v .given .1)
 
-bits-requires : tie.Need-bits-requires
-bits-requires c κs = search needs
-
-enum-known-v : tie.Need-enum-known-v
-enum-known-v c = search needs
-
 enum-told : tie.Need-enum-told
 enum-told c = search needs
 
@@ -27,15 +21,6 @@ returns : tie.Need-returns
 returns c =
     let a = c .before .before .before .before .args in
     then-off (now (a .s)) (a .b) hex _ (found (bits-as (now (a .s))) (c .before .before .bits .ensures) (c .enum-told .given .1))
-
-byte-requires : tie.Need-byte-requires
-byte-requires c κs = search needs
-
-enum-known-next : tie.Need-enum-known-next
-enum-known-next c = search needs
-
-enum-told-2 : tie.Need-enum-told-2
-enum-told-2 c = search needs
 
 returns-2 : tie.Need-returns-2
 returns-2 c =
@@ -55,12 +40,4 @@ pub bits-then-spec : {M : Type 1} → statement M
 bits-then-spec =
     tie.close
     (tie.spec
-    bits-requires
-    enum-known-v
-    enum-told
-    returns
-    byte-requires
-    enum-known-next
-    enum-told-2
-    returns-2
-    returns-3)
+    (λ c κs. search needs) (λ c. search needs) enum-told returns (λ c κs. search needs) (λ c. search needs) (λ c. search needs) returns-2 returns-3)

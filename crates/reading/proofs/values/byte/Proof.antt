@@ -3,7 +3,6 @@ use borrow.Author.Needs.{needs}
 use Rattle.reading.proofs.Bytes.{same-byte, other-byte, no-byte, all-bytes}
 use mathlib.Core.Path.{sym, _∙_}
 use mathlib.Core.List.{[], _∷_}
-use lib.ListN.{length, drop}
 use Prim.Native.Nat.{_+_}
 use denote.Ref.{now}
 use native.Mathlib.Omega.{arith}
@@ -12,12 +11,6 @@ use Rattle.reading.proofs.values.byte.Tie as tie
 
 returns : tie.Need-returns
 returns c = no-byte (c .before .args .b ∷ []) (now (c .before .args .s)) 0 (c .before .args .at) (omega arith) (c .if1 .taken)
-
-shared-slice-read-if2 : tie.Need-shared-slice-read-if2
-shared-slice-read-if2 c = search needs
-
-add-t9 : tie.Need-add-t9
-add-t9 c = search needs
 
 returns-2 : tie.Need-returns-2
 returns-2 c =
@@ -31,4 +24,4 @@ returns-3 c =
     other-byte (a .b ∷ []) (now (a .s)) 0 (a .at) (omega arith) (c .before .before .if1 .left) (c .if2 .left)
 
 pub byte-spec : {M : Type 1} → statement M
-byte-spec = tie.close (tie.spec returns shared-slice-read-if2 add-t9 returns-2 returns-3)
+byte-spec = tie.close (tie.spec returns (λ c. search needs) (λ c. search needs) returns-2 returns-3)

@@ -6,12 +6,6 @@ use Rattle.reading.specs.Found.{limited, up-to}
 use Rattle.reading.proofs.values.decimal.Statement.{statement}
 use Rattle.reading.proofs.values.decimal.Tie as tie
 
-well-formed-requires : tie.Need-well-formed-requires
-well-formed-requires c κs = search needs
-
-digits-requires : tie.Need-digits-requires
-digits-requires c κs = search needs
-
 returns : tie.Need-returns
 unfolding up-to dec
 returns c = rw (sym (c .before .before .well-formed .ensures) ∙ c .before .if1 .taken) (c .digits .ensures)
@@ -21,4 +15,4 @@ unfolding up-to dec limited
 returns-2 c = rw (sym (c .before .well-formed .ensures) ∙ c .if1 .left)
 
 pub decimal-spec : {M : Type 1} → statement M
-decimal-spec = tie.close (tie.spec well-formed-requires digits-requires returns returns-2)
+decimal-spec = tie.close (tie.spec (λ c κs. search needs) (λ c κs. search needs) returns returns-2)

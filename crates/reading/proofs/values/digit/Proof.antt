@@ -17,20 +17,11 @@ digit-there c = sym (c .before .is-digit .ensures) ∙ c .if2 .taken
 returns : tie.Need-returns
 returns c = one-end (now (c .before .before .args .s)) (c .before .before .args .at) (c .if1 .taken)
 
-shared-slice-read-c : tie.Need-shared-slice-read-c
-shared-slice-read-c c = search needs
-
-is-digit-requires : tie.Need-is-digit-requires
-is-digit-requires c κs = search needs
-
 sub-t10 : tie.Need-sub-t10
 sub-t10 c = digit-within _ (digit-there c) .0
 
 cast-t11 : tie.Need-cast-t11
 cast-t11 c = omega (arith, digit-within _ (digit-there c))
-
-add-t12 : tie.Need-add-t12
-add-t12 c = search needs
 
 returns-2 : tie.Need-returns-2
 returns-2 c = one-here (now (c .before .before .before .before .before .args .s)) (c .before .before .before .before .before .args .at) (omega arith) (digit-there c)
@@ -39,14 +30,4 @@ returns-3 : tie.Need-returns-3
 returns-3 c = one-other (now (c .before .before .before .before .before .args .s)) (c .before .before .before .before .before .args .at) (omega arith) (sym (c .before .is-digit .ensures) ∙ c .if2 .left)
 
 pub digit-spec : {M : Type 1} → statement M
-digit-spec =
-    tie.close
-    (tie.spec
-    returns
-    shared-slice-read-c
-    is-digit-requires
-    sub-t10
-    cast-t11
-    add-t12
-    returns-2
-    returns-3)
+digit-spec = tie.close (tie.spec returns (λ c. search needs) (λ c κs. search needs) sub-t10 cast-t11 (λ c. search needs) returns-2 returns-3)

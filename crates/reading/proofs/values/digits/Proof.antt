@@ -1,8 +1,8 @@
 -- `values::digits`. Invariant: v is the number of the digits up to p, at most `most`, and the definition's number goes on from it.
 use borrow.Author.Needs.{needs}
-use mathlib.Core.Path.{_≡_, refl, sym, ap, _∙_}
+use mathlib.Core.Path.{_≡_, sym, ap, _∙_}
 use mathlib.Core.Bool.{true}
-use Prim.Native.Nat.{_+_, _-_, _*_, _≤_}
+use Prim.Native.Nat.{_+_, _-_, _≤_}
 use lib.ListN.{length, getD, drop}
 use denote.Ref.{now}
 use borrow.Author.Tests.{not-true, not-false}
@@ -25,12 +25,6 @@ digit-there c = sym (c .before .is-digit .ensures) ∙ not-false _ (c .if1 .left
 
 loop-holds : tie.Need-loop-holds Inv-loop μ-loop
 loop-holds c = (omega arith, decimal-start _)
-
-shared-slice-read-c : tie.Need-shared-slice-read-c Inv-loop μ-loop
-shared-slice-read-c c = search needs
-
-is-digit-requires : tie.Need-is-digit-requires Inv-loop μ-loop
-is-digit-requires c κs = search needs
 
 cast-t12 : tie.Need-cast-t12 Inv-loop μ-loop
 cast-t12 c = omega (arith, c .before .before .before .before .before .before .fits .most)
@@ -61,12 +55,6 @@ returns-2 c =
     decimal-over (a .most) _ (run (drop (l .p + 1) (now (a .s)))) (c .if2 .taken)
     ∙ ap (limited (a .most)) (sym (l .inv .1 ∙ turn-more (now (a .s)) (l .v) (l .p) (omega arith) (digit-there (c .before))))
 
-add-p : tie.Need-add-p Inv-loop μ-loop
-add-p c = search needs
-
-loop-less : tie.Need-loop-less Inv-loop μ-loop
-loop-less c = search needs
-
 loop-again : tie.Need-loop-again Inv-loop μ-loop
 loop-again c =
     let l = c .before .before .before .before .before .loop in
@@ -86,20 +74,5 @@ pub digits-spec : {M : Type 1} → statement M
 digits-spec =
     tie.close
     (tie.spec
-    Inv-loop
-    μ-loop
-    loop-holds
-    shared-slice-read-c
-    is-digit-requires
-    cast-t12
-    returns
-    mul-v
-    sub-v
-    cast-v
-    add-v
-    returns-2
-    add-p
-    loop-less
-    loop-again
-    cast-t15
-    returns-3)
+    Inv-loop μ-loop loop-holds (λ c. search needs) (λ c κs. search needs) cast-t12 returns mul-v sub-v cast-v add-v returns-2 (λ c. search needs)
+    (λ c. search needs) loop-again cast-t15 returns-3)

@@ -3,18 +3,11 @@ use borrow.Author.Needs.{needs}
 use Rattle.reading.proofs.Digits.{digit-within}
 use Rattle.reading.proofs.Hexes.{of-digit, of-low, of-high, of-letter}
 use mathlib.Core.Path.{sym, _∙_}
-use native.Mathlib.Omega.{arith}
 use Rattle.reading.proofs.values.hex_value.Statement.{statement}
 use Rattle.reading.proofs.values.hex_value.Tie as tie
 
-is-digit-requires : tie.Need-is-digit-requires
-is-digit-requires c κs = search needs
-
 sub-result : tie.Need-sub-result
 sub-result c = digit-within _ (sym (c .before .is-digit .ensures) ∙ c .if1 .taken) .0
-
-cast-result : tie.Need-cast-result
-cast-result c = search needs
 
 returns : tie.Need-returns
 returns c = of-digit _ (sym (c .before .is-digit .ensures) ∙ c .if1 .taken)
@@ -25,12 +18,6 @@ returns-2 c = of-low _ (sym (c .before .before .is-digit .ensures) ∙ c .before
 returns-3 : tie.Need-returns-3
 returns-3 c = of-high _ (sym (c .before .before .before .is-digit .ensures) ∙ c .before .before .if1 .left) (c .before .if2 .left) (c .if3 .taken)
 
-cast-result-2 : tie.Need-cast-result-2
-cast-result-2 c = search needs
-
-add-result : tie.Need-add-result
-add-result c = search needs
-
 returns-4 : tie.Need-returns-4
 returns-4 c = of-letter _ (sym (c .before .before .before .is-digit .ensures) ∙ c .before .before .if1 .left) (c .before .if2 .left) (c .if3 .left)
 
@@ -38,12 +25,4 @@ pub hex-value-spec : {M : Type 1} → statement M
 hex-value-spec =
     tie.close
     (tie.spec
-    is-digit-requires
-    sub-result
-    cast-result
-    returns
-    returns-2
-    returns-3
-    cast-result-2
-    add-result
-    returns-4)
+    (λ c κs. search needs) sub-result (λ c. search needs) returns returns-2 returns-3 (λ c. search needs) (λ c. search needs) returns-4)

@@ -1,5 +1,4 @@
 -- `values::is_digit` is the definition's `is-digit`: its two tests, the second only where the first passes.
-use borrow.Author.Needs.{needs}
 use borrow.Author.Tests.{le-leb, lt-leb}
 use Rattle.definition.specs.Text.{is-digit}
 use Rattle.reading.proofs.values.is_digit.Statement.{statement}

@@ -18,38 +18,20 @@ digit-there c = sym (c .before .is-digit .ensures) ∙ not-false _ (c .if2 .left
 returns : tie.Need-returns
 returns c = formed-end (now (c .before .before .args .s)) (c .before .before .args .at) (c .if1 .taken)
 
-shared-slice-read-is-digit : tie.Need-shared-slice-read-is-digit
-shared-slice-read-is-digit c = search needs
-
-is-digit-requires : tie.Need-is-digit-requires
-is-digit-requires c κs = search needs
-
 returns-2 : tie.Need-returns-2
 returns-2 c =
     let a = c .before .before .before .before .before .args in
     formed-other (now (a .s)) (a .at) (omega arith) (sym (c .before .is-digit .ensures) ∙ not-true _ (c .if2 .taken))
-
-shared-slice-read-if3 : tie.Need-shared-slice-read-if3
-shared-slice-read-if3 c = search needs
 
 returns-3 : tie.Need-returns-3
 returns-3 c =
     let a = c .before .before .before .before .before .before .before .args in
     formed-nonzero (now (a .s)) (a .at) (omega arith) (digit-there (c .before .before)) (c .if3 .taken)
 
-add-next : tie.Need-add-next
-add-next c = search needs
-
 returns-4 : tie.Need-returns-4
 returns-4 c =
     let a = c .before .before .before .before .before .before .before .before .args in
     formed-zero (now (a .s)) (a .at) (omega arith) (digit-there (c .before .before .before)) (c .before .if3 .left) (c .if4 .taken)
-
-shared-slice-read-is-digit-2 : tie.Need-shared-slice-read-is-digit-2
-shared-slice-read-is-digit-2 c = search needs
-
-is-digit-requires-2 : tie.Need-is-digit-requires-2
-is-digit-requires-2 c κs = search needs
 
 returns-5 : tie.Need-returns-5
 returns-5 c =
@@ -61,14 +43,5 @@ pub well-formed-spec : {M : Type 1} → statement M
 well-formed-spec =
     tie.close
     (tie.spec
-    returns
-    shared-slice-read-is-digit
-    is-digit-requires
-    returns-2
-    shared-slice-read-if3
-    returns-3
-    add-next
-    returns-4
-    shared-slice-read-is-digit-2
-    is-digit-requires-2
-    returns-5)
+    returns (λ c. search needs) (λ c κs. search needs) returns-2 (λ c. search needs) returns-3 (λ c. search needs) returns-4 (λ c. search needs)
+    (λ c κs. search needs) returns-5)

@@ -1,10 +1,10 @@
 use borrow.Author.Needs.{needs}
-use mathlib.Core.Path.{_≡_, refl, ap, sym, _∙_, subst}
-use mathlib.Core.List.{List, [], _∷_, _++_}
-use Prim.Native.Nat.{ℕ, suc, _+_, _-_, _*_, _/_, _^_, _<_, _≤_}
+use mathlib.Core.Path.{_≡_, refl, _∙_}
+use mathlib.Core.List.{[], _∷_, _++_}
+use Prim.Native.Nat.{_-_, _^_, _≤_}
 use native.Mathlib.Omega.{arith}
-use lib.ListN.{length, getD, set, length-set}
-use Rattle.definition.specs.Cells.{Mesh, Live, new-quad, quad-edges}
+use lib.ListN.{length}
+use Rattle.definition.specs.Cells.{Mesh, new-quad, quad-edges}
 use Rattle.definition.specs.Region.{flood}
 use Rattle.cells.specs.Layout.{mesh-end}
 use Rattle.cells.specs.Rep.{Rep, TriIn}
@@ -15,11 +15,6 @@ use Rattle.regions.proofs.Visits.{tri-inside, reached-from}
 use Rattle.regions.proofs.Floods.{Flooding, flood-start, flood-end, flood-can, popped, flood-failed, flood-on}
 use Rattle.regions.proofs.flood.flood.Statement.{statement}
 use Rattle.regions.proofs.flood.flood.Tie as tie
-use Rattle.regions.proofs.flood.flood.Reads as reads
-use Rattle.regions.proofs.flood.flood.Lts as lts
-use Rattle.regions.proofs.flood.start.Reads as start-reads
-use Rattle.regions.proofs.flood.visit_tri.Reads as visit-tri-reads
-use Rattle.regions.proofs.lists.listed.Reads as listed-reads
 
 abbrev Inv-loop : tie.InvT-loop
 Inv-loop w₀ s p i a b c d n₀ head₀ w n head =
@@ -29,14 +24,12 @@ Inv-loop w₀ s p i a b c d n₀ head₀ w n head =
 abbrev μ-loop : tie.MeasureT-loop
 μ-loop w₀ s p i a b c d n₀ head₀ w n head = s - head
 
--- src/flood.rt:138:5
 start-requires : tie.Need-start-requires Inv-loop μ-loop
 start-requires c κs =
     let t = c .before .before in
     let a = t .args in
     (record { fits = omega (arith, t .pre .1 .room .fits); small = t .pre .1 .room .small }, tri-inside (a .w .now) (a .s) (a .p) (t .pre .0) (t .pre .1) (a .i) (t .pre .2))
 
--- src/flood.rt:141:5
 loop-holds : tie.Need-loop-holds Inv-loop μ-loop
 loop-holds c =
     let d = c .before .before in
@@ -53,7 +46,6 @@ loop-holds c =
           flood-start w1 w1 (a .s) (a .p) m (quad-edges (new-quad (a .a) (a .b) (a .c) (a .d))) (tri-live (a .i) (ti .t)) (aside-refl w1 (a .s) (a .p)) (sd .alone m rep ti),
     )
 
--- src/flood.rt:142:13
 listed-requires : tie.Need-listed-requires Inv-loop μ-loop
 listed-requires c κs =
     let i = c .before in
@@ -69,7 +61,6 @@ listed-requires c κs =
     let fl = l .loop .inv .3 m rep1 ti in
     flood-can w1 (l .loop .w) (a .s) (a .p) (l .loop .n) (l .loop .head) m (quad-edges (new-quad (a .a) (a .b) (a .c) (a .d))) (flood (m .used) m (quad-edges (new-quad (a .a) (a .b) (a .c) (a .d))) [] (tri-live (a .i) (ti .t) ∷ [])) fl (i .loop-test .taken)
 
--- src/flood.rt:143:9
 visit-tri-requires : tie.Need-visit-tri-requires Inv-loop μ-loop
 visit-tri-requires c κs =
     let wd = c .before in
@@ -87,7 +78,6 @@ visit-tri-requires c κs =
     let po = popped w1 (l .loop .w) (a .s) (a .p) (l .loop .n) (l .loop .head) m (quad-edges (new-quad (a .a) (a .b) (a .c) (a .d))) (flood (m .used) m (quad-edges (new-quad (a .a) (a .b) (a .c) (a .d))) [] (tri-live (a .i) (ti .t) ∷ [])) fl (i .loop-test .taken) (wd .listed .result) (wd .listed .ensures) in
     (m, po .done ++ po .todo, po .state, po .tri)
 
--- src/flood.rt:145:13
 same-length : tie.Need-same-length Inv-loop μ-loop
 same-length c =
     let o = c .before .before .before in
@@ -95,7 +85,6 @@ same-length c =
     let d = l .before .before .before in
     o .visit-tri .kept .0 ∙ l .loop .inv .0 ∙ d .start .kept .0
 
--- src/flood.rt:145:13
 returns : tie.Need-returns Inv-loop μ-loop
 returns c =
     λ m rep ti.
@@ -114,15 +103,6 @@ returns c =
     let f = o .visit-tri .ensures m (po .done) (po .todo) (po .state) (po .tri) in
     reached-from (a .w .now) w1 (o .visit-tri .last .0) (a .s) (a .p) m [] (flood (m .used) m (quad-edges (new-quad (a .a) (a .b) (a .c) (a .d))) [] (tri-live (a .i) (ti .t) ∷ [])) 0 (sd .aside) (flood-failed w1 (l .loop .w) (a .s) (a .p) (l .loop .n) (l .loop .head) m (quad-edges (new-quad (a .a) (a .b) (a .c) (a .d))) (flood (m .used) m (quad-edges (new-quad (a .a) (a .b) (a .c) (a .d))) [] (tri-live (a .i) (ti .t) ∷ [])) fl (i .loop-test .taken) (wd .listed .result) (wd .listed .ensures) (o .visit-tri .last .0) (o .visit-tri .result) f (c .if1 .taken))
 
--- src/flood.rt:147:9
-add-head : tie.Need-add-head Inv-loop μ-loop
-add-head c = search needs
-
--- src/flood.rt:141:5
-loop-less : tie.Need-loop-less Inv-loop μ-loop
-loop-less c = search needs
-
--- src/flood.rt:141:5
 loop-again : tie.Need-loop-again Inv-loop μ-loop
 loop-again c =
     let o = c .before .before .before in
@@ -152,14 +132,12 @@ loop-again c =
           flood-on w1 (l .loop .w) (a .s) (a .p) (l .loop .n) (l .loop .head) m (quad-edges (new-quad (a .a) (a .b) (a .c) (a .d))) (flood (m .used) m (quad-edges (new-quad (a .a) (a .b) (a .c) (a .d))) [] (tri-live (a .i) (ti .t) ∷ [])) fl (i .loop-test .taken) (wd .listed .result) (wd .listed .ensures) (o .visit-tri .last .0) (o .visit-tri .result) f (c .if1 .left),
     )
 
--- src/flood.rt:134:1
 same-length-2 : tie.Need-same-length-2 Inv-loop μ-loop
 same-length-2 c =
     let l = c .before in
     let d = l .before .before .before in
     l .loop .inv .0 ∙ d .start .kept .0
 
--- src/flood.rt:134:1
 returns-2 : tie.Need-returns-2 Inv-loop μ-loop
 returns-2 c =
     λ m rep ti.
@@ -177,16 +155,5 @@ pub flood-spec : {M : Type 1} → statement M
 flood-spec =
     tie.close
     (tie.spec
-    Inv-loop
-    μ-loop
-    start-requires
-    loop-holds
-    listed-requires
-    visit-tri-requires
-    same-length
-    returns
-    add-head
-    loop-less
-    loop-again
-    same-length-2
-    returns-2)
+    Inv-loop μ-loop start-requires loop-holds listed-requires visit-tri-requires same-length returns (λ c. search needs) (λ c. search needs) loop-again
+    same-length-2 returns-2)

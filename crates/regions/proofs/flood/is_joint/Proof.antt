@@ -2,27 +2,14 @@ use Rattle.regions.proofs.Sides.{joint-first, joint-rest}
 use borrow.Author.Needs.{needs}
 use Rattle.regions.proofs.flood.is_joint.Statement.{statement}
 use Rattle.regions.proofs.flood.is_joint.Tie as tie
-use Rattle.regions.proofs.flood.is_joint.Reads as reads
-use Rattle.regions.proofs.flood.is_joint.Lts as lts
-use Rattle.regions.proofs.flood.is_pair.Reads as is-pair-reads
 
--- src/region.rt:64:8
-is-pair-requires : tie.Need-is-pair-requires
-is-pair-requires c κs = search needs
-
--- src/region.rt:65:9
 returns : tie.Need-returns
 returns c =
     let k = c .before in let a = k .before .args in joint-first (a .u) (a .v) (a .a) (a .b) (k .is-pair .result) (k .is-pair .ensures) (c .if1 .taken)
 
--- src/region.rt:67:5
-is-pair-requires-2 : tie.Need-is-pair-requires-2
-is-pair-requires-2 c κs = search needs
-
--- src/region.rt:61:1
 returns-2 : tie.Need-returns-2
 returns-2 c =
     let e = c .before in let k = e .before in let a = k .before .args in joint-rest (a .u) (a .v) (a .a) (a .b) (k .is-pair .result) (c .is-pair2 .result) (k .is-pair .ensures) (e .if1 .left) (c .is-pair2 .ensures)
 
 pub is-joint-spec : {M : Type 1} → statement M
-is-joint-spec = tie.close (tie.spec is-pair-requires returns is-pair-requires-2 returns-2)
+is-joint-spec = tie.close (tie.spec (λ c κs. search needs) returns (λ c κs. search needs) returns-2)

@@ -1,15 +1,11 @@
 use Rattle.regions.proofs.Sides.{pair-not, pair-rest}
 use Rattle.regions.proofs.flood.is_pair.Statement.{statement}
 use Rattle.regions.proofs.flood.is_pair.Tie as tie
-use Rattle.regions.proofs.flood.is_pair.Reads as reads
-use Rattle.regions.proofs.flood.is_pair.Lts as lts
 
--- src/region.rt:55:9
 returns : tie.Need-returns
 returns c =
     let a = c .before .args in pair-not (a .a) (a .b) (a .u) (a .v) (c .if1 .taken)
 
--- src/region.rt:51:1
 returns-2 : tie.Need-returns-2
 returns-2 c =
     let a = c .before .args in pair-rest (a .a) (a .b) (a .u) (a .v) (c .if1 .left)

@@ -1,20 +1,15 @@
 use borrow.Author.Needs.{needs}
-use mathlib.Core.Path.{_≡_, refl, ap, sym, _∙_, subst}
-use mathlib.Core.List.{List, [], _∷_, _++_}
-use Prim.Native.Nat.{ℕ, suc, _+_, _-_, _*_, _/_, _^_, _<_, _≤_}
+use mathlib.Core.Path.{_≡_, refl, _∙_}
+use mathlib.Core.List.{List, [], _++_}
+use Prim.Native.Nat.{_^_, _≤_}
 use native.Mathlib.Omega.{arith}
-use lib.ListN.{length, getD, set, length-set}
+use lib.ListN.{length}
 use Rattle.definition.specs.Cells.{Mesh, Live}
 use Rattle.cells.specs.Walk.{left}
 use Rattle.regions.specs.Listing.{State}
 use Rattle.regions.proofs.Visits.{Going, going-start, going-end, going-here, going-seen, going-failed, going-at, going-less, going-on}
 use Rattle.regions.proofs.flood.visit_edge.Statement.{statement}
 use Rattle.regions.proofs.flood.visit_edge.Tie as tie
-use Rattle.regions.proofs.flood.visit_edge.Reads as reads
-use Rattle.regions.proofs.flood.visit_edge.Lts as lts
-use Rattle.cells.proofs.find.first_owner.Reads as first-owner-reads
-use Rattle.cells.proofs.find.next_owner.Reads as next-owner-reads
-use Rattle.regions.proofs.flood.visit_one.Reads as visit-one-reads
 
 abbrev Inv-loop : tie.InvT-loop
 Inv-loop w₀ s p n u v k₀ c₀ w k c = (length w ≡ length w₀) × (s ≤ 2 ^ 32) × ((m : Mesh) (done todo : List Live) → State w₀ s p n m (done ++ todo) → Going w₀ w s p u v k c m done todo)
@@ -22,24 +17,17 @@ Inv-loop w₀ s p n u v k₀ c₀ w k c = (length w ≡ length w₀) × (s ≤ 2
 abbrev μ-loop : tie.MeasureT-loop
 μ-loop w₀ s p n u v k₀ c₀ w k c = left w s p c
 
--- src/flood.rt:44:9
 first-owner-requires : tie.Need-first-owner-requires Inv-loop μ-loop
 first-owner-requires c κs =
     let t = c .before .before in
     ((t .pre .0 .0, t .pre .0 .2 .list .rep), t .pre .1)
 
--- src/flood.rt:45:5
 loop-holds : tie.Need-loop-holds Inv-loop μ-loop
 loop-holds c =
     let t = c .before .before .before in
     let a = t .args in
     (refl, omega (arith, t .pre .0 .2 .list .rep .room .small), λ m done todo h. going-start (a .w .now) (a .s) (a .p) (a .u) (a .v) (a .n) (c .first-owner .result) m done todo h (c .first-owner .ensures m (h .list .rep)))
 
--- src/flood.rt:45:15
-mul-loop : tie.Need-mul-loop Inv-loop μ-loop
-mul-loop c = search needs
-
--- src/flood.rt:46:9
 visit-one-requires : tie.Need-visit-one-requires Inv-loop μ-loop
 visit-one-requires c κs =
     let i = c .before in
@@ -52,13 +40,11 @@ visit-one-requires c κs =
     let g = l .loop .inv .2 m [] xs (t .pre .0 .2) in
     (m, [] ++ g .now, going-here (a .w .now) (l .loop .w) (a .s) (a .p) (a .u) (a .v) (l .loop .k) (l .loop .c) m [] xs g hh .x, going-seen (a .w .now) (l .loop .w) (a .s) (a .p) (a .u) (a .v) (l .loop .k) (l .loop .c) m [] xs g hh)
 
--- src/flood.rt:48:13
 same-length : tie.Need-same-length Inv-loop μ-loop
 same-length c =
     let o = c .before .before .before in
     o .visit-one .kept .0 ∙ o .before .before .before .loop .inv .0
 
--- src/flood.rt:48:13
 returns : tie.Need-returns Inv-loop μ-loop
 returns c =
     let o = c .before .before .before in
@@ -72,7 +58,6 @@ returns c =
     let f = o .visit-one .ensures m done (g .now) (going-here (a .w .now) (l .loop .w) (a .s) (a .p) (a .u) (a .v) (l .loop .k) (l .loop .c) m done todo g hh .x) (going-seen (a .w .now) (l .loop .w) (a .s) (a .p) (a .u) (a .v) (l .loop .k) (l .loop .c) m done todo g hh) in
     going-failed (a .w .now) (l .loop .w) (a .s) (a .p) (a .u) (a .v) (l .loop .k) (l .loop .c) m done todo g hh (o .visit-one .last .0) (o .visit-one .result) f (c .if1 .taken)
 
--- src/flood.rt:50:9
 next-owner-requires : tie.Need-next-owner-requires Inv-loop μ-loop
 next-owner-requires c κs =
     let o = c .before .before .before .before in
@@ -87,7 +72,6 @@ next-owner-requires c κs =
     let f = o .visit-one .ensures m [] (g .now) (going-here (a .w .now) (l .loop .w) (a .s) (a .p) (a .u) (a .v) (l .loop .k) (l .loop .c) m [] xs g hh .x) (going-seen (a .w .now) (l .loop .w) (a .s) (a .p) (a .u) (a .v) (l .loop .k) (l .loop .c) m [] xs g hh) in
     ((g .rest, going-at (a .w .now) (l .loop .w) (a .s) (a .p) (a .u) (a .v) (l .loop .k) (l .loop .c) m [] xs g hh (o .visit-one .last .0) (o .visit-one .result) f), (t .pre .1, hh))
 
--- src/flood.rt:45:5
 loop-less : tie.Need-loop-less Inv-loop μ-loop
 loop-less c =
     let o = c .before .before .before .before .before in
@@ -102,7 +86,6 @@ loop-less c =
     let f = o .visit-one .ensures m [] (g .now) (going-here (a .w .now) (l .loop .w) (a .s) (a .p) (a .u) (a .v) (l .loop .k) (l .loop .c) m [] xs g hh .x) (going-seen (a .w .now) (l .loop .w) (a .s) (a .p) (a .u) (a .v) (l .loop .k) (l .loop .c) m [] xs g hh) in
     going-less (a .w .now) (l .loop .w) (a .s) (a .p) (a .u) (a .v) (l .loop .k) (l .loop .c) m [] xs g hh (o .visit-one .last .0) (o .visit-one .result) f (c .next-owner .result) (c .next-owner .ensures)
 
--- src/flood.rt:45:5
 loop-again : tie.Need-loop-again Inv-loop μ-loop
 loop-again c =
     let o = c .before .before .before .before .before in
@@ -119,11 +102,9 @@ loop-again c =
           going-on (a .w .now) (l .loop .w) (a .s) (a .p) (a .u) (a .v) (l .loop .k) (l .loop .c) m done todo g hh (o .visit-one .last .0) (o .visit-one .result) f (c .next-owner .result) (c .next-owner .ensures) (c .before .before .if1 .left),
     )
 
--- src/flood.rt:38:1
 same-length-2 : tie.Need-same-length-2 Inv-loop μ-loop
 same-length-2 c = c .before .loop .inv .0
 
--- src/flood.rt:38:1
 returns-2 : tie.Need-returns-2 Inv-loop μ-loop
 returns-2 c =
     let l = c .before in
@@ -135,16 +116,5 @@ pub visit-edge-spec : {M : Type 1} → statement M
 visit-edge-spec =
     tie.close
     (tie.spec
-    Inv-loop
-    μ-loop
-    first-owner-requires
-    loop-holds
-    mul-loop
-    visit-one-requires
-    same-length
-    returns
-    next-owner-requires
-    loop-less
-    loop-again
-    same-length-2
-    returns-2)
+    Inv-loop μ-loop first-owner-requires loop-holds (λ c. search needs) visit-one-requires same-length returns next-owner-requires loop-less loop-again
+    same-length-2 returns-2)

@@ -1,50 +1,32 @@
-use mathlib.Core.Path.{_≡_, refl, ap, sym, _∙_, subst}
-use mathlib.Core.List.{List, [], _∷_, _++_}
-use Prim.Native.Nat.{ℕ, suc, _+_, _-_, _*_, _/_, _^_, _<_, _≤_}
+use mathlib.Core.Path.{sym, _∙_, subst}
+use mathlib.Core.List.{List}
+use Prim.Native.Nat.{ℕ, _+_}
 use native.Mathlib.Omega.{arith}
-use lib.ListN.{length, getD, set, length-set}
 use Rattle.definition.specs.Region.{reach}
 use Rattle.regions.specs.Listing.{Reached}
 use Rattle.regions.proofs.Reaches.{seen-can, seen-room, seen-see, more, seen-known, seen-other, seen-new}
 use borrow.Author.Needs.{needs}
 use Rattle.regions.proofs.flood.visit_one.Statement.{statement}
 use Rattle.regions.proofs.flood.visit_one.Tie as tie
-use Rattle.regions.proofs.flood.visit_one.Reads as reads
-use Rattle.regions.proofs.flood.visit_one.Lts as lts
-use Rattle.cells.proofs.find.kind.Reads as kind-reads
-use Rattle.regions.proofs.lists.append.Reads as append-reads
-use Rattle.regions.proofs.lists.mark.Reads as mark-reads
 
--- src/flood.rt:27:8
 mark-requires : tie.Need-mark-requires
 mark-requires c κs =
     let t = c .before .before in
     let a = t .args in
     seen-can (a .w .now) (a .s) (a .p) (a .n) (a .j) (t .pre .0) (t .pre .1) (t .pre .2) (t .pre .3)
 
--- src/flood.rt:28:9
-same-length : tie.Need-same-length
-same-length c = search needs
-
--- src/flood.rt:28:9
 returns : tie.Need-returns
 returns c =
     let k = c .before in
     let a = k .before .before .before .args in
     λ m done todo x h. seen-known (a .w .now) (a .s) (a .p) (a .n) (a .j) m done todo x h (λ e. c .if1 .taken (k .mark .ensures ∙ e))
 
--- src/flood.rt:30:8
 kind-requires : tie.Need-kind-requires
 kind-requires c κs =
     let t = c .before .before .before .before .before in
     let a = t .args in
     seen-see (a .w .now) (a .s) (a .p) (a .n) (a .j) (t .pre .0) (t .pre .1) (t .pre .2) (t .pre .3)
 
--- src/flood.rt:31:9
-same-length-2 : tie.Need-same-length-2
-same-length-2 c = search needs
-
--- src/flood.rt:31:9
 returns-2 : tie.Need-returns-2
 returns-2 c =
     let e = c .before .before .before in
@@ -52,7 +34,6 @@ returns-2 c =
     let a = k .before .before .before .args in
     λ m done todo x h. seen-other (a .w .now) (a .s) (a .p) (a .n) (a .j) m done todo x h (sym (k .mark .ensures) ∙ e .if1 .left) (λ q. c .if2 .taken (c .before .kind .ensures ∙ q))
 
--- src/flood.rt:33:5
 append-requires : tie.Need-append-requires
 append-requires c κs =
     let e = c .before .before .before .before in
@@ -61,7 +42,6 @@ append-requires c κs =
     let a = t .args in
     (seen-room (a .w .now) (a .s) (a .p) (a .n) (a .j) (t .pre .0) (t .pre .1) (t .pre .2) (t .pre .3) (sym (k .mark .ensures) ∙ e .if1 .left), seen-can (a .w .now) (a .s) (a .p) (a .n) (a .j) (t .pre .0) (t .pre .1) (t .pre .2) (t .pre .3))
 
--- src/flood.rt:34:5
 add-result : tie.Need-add-result
 add-result c =
     let e = c .before .before .before .before .before .before .before in
@@ -70,11 +50,6 @@ add-result c =
     let a = t .args in
     omega (arith, more (a .w .now) (a .s) (a .p) (a .n) (a .j) (t .pre .0) (t .pre .1) (t .pre .2) (t .pre .3) (sym (k .mark .ensures) ∙ e .if1 .left), t .pre .3 .state .list .rep .room .small)
 
--- src/flood.rt:23:1
-same-length-3 : tie.Need-same-length-3
-same-length-3 c = search needs
-
--- src/flood.rt:23:1
 returns-3 : tie.Need-returns-3
 returns-3 c =
     let o = c .before .before in
@@ -90,13 +65,4 @@ pub visit-one-spec : {M : Type 1} → statement M
 visit-one-spec =
     tie.close
     (tie.spec
-    mark-requires
-    same-length
-    returns
-    kind-requires
-    same-length-2
-    returns-2
-    append-requires
-    add-result
-    same-length-3
-    returns-3)
+    mark-requires (λ c. search needs) returns kind-requires (λ c. search needs) returns-2 append-requires add-result (λ c. search needs) returns-3)

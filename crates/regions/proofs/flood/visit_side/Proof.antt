@@ -3,16 +3,7 @@ use Rattle.regions.proofs.Visits.{side-skipped, side-crossed}
 use borrow.Author.Needs.{needs}
 use Rattle.regions.proofs.flood.visit_side.Statement.{statement}
 use Rattle.regions.proofs.flood.visit_side.Tie as tie
-use Rattle.regions.proofs.flood.visit_side.Reads as reads
-use Rattle.regions.proofs.flood.visit_side.Lts as lts
-use Rattle.regions.proofs.flood.is_side.Reads as is-side-reads
-use Rattle.regions.proofs.flood.visit_edge.Reads as visit-edge-reads
 
--- src/flood.rt:98:8
-is-side-requires : tie.Need-is-side-requires
-is-side-requires c κs = search needs
-
--- src/flood.rt:99:9
 returns : tie.Need-returns
 returns c =
     λ m done todo h.
@@ -20,15 +11,6 @@ returns c =
     let a = o .before .before .args in
     side-skipped (a .w .now) (a .s) (a .p) (quad-edges (new-quad (a .a) (a .b) (a .c) (a .d))) (key (a .u) (a .v)) (a .n) m done todo (o .is-side .result) (o .is-side .ensures) (c .if1 .taken) h
 
--- src/flood.rt:101:5
-visit-edge-requires : tie.Need-visit-edge-requires
-visit-edge-requires c κs = search needs
-
--- src/flood.rt:93:1
-same-length : tie.Need-same-length
-same-length c = search needs
-
--- src/flood.rt:93:1
 returns-2 : tie.Need-returns-2
 returns-2 c =
     λ m done todo h.
@@ -40,5 +22,4 @@ returns-2 c =
     (k .visit-edge .last .0) (k .visit-edge .result) (k .visit-edge .ensures m done todo h)
 
 pub visit-side-spec : {M : Type 1} → statement M
-visit-side-spec =
-    tie.close (tie.spec is-side-requires returns visit-edge-requires same-length returns-2)
+visit-side-spec = tie.close (tie.spec (λ c κs. search needs) returns (λ c κs. search needs) (λ c. search needs) returns-2)

@@ -1,8 +1,6 @@
-use mathlib.Core.Path.{_≡_, refl, ap, sym, _∙_, subst}
-use mathlib.Core.List.{List, [], _∷_, _++_}
-use Prim.Native.Nat.{ℕ, suc, _+_, _-_, _*_, _/_, _^_, _<_, _≤_}
+use mathlib.Core.Path.{_≡_, _∙_}
+use mathlib.Core.List.{[], _++_}
 use native.Mathlib.Omega.{arith}
-use lib.ListN.{length, getD, set, length-set}
 use Rattle.definition.specs.Cells.{key, new-quad, quad-edges}
 use Rattle.cells.proofs.Slots.{rep-see, tri-held}
 use Rattle.regions.specs.Flood.{beyond}
@@ -10,33 +8,25 @@ use Rattle.regions.proofs.Visits.{tri-inside, tri-corners, tri-across, 
 use borrow.Author.Needs.{needs}
 use Rattle.regions.proofs.flood.visit_tri.Statement.{statement}
 use Rattle.regions.proofs.flood.visit_tri.Tie as tie
-use Rattle.regions.proofs.flood.visit_tri.Reads as reads
-use Rattle.regions.proofs.flood.visit_tri.Lts as lts
-use Rattle.cells.proofs.find.node.Reads as node-reads
-use Rattle.regions.proofs.flood.visit_side.Reads as visit-side-reads
 
--- src/flood.rt:109:9
 node-requires : tie.Need-node-requires
 node-requires c κs =
     let t = c .before .before in
     let a = t .args in
     (rep-see (a .w .now) (a .s) (a .p) (t .pre .0) (t .pre .2 .list .rep) (a .i) (tri-inside (a .w .now) (a .s) (a .p) (t .pre .0) (t .pre .2 .list .rep) (a .i) (t .pre .3)), omega arith)
 
--- src/flood.rt:110:9
 node-requires-2 : tie.Need-node-requires-2
 node-requires-2 c κs =
     let t = c .before .before .before .before in
     let a = t .args in
     (rep-see (a .w .now) (a .s) (a .p) (t .pre .0) (t .pre .2 .list .rep) (a .i) (tri-inside (a .w .now) (a .s) (a .p) (t .pre .0) (t .pre .2 .list .rep) (a .i) (t .pre .3)), omega arith)
 
--- src/flood.rt:111:9
 node-requires-3 : tie.Need-node-requires-3
 node-requires-3 c κs =
     let t = c .before .before .before .before .before .before in
     let a = t .args in
     (rep-see (a .w .now) (a .s) (a .p) (t .pre .0) (t .pre .2 .list .rep) (a .i) (tri-inside (a .w .now) (a .s) (a .p) (t .pre .0) (t .pre .2 .list .rep) (a .i) (t .pre .3)), omega arith)
 
--- src/flood.rt:112:9
 visit-side-requires : tie.Need-visit-side-requires
 visit-side-requires c κs =
     let n3 = c .before in
@@ -59,11 +49,6 @@ visit-side-requires c κs =
     let co = tri-corners w (a .s) (a .p) m (st .list .rep) (a .i) ti in
     ((m, xs, st), rw (ex, ey) (co .xy))
 
--- src/flood.rt:114:9
-same-length : tie.Need-same-length
-same-length c = search needs
-
--- src/flood.rt:114:9
 returns : tie.Need-returns
 returns c =
     λ m done todo st ti.
@@ -87,7 +72,6 @@ returns c =
     rw (tri-across m (quad-edges (new-quad (a .a) (a .b) (a .c) (a .d))) (a .i) (ti .t) x1 y1 z1 ex ey ez)
     (seq-failed w w1 (a .s) (a .p) r1 m done todo (beyond m (quad-edges (new-quad (a .a) (a .b) (a .c) (a .d))) (key x1 y1)) f1 (c .if1 .taken) ((beyond m (quad-edges (new-quad (a .a) (a .b) (a .c) (a .d))) (key y1 z1)) ++ (beyond m (quad-edges (new-quad (a .a) (a .b) (a .c) (a .d))) (key z1 x1))))
 
--- src/flood.rt:116:9
 visit-side-requires-2 : tie.Need-visit-side-requires-2
 visit-side-requires-2 c κs =
     let e1 = c .before in
@@ -116,11 +100,6 @@ visit-side-requires-2 c κs =
     let d1 = seq-mid w w1 (a .s) (a .p) r1 m [] xs (beyond m (quad-edges (new-quad (a .a) (a .b) (a .c) (a .d))) (key x1 y1)) f1 (e1 .if1 .left) in
     ((m, [] ++ d1 .now, d1 .state), rw (ey, ez) (co .yz))
 
--- src/flood.rt:118:9
-same-length-2 : tie.Need-same-length-2
-same-length-2 c = search needs
-
--- src/flood.rt:118:9
 returns-2 : tie.Need-returns-2
 returns-2 c =
     λ m done todo st ti.
@@ -151,7 +130,6 @@ returns-2 c =
     (seq-then w w1 (a .s) (a .p) r1 m done todo (beyond m (quad-edges (new-quad (a .a) (a .b) (a .c) (a .d))) (key x1 y1)) f1 d1 ((beyond m (quad-edges (new-quad (a .a) (a .b) (a .c) (a .d))) (key y1 z1)) ++ (beyond m (quad-edges (new-quad (a .a) (a .b) (a .c) (a .d))) (key z1 x1))) w2 0
     (seq-failed w1 w2 (a .s) (a .p) r2 m done (d1 .now) (beyond m (quad-edges (new-quad (a .a) (a .b) (a .c) (a .d))) (key y1 z1)) f2 (c .if2 .taken) (beyond m (quad-edges (new-quad (a .a) (a .b) (a .c) (a .d))) (key z1 x1))))
 
--- src/flood.rt:120:5
 visit-side-requires-3 : tie.Need-visit-side-requires-3
 visit-side-requires-3 c κs =
     let e2 = c .before in
@@ -186,11 +164,6 @@ visit-side-requires-3 c κs =
     let d2 = seq-mid w1 w2 (a .s) (a .p) r2 m [] (d1 .now) (beyond m (quad-edges (new-quad (a .a) (a .b) (a .c) (a .d))) (key y1 z1)) f2 (e2 .if2 .left) in
     ((m, [] ++ d2 .now, d2 .state), rw (ez, ex) (co .zx))
 
--- src/flood.rt:105:1
-same-length-3 : tie.Need-same-length-3
-same-length-3 c = search needs
-
--- src/flood.rt:105:1
 returns-3 : tie.Need-returns-3
 returns-3 c =
     λ m done todo st ti.
@@ -231,15 +204,5 @@ pub visit-tri-spec : {M : Type 1} → statement M
 visit-tri-spec =
     tie.close
     (tie.spec
-    node-requires
-    node-requires-2
-    node-requires-3
-    visit-side-requires
-    same-length
-    returns
-    visit-side-requires-2
-    same-length-2
-    returns-2
-    visit-side-requires-3
-    same-length-3
-    returns-3)
+    node-requires node-requires-2 node-requires-3 visit-side-requires (λ c. search needs) returns visit-side-requires-2 (λ c. search needs) returns-2
+    visit-side-requires-3 (λ c. search needs) returns-3)

@@ -1,16 +1,11 @@
 use borrow.Author.Needs.{needs}
-use mathlib.Core.Path.{_≡_, refl, ap, sym, _∙_, subst}
-use mathlib.Core.List.{List, [], _∷_, _++_}
-use Prim.Native.Nat.{ℕ, suc, _+_, _-_, _*_, _/_, _<_, _≤_}
-use native.Mathlib.Omega.{arith}
-use lib.ListN.{length, getD, set, length-set}
-use Rattle.cells.specs.Layout.{marks-at, list-at}
+use mathlib.Core.Path.{_≡_, refl, sym, subst}
+use Prim.Native.Nat.{ℕ, _+_, _-_}
+use lib.ListN.{length, set, length-set}
+use Rattle.cells.specs.Layout.{marks-at}
 use Rattle.regions.proofs.Seeds.{Clearing, clear-start, clear-more, clear-done}
 use Rattle.regions.proofs.lists.clear_marks.Statement.{statement}
 use Rattle.regions.proofs.lists.clear_marks.Tie as tie
-use Rattle.regions.proofs.lists.clear_marks.Reads as reads
-use Rattle.regions.proofs.lists.clear_marks.Lts as lts
-use Rattle.cells.proofs.layout.marks_at.Reads as marks-at-reads
 
 abbrev Inv-loop : tie.InvT-loop
 Inv-loop w₀ s p from i₀ w i = (length w ≡ length w₀) × (from ≡ marks-at s p) × Clearing w₀ w s p i
@@ -18,38 +13,12 @@ Inv-loop w₀ s p from i₀ w i = (length w ≡ length w₀) × (from ≡ marks-
 abbrev μ-loop : tie.MeasureT-loop
 μ-loop w₀ s p from i₀ w i = s - i
 
--- src/lists.rt:42:9
-marks-at-requires : tie.Need-marks-at-requires Inv-loop μ-loop
-marks-at-requires c κs = search needs
-
--- src/lists.rt:44:5
 loop-holds : tie.Need-loop-holds Inv-loop μ-loop
 loop-holds c =
     let t = c .before .before in
     let a = t .args in
     (refl, c .marks-at .ensures, clear-start (a .w .now) (a .s) (a .p) (t .pre))
 
--- src/lists.rt:45:11
-add-w : tie.Need-add-w Inv-loop μ-loop
-add-w c = search needs
-
--- src/lists.rt:45:9
-mul-w : tie.Need-mul-w Inv-loop μ-loop
-mul-w c = search needs
-
--- src/lists.rt:45:9
-slice-write-w : tie.Need-slice-write-w Inv-loop μ-loop
-slice-write-w c = search needs
-
--- src/lists.rt:46:9
-add-i : tie.Need-add-i Inv-loop μ-loop
-add-i c = search needs
-
--- src/lists.rt:44:5
-loop-less : tie.Need-loop-less Inv-loop μ-loop
-loop-less c = search needs
-
--- src/lists.rt:44:5
 loop-again : tie.Need-loop-again Inv-loop μ-loop
 loop-again c =
     let l = c .before in
@@ -60,11 +29,9 @@ loop-again c =
           (clear-more (a .w .now) (l .loop .w) (a .s) (a .p) (l .loop .i) (l .loop .inv .2) (c .loop-test .taken)),
     )
 
--- src/lists.rt:38:1
 same-length : tie.Need-same-length Inv-loop μ-loop
 same-length c = c .before .loop .inv .0
 
--- src/lists.rt:38:1
 returns : tie.Need-returns Inv-loop μ-loop
 returns c =
     let l = c .before in
@@ -75,15 +42,5 @@ pub clear-marks-spec : {M : Type 1} → statement M
 clear-marks-spec =
     tie.close
     (tie.spec
-    Inv-loop
-    μ-loop
-    marks-at-requires
-    loop-holds
-    add-w
-    mul-w
-    slice-write-w
-    add-i
-    loop-less
-    loop-again
-    same-length
-    returns)
+    Inv-loop μ-loop (λ c κs. search needs) loop-holds (λ c. search needs) (λ c. search needs) (λ c. search needs) (λ c. search needs) (λ c. search needs)
+    loop-again same-length returns)

@@ -1,9 +1,9 @@
 use borrow.Author.Needs.{needs}
-use mathlib.Core.Path.{_≡_, refl, ap, sym, _∙_, subst}
-use mathlib.Core.List.{List, [], _∷_, _++_}
-use Prim.Native.Nat.{ℕ, suc, _+_, _-_, _*_, _/_, _^_, _<_, _≤_}
+use mathlib.Core.Path.{_≡_, refl, _∙_}
+use mathlib.Core.List.{List}
+use Prim.Native.Nat.{_-_, _^_, _≤_}
 use native.Mathlib.Omega.{arith}
-use lib.ListN.{length, getD, set, length-set}
+use lib.ListN.{length}
 use Rattle.definition.specs.Cells.{Live, Mesh}
 use Rattle.cells.specs.Layout.{mesh-end}
 use Rattle.cells.specs.Frames.{Keeps}
@@ -13,10 +13,6 @@ use Rattle.regions.proofs.Listings.{few}
 use Rattle.regions.proofs.Places.{Removing, remove-start, remove-end, remove-more, removed-inside}
 use Rattle.regions.proofs.place.remove_listed.Statement.{statement}
 use Rattle.regions.proofs.place.remove_listed.Tie as tie
-use Rattle.regions.proofs.place.remove_listed.Reads as reads
-use Rattle.regions.proofs.place.remove_listed.Lts as lts
-use Rattle.meshes.proofs.store.remove_cell.Reads as remove-cell-reads
-use Rattle.regions.proofs.lists.listed.Reads as listed-reads
 
 abbrev Inv-loop : tie.InvT-loop
 Inv-loop w₀ s p n i₀ w i =
@@ -25,14 +21,12 @@ Inv-loop w₀ s p n i₀ w i =
 abbrev μ-loop : tie.MeasureT-loop
 μ-loop w₀ s p n i₀ w i = n - i
 
--- src/place.rt:17:5
 loop-holds : tie.Need-loop-holds Inv-loop μ-loop
 loop-holds c =
     let t = c .before in
     let a = t .args in
     (refl, omega arith, omega (arith, few (t .pre .2), t .pre .2 .rep .used), omega (arith, t .pre .2 .rep .room .small), keeps-refl (a .w .now) (mesh-end (a .s) (a .p)), λ m xs h. remove-start (a .w .now) (a .s) (a .p) (a .n) m xs h)
 
--- src/place.rt:18:13
 listed-requires : tie.Need-listed-requires Inv-loop μ-loop
 listed-requires c κs =
     let i = c .before in
@@ -41,7 +35,6 @@ listed-requires c κs =
     let a = t .args in
     record { fits = omega (arith, t .pre .2 .rep .room .fits, l .loop .inv .0); small = t .pre .2 .rep .room .small; inside = omega (arith, i .loop-test .taken, l .loop .inv .2) }
 
--- src/place.rt:19:9
 remove-cell-requires : tie.Need-remove-cell-requires Inv-loop μ-loop
 remove-cell-requires c κs =
     let ls = c .before in
@@ -52,15 +45,6 @@ remove-cell-requires c κs =
     let g = l .loop .inv .5 (t .pre .0) (t .pre .1) (t .pre .2) in
     ((g .now, g .rep), removed-inside (a .w .now) (l .loop .w) (a .s) (a .p) (a .n) (l .loop .i) (t .pre .0) (t .pre .1) (t .pre .2) (l .loop .inv .4) g (i .loop-test .taken) (ls .listed .result) (ls .listed .ensures))
 
--- src/place.rt:20:9
-add-i : tie.Need-add-i Inv-loop μ-loop
-add-i c = search needs
-
--- src/place.rt:17:5
-loop-less : tie.Need-loop-less Inv-loop μ-loop
-loop-less c = search needs
-
--- src/place.rt:17:5
 loop-again : tie.Need-loop-again Inv-loop μ-loop
 loop-again c =
     let o = c .before .before in
@@ -77,11 +61,9 @@ loop-again c =
       λ m xs h. remove-more (a .w .now) (l .loop .w) (a .s) (a .p) (a .n) (l .loop .i) m xs h (l .loop .inv .4) (l .loop .inv .5 m xs h) (i .loop-test .taken) (ls .listed .result) (ls .listed .ensures) (o .remove-cell .last .0) (o .remove-cell .ensures),
     )
 
--- src/place.rt:12:1
 same-length : tie.Need-same-length Inv-loop μ-loop
 same-length c = c .before .loop .inv .0
 
--- src/place.rt:12:1
 returns : tie.Need-returns Inv-loop μ-loop
 returns c =
     let l = c .before in
@@ -93,13 +75,4 @@ pub remove-listed-spec : {M : Type 1} → statement M
 remove-listed-spec =
     tie.close
     (tie.spec
-    Inv-loop
-    μ-loop
-    loop-holds
-    listed-requires
-    remove-cell-requires
-    add-i
-    loop-less
-    loop-again
-    same-length
-    returns)
+    Inv-loop μ-loop loop-holds listed-requires remove-cell-requires (λ c. search needs) (λ c. search needs) loop-again same-length returns)

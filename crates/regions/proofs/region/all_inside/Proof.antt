@@ -1,9 +1,9 @@
 use borrow.Author.Needs.{needs}
-use mathlib.Core.Path.{_≡_, refl, ap, sym, _∙_, subst}
-use mathlib.Core.List.{List, [], _∷_, _++_}
-use Prim.Native.Nat.{ℕ, suc, _+_, _-_, _*_, _/_, _^_, _<_, _≤_}
+use mathlib.Core.Path.{_≡_, refl, sym, _∙_}
+use mathlib.Core.List.{List}
+use Prim.Native.Nat.{_-_, _^_, _≤_}
 use native.Mathlib.Omega.{arith}
-use lib.ListN.{drop, length, getD, set, length-set}
+use lib.ListN.{drop}
 use Rattle.definition.specs.Lists.{all}
 use Rattle.definition.specs.Numbers.{Numbers}
 use Rattle.definition.specs.Cells.{Live, Mesh, new-quad}
@@ -14,10 +14,6 @@ use Rattle.regions.proofs.Listings.{few}
 use Rattle.regions.proofs.Fills.{item, item-can, items-end, all-next, all-stop, all-end, was, was-not}
 use Rattle.regions.proofs.region.all_inside.Statement.{statement}
 use Rattle.regions.proofs.region.all_inside.Tie as tie
-use Rattle.regions.proofs.region.all_inside.Reads as reads
-use Rattle.regions.proofs.region.all_inside.Lts as lts
-use Rattle.regions.proofs.lists.listed.Reads as listed-reads
-use Rattle.regions.proofs.region.tri_inside.Reads as tri-inside-reads
 
 abbrev Inv-loop : tie.InvT-loop
 Inv-loop w q s p n a b c d i₀ i =
@@ -28,13 +24,11 @@ Inv-loop w q s p n a b c d i₀ i =
 abbrev μ-loop : tie.MeasureT-loop
 μ-loop w q s p n a b c d i₀ i = n - i
 
--- src/region.rt:47:5
 loop-holds : tie.Need-loop-holds Inv-loop μ-loop
 loop-holds c =
     let t = c .before .before in
     (omega arith, omega (arith, few (t .pre .2 .list), t .pre .2 .list .rep .used, t .pre .2 .list .rep .room .small), λ m xs h k num fixed. refl)
 
--- src/region.rt:48:36
 listed-requires : tie.Need-listed-requires Inv-loop μ-loop
 listed-requires c κs =
     let i = c in
@@ -43,7 +37,6 @@ listed-requires c κs =
     let a = t .args in
     item-can (a .w .now) (a .s) (a .p) (a .n) (l .loop .i) (t .pre .0) (t .pre .1) (t .pre .2 .list) (i .loop-test .taken)
 
--- src/region.rt:48:13
 tri-inside-requires : tie.Need-tri-inside-requires Inv-loop μ-loop
 tri-inside-requires c κs =
     let i = c .before in
@@ -53,7 +46,6 @@ tri-inside-requires c κs =
     let it = item (a .w .now) (a .s) (a .p) (a .n) (l .loop .i) (t .pre .0) (t .pre .1) (t .pre .2 .list) (i .loop-test .taken) (c .listed .result) (c .listed .ensures) in
     (t .pre .0, record { rep = t .pre .2 .list .rep; pts = t .pre .2 .pts; tri = it .tri }, t .pre .3)
 
--- src/region.rt:49:13
 returns : tie.Need-returns Inv-loop μ-loop
 returns c =
     let o = c .before in
@@ -66,15 +58,6 @@ returns c =
     let dr : Drawn (a .w .now) (a .q .now) (a .s) (a .p) (o .before .listed .result) m = record { rep = h .list .rep; pts = h .pts; tri = it .tri } in
     sym (sym (l .loop .inv .2 m xs h k num fixed) ∙ all-stop m xs (l .loop .i) (o .before .listed .result) it (cell-inside num m (new-quad (a .a) (a .b) (a .c) (a .d))) (sym (o .tri-inside .ensures m dr k num fixed) ∙ was-not (o .tri-inside .result) (c .if1 .taken)))
 
--- src/region.rt:51:9
-add-i : tie.Need-add-i Inv-loop μ-loop
-add-i c = search needs
-
--- src/region.rt:47:5
-loop-less : tie.Need-loop-less Inv-loop μ-loop
-loop-less c = search needs
-
--- src/region.rt:47:5
 loop-again : tie.Need-loop-again Inv-loop μ-loop
 loop-again c =
     let o = c .before in
@@ -90,7 +73,6 @@ loop-again c =
           all-next m xs (l .loop .i) (o .before .listed .result) it (cell-inside num m (new-quad (a .a) (a .b) (a .c) (a .d))) (sym (o .tri-inside .ensures m dr k num fixed) ∙ was (o .tri-inside .result) (c .if1 .left)) ∙ l .loop .inv .2 m xs h k num fixed,
     )
 
--- src/region.rt:42:1
 returns-2 : tie.Need-returns-2 Inv-loop μ-loop
 returns-2 c =
     let l = c .before in
@@ -102,13 +84,4 @@ pub all-inside-spec : {M : Type 1} → statement M
 all-inside-spec =
     tie.close
     (tie.spec
-    Inv-loop
-    μ-loop
-    loop-holds
-    listed-requires
-    tri-inside-requires
-    returns
-    add-i
-    loop-less
-    loop-again
-    returns-2)
+    Inv-loop μ-loop loop-holds listed-requires tri-inside-requires returns (λ c. search needs) (λ c. search needs) loop-again returns-2)

@@ -1,20 +1,8 @@
-use mathlib.Core.Path.{_≡_, refl, ap, sym, _∙_, subst}
-use mathlib.Core.List.{List, [], _∷_, _++_}
-use Prim.Native.Nat.{ℕ, suc, _+_, _-_, _*_, _/_, _^_, _<_, _≤_}
-use native.Mathlib.Omega.{arith}
-use lib.ListN.{length, getD, set, length-set}
 use Rattle.regions.proofs.Fills.{four, agrees-is}
 use borrow.Author.Needs.{needs}
 use Rattle.regions.proofs.region.area_agrees.Statement.{statement}
 use Rattle.regions.proofs.region.area_agrees.Tie as tie
-use Rattle.regions.proofs.region.area_agrees.Reads as reads
-use Rattle.regions.proofs.region.area_agrees.Lts as lts
-use Rattle.plane.proofs.area.quad_area.Reads as quad-area-reads
-use Rattle.plane.proofs.floats.abs.Reads as abs-reads
-use Rattle.plane.proofs.floats.greater.Reads as greater-reads
-use Rattle.regions.proofs.region.region_area.Reads as region-area-reads
 
--- src/region.rt:83:24
 quad-area-requires : tie.Need-quad-area-requires
 quad-area-requires c κs =
     let t = c .before .before in
@@ -22,25 +10,11 @@ quad-area-requires c κs =
     let fo = four (a .q .now) (a .p) (t .pre .0) (t .pre .2 .pts) (a .a) (a .b) (a .c) (a .d) (t .pre .3) in
     (fo .sa .within, fo .sb .within, fo .sc .within, fo .sd .within)
 
--- src/region.rt:83:9
-abs-requires : tie.Need-abs-requires
-abs-requires c κs = search needs
-
--- src/region.rt:84:9
 region-area-requires : tie.Need-region-area-requires
 region-area-requires c κs =
     let t = c .before .before .before .before in
     (t .pre .0, t .pre .1, t .pre .2)
 
--- src/region.rt:85:7
-abs-requires-2 : tie.Need-abs-requires-2
-abs-requires-2 c κs = search needs
-
--- src/region.rt:85:42
-greater-requires : tie.Need-greater-requires
-greater-requires c κs = search needs
-
--- src/region.rt:79:1
 returns : tie.Need-returns
 returns c =
     let g = c in
@@ -59,9 +33,4 @@ pub area-agrees-spec : {M : Type 1} → statement M
 area-agrees-spec =
     tie.close
     (tie.spec
-    quad-area-requires
-    abs-requires
-    region-area-requires
-    abs-requires-2
-    greater-requires
-    returns)
+    quad-area-requires (λ c κs. search needs) region-area-requires (λ c κs. search needs) (λ c κs. search needs) returns)

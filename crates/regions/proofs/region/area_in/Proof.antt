@@ -1,39 +1,27 @@
-use mathlib.Core.Path.{_≡_, refl, ap, sym, _∙_, subst}
-use mathlib.Core.List.{List, [], _∷_, _++_}
-use Prim.Native.Nat.{ℕ, suc, _+_, _-_, _*_, _/_, _^_, _<_, _≤_}
 use native.Mathlib.Omega.{arith}
-use lib.ListN.{length, getD, set, length-set}
 use Rattle.cells.proofs.Slots.{rep-see}
 use Rattle.regions.proofs.Fills.{drawn-inside, three, area-is}
 use Rattle.regions.proofs.region.area_in.Statement.{statement}
 use Rattle.regions.proofs.region.area_in.Tie as tie
-use Rattle.regions.proofs.region.area_in.Reads as reads
-use Rattle.regions.proofs.region.area_in.Lts as lts
-use Rattle.cells.proofs.find.node.Reads as node-reads
-use Rattle.plane.proofs.area.tri_area.Reads as tri-area-reads
 
--- src/region.rt:61:17
 node-requires : tie.Need-node-requires
 node-requires c κs =
     let t = c .before .before in
     let a = t .args in
     (rep-see (a .w .now) (a .s) (a .p) (t .pre .0) (t .pre .1 .rep) (a .j) (drawn-inside (a .w .now) (a .q .now) (a .s) (a .p) (a .j) (t .pre .0) (t .pre .1)), omega arith)
 
--- src/region.rt:61:35
 node-requires-2 : tie.Need-node-requires-2
 node-requires-2 c κs =
     let t = c .before .before .before in
     let a = t .args in
     (rep-see (a .w .now) (a .s) (a .p) (t .pre .0) (t .pre .1 .rep) (a .j) (drawn-inside (a .w .now) (a .q .now) (a .s) (a .p) (a .j) (t .pre .0) (t .pre .1)), omega arith)
 
--- src/region.rt:61:53
 node-requires-3 : tie.Need-node-requires-3
 node-requires-3 c κs =
     let t = c .before .before .before .before in
     let a = t .args in
     (rep-see (a .w .now) (a .s) (a .p) (t .pre .0) (t .pre .1 .rep) (a .j) (drawn-inside (a .w .now) (a .q .now) (a .s) (a .p) (a .j) (t .pre .0) (t .pre .1)), omega arith)
 
--- src/region.rt:61:5
 tri-area-requires : tie.Need-tri-area-requires
 tri-area-requires c κs =
     let n3 = c in
@@ -44,7 +32,6 @@ tri-area-requires c κs =
     let th = three (a .w .now) (a .q .now) (a .s) (a .p) (a .j) (t .pre .0) (t .pre .1) (n1 .node .result) (n2 .node2 .result) (n3 .node3 .result) (n1 .node .ensures) (n2 .node2 .ensures) (n3 .node3 .ensures) in
     (th .sx .within, th .sy .within, th .sz .within)
 
--- src/region.rt:57:1
 returns : tie.Need-returns
 returns c =
     let n3 = c .before in

@@ -1,9 +1,9 @@
 use borrow.Author.Needs.{needs}
-use mathlib.Core.Path.{_≡_, refl, ap, sym, _∙_, subst}
-use mathlib.Core.List.{List, [], _∷_, _++_, foldl}
-use Prim.Native.Nat.{ℕ, suc, _+_, _-_, _*_, _/_, _^_, _<_, _≤_}
+use mathlib.Core.Path.{_≡_, refl, ap, sym, _∙_}
+use mathlib.Core.List.{List, foldl}
+use Prim.Native.Nat.{_-_, _^_, _≤_}
 use native.Mathlib.Omega.{arith}
-use lib.ListN.{drop, length, getD, set, length-set}
+use lib.ListN.{drop}
 use lib.Ieee.{Float}
 use Rattle.definition.specs.Floats.{_⊕_, 0·0, f64}
 use Rattle.definition.specs.Cells.{Live, Mesh}
@@ -13,10 +13,6 @@ use Rattle.regions.proofs.Listings.{few}
 use Rattle.regions.proofs.Fills.{item, item-can, items-end, sum-next}
 use Rattle.regions.proofs.region.region_area.Statement.{statement}
 use Rattle.regions.proofs.region.region_area.Tie as tie
-use Rattle.regions.proofs.region.region_area.Reads as reads
-use Rattle.regions.proofs.region.region_area.Lts as lts
-use Rattle.regions.proofs.lists.listed.Reads as listed-reads
-use Rattle.regions.proofs.region.area_in.Reads as area-in-reads
 
 abbrev Inv-loop : tie.InvT-loop
 Inv-loop w q s p n sum₀ i₀ sum i =
@@ -25,14 +21,12 @@ Inv-loop w q s p n sum₀ i₀ sum i =
 abbrev μ-loop : tie.MeasureT-loop
 μ-loop w q s p n sum₀ i₀ sum i = n - i
 
--- src/region.rt:71:5
 loop-holds : tie.Need-loop-holds Inv-loop μ-loop
 unfolding region-area 0·0 f64
 loop-holds c =
     let t = c .before .before in
     (omega arith, omega (arith, few (t .pre .2 .list), t .pre .2 .list .rep .used, t .pre .2 .list .rep .room .small), λ m xs h. refl)
 
--- src/region.rt:72:41
 listed-requires : tie.Need-listed-requires Inv-loop μ-loop
 listed-requires c κs =
     let i = c in
@@ -41,7 +35,6 @@ listed-requires c κs =
     let a = t .args in
     item-can (a .w .now) (a .s) (a .p) (a .n) (l .loop .i) (t .pre .0) (t .pre .1) (t .pre .2 .list) (i .loop-test .taken)
 
--- src/region.rt:72:21
 area-in-requires : tie.Need-area-in-requires Inv-loop μ-loop
 area-in-requires c κs =
     let i = c .before in
@@ -51,15 +44,6 @@ area-in-requires c κs =
     let it = item (a .w .now) (a .s) (a .p) (a .n) (l .loop .i) (t .pre .0) (t .pre .1) (t .pre .2 .list) (i .loop-test .taken) (c .listed .result) (c .listed .ensures) in
     (t .pre .0, record { rep = t .pre .2 .list .rep; pts = t .pre .2 .pts; tri = it .tri })
 
--- src/region.rt:73:9
-add-i : tie.Need-add-i Inv-loop μ-loop
-add-i c = search needs
-
--- src/region.rt:71:5
-loop-less : tie.Need-loop-less Inv-loop μ-loop
-loop-less c = search needs
-
--- src/region.rt:71:5
 loop-again : tie.Need-loop-again Inv-loop μ-loop
 unfolding _⊕_
 loop-again c =
@@ -75,7 +59,6 @@ loop-again c =
           sum-next m xs (l .loop .i) (c .before .listed .result) it (l .loop .sum) (c .area-in .result) (c .area-in .ensures m dr) ∙ l .loop .inv .2 m xs h,
     )
 
--- src/region.rt:65:1
 returns : tie.Need-returns Inv-loop μ-loop
 returns c =
     let l = c .before in
@@ -87,12 +70,4 @@ pub region-area-spec : {M : Type 1} → statement M
 region-area-spec =
     tie.close
     (tie.spec
-    Inv-loop
-    μ-loop
-    loop-holds
-    listed-requires
-    area-in-requires
-    add-i
-    loop-less
-    loop-again
-    returns)
+    Inv-loop μ-loop loop-holds listed-requires area-in-requires (λ c. search needs) (λ c. search needs) loop-again returns)

@@ -1,39 +1,27 @@
-use mathlib.Core.Path.{_≡_, refl, ap, sym, _∙_, subst}
-use mathlib.Core.List.{List, [], _∷_, _++_}
-use Prim.Native.Nat.{ℕ, suc, _+_, _-_, _*_, _/_, _^_, _<_, _≤_}
 use native.Mathlib.Omega.{arith}
-use lib.ListN.{length, getD, set, length-set}
 use Rattle.cells.proofs.Slots.{rep-see}
 use Rattle.regions.proofs.Fills.{drawn-inside, three, four, first-out, second-out, third-test, was, was-not}
 use Rattle.regions.proofs.region.tri_inside.Statement.{statement}
 use Rattle.regions.proofs.region.tri_inside.Tie as tie
-use Rattle.regions.proofs.region.tri_inside.Reads as reads
-use Rattle.regions.proofs.region.tri_inside.Lts as lts
-use Rattle.cells.proofs.find.node.Reads as node-reads
-use Rattle.plane.proofs.sides.inside_quad.Reads as inside-quad-reads
 
--- src/region.rt:29:9
 node-requires : tie.Need-node-requires
 node-requires c κs =
     let t = c .before .before in
     let a = t .args in
     (rep-see (a .w .now) (a .s) (a .p) (t .pre .0) (t .pre .1 .rep) (a .j) (drawn-inside (a .w .now) (a .q .now) (a .s) (a .p) (a .j) (t .pre .0) (t .pre .1)), omega arith)
 
--- src/region.rt:30:9
 node-requires-2 : tie.Need-node-requires-2
 node-requires-2 c κs =
     let t = c .before .before .before in
     let a = t .args in
     (rep-see (a .w .now) (a .s) (a .p) (t .pre .0) (t .pre .1 .rep) (a .j) (drawn-inside (a .w .now) (a .q .now) (a .s) (a .p) (a .j) (t .pre .0) (t .pre .1)), omega arith)
 
--- src/region.rt:31:9
 node-requires-3 : tie.Need-node-requires-3
 node-requires-3 c κs =
     let t = c .before .before .before .before in
     let a = t .args in
     (rep-see (a .w .now) (a .s) (a .p) (t .pre .0) (t .pre .1 .rep) (a .j) (drawn-inside (a .w .now) (a .q .now) (a .s) (a .p) (a .j) (t .pre .0) (t .pre .1)), omega arith)
 
--- src/region.rt:32:9
 inside-quad-requires : tie.Need-inside-quad-requires
 inside-quad-requires c κs =
     let n3 = c in
@@ -45,7 +33,6 @@ inside-quad-requires c κs =
     let fo = four (a .q .now) (a .p) (t .pre .0) (t .pre .1 .pts) (a .a) (a .b) (a .c) (a .d) (t .pre .2) in
     (fo .sa .within, fo .sb .within, fo .sc .within, fo .sd .within, th .sx .within)
 
--- src/region.rt:33:9
 returns : tie.Need-returns
 returns c =
     let i1 = c .before in
@@ -59,7 +46,6 @@ returns c =
     let fo = four (a .q .now) (a .p) m (h .pts) (a .a) (a .b) (a .c) (a .d) k in
     first-out (a .q .now) m num (a .a) (a .b) (a .c) (a .d) fo (a .j) (h .tri .t) (n1 .node .result) (n2 .node2 .result) (n3 .node3 .result) th (i1 .inside-quad .result) (i1 .inside-quad .ensures num fixed) (was-not (i1 .inside-quad .result) (c .if1 .taken))
 
--- src/region.rt:35:9
 inside-quad-requires-2 : tie.Need-inside-quad-requires-2
 inside-quad-requires-2 c κs =
     let n3 = c .before .before in
@@ -71,7 +57,6 @@ inside-quad-requires-2 c κs =
     let fo = four (a .q .now) (a .p) (t .pre .0) (t .pre .1 .pts) (a .a) (a .b) (a .c) (a .d) (t .pre .2) in
     (fo .sa .within, fo .sb .within, fo .sc .within, fo .sd .within, th .sy .within)
 
--- src/region.rt:36:9
 returns-2 : tie.Need-returns-2
 returns-2 c =
     let i2 = c .before in
@@ -87,7 +72,6 @@ returns-2 c =
     let fo = four (a .q .now) (a .p) m (h .pts) (a .a) (a .b) (a .c) (a .d) k in
     second-out (a .q .now) m num (a .a) (a .b) (a .c) (a .d) fo (a .j) (h .tri .t) (n1 .node .result) (n2 .node2 .result) (n3 .node3 .result) th (i1 .inside-quad .result) (i1 .inside-quad .ensures num fixed) (was (i1 .inside-quad .result) (e1 .if1 .left)) (i2 .inside-quad2 .result) (i2 .inside-quad2 .ensures num fixed) (was-not (i2 .inside-quad2 .result) (c .if2 .taken))
 
--- src/region.rt:38:5
 inside-quad-requires-3 : tie.Need-inside-quad-requires-3
 inside-quad-requires-3 c κs =
     let n3 = c .before .before .before .before in
@@ -99,7 +83,6 @@ inside-quad-requires-3 c κs =
     let fo = four (a .q .now) (a .p) (t .pre .0) (t .pre .1 .pts) (a .a) (a .b) (a .c) (a .d) (t .pre .2) in
     (fo .sa .within, fo .sb .within, fo .sc .within, fo .sd .within, th .sz .within)
 
--- src/region.rt:25:1
 returns-3 : tie.Need-returns-3
 returns-3 c =
     let e2 = c .before in

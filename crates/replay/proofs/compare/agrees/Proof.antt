@@ -6,18 +6,6 @@ use native.Mathlib.Omega.{arith}
 use Rattle.replay.proofs.compare.agrees.Statement.{statement}
 use Rattle.replay.proofs.compare.agrees.Tie as tie
 
-slice-aggregate-reply : tie.Need-slice-aggregate-reply
-slice-aggregate-reply c = search needs
-
-reply-requires : tie.Need-reply-requires
-reply-requires c κs = search needs
-
-slice-aggregate-same : tie.Need-slice-aggregate-same
-slice-aggregate-same c = search needs
-
-same-requires : tie.Need-same-requires
-same-requires c κs = search needs
-
 returns : tie.Need-returns
 returns c = (omega arith, λ e. sym (c .before .before .before .before .reply .ensures .text) ∙ c .before .same .ensures (c .if1 .taken))
 
@@ -25,4 +13,4 @@ returns-2 : tie.Need-returns-2
 returns-2 c = (omega arith, λ e. absurd (omega arith))
 
 pub agrees-spec : {M : Type 1} → statement M
-agrees-spec = tie.close (tie.spec slice-aggregate-reply reply-requires slice-aggregate-same same-requires returns returns-2)
+agrees-spec = tie.close (tie.spec (λ c. search needs) (λ c κs. search needs) (λ c. search needs) (λ c κs. search needs) returns returns-2)

@@ -17,8 +17,5 @@ int-to-float-result : tie.Need-int-to-float-result
 unfolding inFloat
 int-to-float-result c = subst T (sym (le-leb (c .before .before .args .k) (2 ^ 53) (omega arith))) tt
 
-returns : tie.Need-returns
-returns c = search needs
-
 pub coordinate-spec : {M : Type 1} → statement M
-coordinate-spec = tie.close (tie.spec int-to-float-moved int-to-float-result returns)
+coordinate-spec = tie.close (tie.spec int-to-float-moved int-to-float-result (λ c. search needs))

@@ -13,17 +13,8 @@ Inv-loop points₀ n₀ points n = length points ≡ length points₀
 abbrev μ-loop : tie.MeasureT-loop
 μ-loop points₀ n₀ points n = 225 - n
 
-loop-holds : tie.Need-loop-holds Inv-loop μ-loop
-loop-holds c = refl
-
 put-node-requires : tie.Need-put-node-requires Inv-loop μ-loop
 put-node-requires c κs = omega (arith, c .before .before .loop .inv, c .before .before .before .before .pre)
-
-add-n : tie.Need-add-n Inv-loop μ-loop
-add-n c = search needs
-
-loop-less : tie.Need-loop-less Inv-loop μ-loop
-loop-less c = search needs
 
 loop-again : tie.Need-loop-again Inv-loop μ-loop
 loop-again c = c .before .before .put-node .ensures ∙ c .before .before .before .before .before .loop .inv
@@ -37,4 +28,5 @@ returns c = c .before .loop .inv
 pub put-points-spec : {M : Type 1} → statement M
 put-points-spec =
     tie.close
-    (tie.spec Inv-loop μ-loop loop-holds put-node-requires add-n loop-less loop-again same-length returns)
+    (tie.spec
+    Inv-loop μ-loop (λ c. refl) put-node-requires (λ c. search needs) (λ c. search needs) loop-again same-length returns)

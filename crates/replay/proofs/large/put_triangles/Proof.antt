@@ -13,17 +13,8 @@ Inv-loop triangles₀ s₀ triangles s = length triangles ≡ length triangles�
 abbrev μ-loop : tie.MeasureT-loop
 μ-loop triangles₀ s₀ triangles s = 196 - s
 
-loop-holds : tie.Need-loop-holds Inv-loop μ-loop
-loop-holds c = refl
-
 put-square-requires : tie.Need-put-square-requires Inv-loop μ-loop
 put-square-requires c κs = omega (arith, c .before .before .loop .inv, c .before .before .before .before .pre)
-
-add-s : tie.Need-add-s Inv-loop μ-loop
-add-s c = search needs
-
-loop-less : tie.Need-loop-less Inv-loop μ-loop
-loop-less c = search needs
 
 loop-again : tie.Need-loop-again Inv-loop μ-loop
 loop-again c = c .before .before .put-square .ensures ∙ c .before .before .before .before .before .loop .inv
@@ -37,4 +28,5 @@ returns c = c .before .loop .inv
 pub put-triangles-spec : {M : Type 1} → statement M
 put-triangles-spec =
     tie.close
-    (tie.spec Inv-loop μ-loop loop-holds put-square-requires add-s loop-less loop-again same-length returns)
+    (tie.spec
+    Inv-loop μ-loop (λ c. refl) put-square-requires (λ c. search needs) (λ c. search needs) loop-again same-length returns)

@@ -26,28 +26,11 @@ parts x r s h i =
     ∙ sym (ap (λ z. z % 2 ^ 64) (split x (x / 16777216) (x % 16777216) (x / 4294967296) (x % 4294967296) (x / 4294967296 * 435 / 4294967296) (x / 4294967296 * 435 % 4294967296)
     (div-add-mod' x 16777216) (div-add-mod' x 4294967296) (div-add-mod' (x / 4294967296 * 435) 4294967296)))
 
-mul-low : tie.Need-mul-low
-mul-low c = search needs
-
-mul-high : tie.Need-mul-high
-mul-high c = search needs
-
-mul-high-2 : tie.Need-mul-high-2
-mul-high-2 c = search needs
-
-mul-top : tie.Need-mul-top
-mul-top c = search needs
-
-wrapping-add-u64-requires : tie.Need-wrapping-add-u64-requires
-wrapping-add-u64-requires c κs = search needs
-
-wrapping-add-u64-requires-2 : tie.Need-wrapping-add-u64-requires-2
-wrapping-add-u64-requires-2 c κs = search needs
-
 returns : tie.Need-returns
 returns c = parts (c .before .before .args .x) (c .wrapping-add-u642 .result) (c .before .wrapping-add-u64 .result) (c .before .wrapping-add-u64 .ensures) (c .wrapping-add-u642 .ensures)
 
 pub times-prime-spec : {M : Type 1} → statement M
 times-prime-spec =
     tie.close
-    (tie.spec mul-low mul-high mul-high-2 mul-top wrapping-add-u64-requires wrapping-add-u64-requires-2 returns)
+    (tie.spec
+    (λ c. search needs) (λ c. search needs) (λ c. search needs) (λ c. search needs) (λ c κs. search needs) (λ c κs. search needs) returns)

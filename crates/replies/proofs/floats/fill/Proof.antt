@@ -19,27 +19,6 @@ abbrev μ-loop : tie.MeasureT-loop
 loop-holds : tie.Need-loop-holds Inv-loop μ-loop
 loop-holds c = (omega arith, refl, filled-none _ _)
 
-mul-float-of : tie.Need-mul-float-of Inv-loop μ-loop
-mul-float-of c = search needs
-
-shared-slice-read-float-of : tie.Need-shared-slice-read-float-of Inv-loop μ-loop
-shared-slice-read-float-of c = search needs
-
-float-of-requires : tie.Need-float-of-requires Inv-loop μ-loop
-float-of-requires c κs = search needs
-
-mul-points : tie.Need-mul-points Inv-loop μ-loop
-mul-points c = search needs
-
-slice-write-points : tie.Need-slice-write-points Inv-loop μ-loop
-slice-write-points c = search needs
-
-add-i : tie.Need-add-i Inv-loop μ-loop
-add-i c = search needs
-
-loop-less : tie.Need-loop-less Inv-loop μ-loop
-loop-less c = search needs
-
 loop-again : tie.Need-loop-again Inv-loop μ-loop
 loop-again c =
     let start = c .before .before .before .before .before .before in
@@ -67,16 +46,5 @@ pub fill-spec : {M : Type 1} → statement M
 fill-spec =
     tie.close
     (tie.spec
-    Inv-loop
-    μ-loop
-    loop-holds
-    mul-float-of
-    shared-slice-read-float-of
-    float-of-requires
-    mul-points
-    slice-write-points
-    add-i
-    loop-less
-    loop-again
-    same-length
-    returns)
+    Inv-loop μ-loop loop-holds (λ c. search needs) (λ c. search needs) (λ c κs. search needs) (λ c. search needs) (λ c. search needs) (λ c. search needs)
+    (λ c. search needs) loop-again same-length returns)

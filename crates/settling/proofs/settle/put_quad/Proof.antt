@@ -1,56 +1,17 @@
 use mathlib.Core.Path.{_≡_, refl, ap, sym, _∙_, subst}
-use mathlib.Core.List.{List, [], _∷_, _++_}
-use Prim.Native.Nat.{ℕ, suc, _+_, _-_, _*_, _/_, _^_, _<_, _≤_}
+use mathlib.Core.List.{[], _∷_, _++_}
+use Prim.Native.Nat.{ℕ, _+_, _*_}
 use native.Mathlib.Omega.{arith}
-use lib.ListN.{length, getD, set, length-set, length-append}
+use lib.ListN.{length, length-append}
 use Rattle.cells.specs.Layout.{refused-at}
-use Rattle.blocks.specs.Blocks.{CanFree, FreeTo, Blocks}
+use Rattle.blocks.specs.Blocks.{FreeTo, Blocks}
 use Rattle.definition.specs.Cells.{new-quad}
 use Rattle.definition.specs.Front.{freed}
 use Rattle.settling.proofs.Texts.{put-text}
 use borrow.Author.Needs.{needs}
 use Rattle.settling.proofs.settle.put_quad.Statement.{statement}
 use Rattle.settling.proofs.settle.put_quad.Tie as tie
-use Rattle.settling.proofs.settle.put_quad.Reads as reads
-use Rattle.settling.proofs.settle.put_quad.Lts as lts
-use Rattle.blocks.proofs.free.Reads as free-reads
-use Rattle.cells.proofs.layout.refused_at.Reads as refused-at-reads
-use Rattle.settling.proofs.settle.write_quad.Reads as write-quad-reads
-use Rattle.settling.proofs.standing.quadded.Reads as quadded-reads
 
--- src/settle.rt:56:14
-mul-at : tie.Need-mul-at
-mul-at c = search needs
-
--- src/settle.rt:57:16
-mul-write-quad : tie.Need-mul-write-quad
-mul-write-quad c = search needs
-
--- src/settle.rt:57:16
-sub-write-quad : tie.Need-sub-write-quad
-sub-write-quad c = search needs
-
--- src/settle.rt:57:16
-part-write-quad-start : tie.Need-part-write-quad-start
-part-write-quad-start c = search needs
-
--- src/settle.rt:57:16
-part-write-quad-end : tie.Need-part-write-quad-end
-part-write-quad-end c = search needs
-
--- src/settle.rt:57:5
-write-quad-requires : tie.Need-write-quad-requires
-write-quad-requires c κs = search needs
-
--- src/settle.rt:58:9
-refused-at-requires : tie.Need-refused-at-requires
-refused-at-requires c κs = search needs
-
--- src/settle.rt:59:16
-mul-free : tie.Need-mul-free
-mul-free c = search needs
-
--- src/settle.rt:59:5
 free-requires : tie.Need-free-requires
 free-requires c κs =
     let f = c .before in
@@ -71,19 +32,6 @@ free-requires c κs =
       },
     )
 
--- src/settle.rt:60:9
-quadded-requires : tie.Need-quadded-requires
-quadded-requires c κs = search needs
-
--- src/settle.rt:41:1
-same-length : tie.Need-same-length
-same-length c = search needs
-
--- src/settle.rt:41:1
-same-length-2 : tie.Need-same-length-2
-same-length-2 c = search needs
-
--- src/settle.rt:41:1
 returns : tie.Need-returns
 returns c =
     let r = c .before .before .before in
@@ -115,16 +63,5 @@ pub put-quad-spec : {M : Type 1} → statement M
 put-quad-spec =
     tie.close
     (tie.spec
-    mul-at
-    mul-write-quad
-    sub-write-quad
-    part-write-quad-start
-    part-write-quad-end
-    write-quad-requires
-    refused-at-requires
-    mul-free
-    free-requires
-    quadded-requires
-    same-length
-    same-length-2
-    returns)
+    (λ c. search needs) (λ c. search needs) (λ c. search needs) (λ c. search needs) (λ c. search needs) (λ c κs. search needs) (λ c κs. search needs)
+    (λ c. search needs) free-requires (λ c κs. search needs) (λ c. search needs) (λ c. search needs) returns)

@@ -1,29 +1,12 @@
 use Rattle.cells.specs.Layout.{refused-at}
 use Rattle.blocks.specs.Blocks.{CanBlock, BlockTo}
 use Rattle.settling.specs.Standings.{Recorded}
-use mathlib.Core.Path.{_≡_, refl, ap, sym, _∙_, subst}
-use mathlib.Core.List.{List, [], _∷_, _++_}
-use Prim.Native.Nat.{ℕ, suc, _+_, _-_, _*_, _/_, _^_, _<_, _≤_}
-use native.Mathlib.Omega.{arith}
-use lib.ListN.{length, getD, set, length-set, length-append}
+use mathlib.Core.Path.{refl, sym, subst}
+use Prim.Native.Nat.{ℕ, _*_}
 use borrow.Author.Needs.{needs}
 use Rattle.settling.proofs.settle.put_record.Statement.{statement}
 use Rattle.settling.proofs.settle.put_record.Tie as tie
-use Rattle.settling.proofs.settle.put_record.Reads as reads
-use Rattle.settling.proofs.settle.put_record.Lts as lts
-use Rattle.blocks.proofs.block.Reads as block-reads
-use Rattle.cells.proofs.layout.refused_at.Reads as refused-at-reads
-use Rattle.settling.proofs.standing.recorded.Reads as recorded-reads
 
--- src/settle.rt:72:9
-refused-at-requires : tie.Need-refused-at-requires
-refused-at-requires c κs = search needs
-
--- src/settle.rt:73:25
-mul-block : tie.Need-mul-block
-mul-block c = search needs
-
--- src/settle.rt:73:9
 block-requires : tie.Need-block-requires
 block-requires c κs =
     let f = c .before in
@@ -31,15 +14,6 @@ block-requires c κs =
     let a = t .args in
     (t .pre .0, t .pre .1, subst (λ (b : ℕ). CanBlock (a .w .now) b (3 * a .s) (a .p) (a .h .records) (a .h .quads) (a .u) (a .v) (t .pre .0) (t .pre .1)) (sym (f .refused-at .ensures)) (t .pre .2 .can))
 
--- src/settle.rt:74:9
-recorded-requires : tie.Need-recorded-requires
-recorded-requires c κs = search needs
-
--- src/settle.rt:68:1
-same-length : tie.Need-same-length
-same-length c = search needs
-
--- src/settle.rt:68:1
 returns : tie.Need-returns
 returns c =
     let b = c .before .before .before in
@@ -58,6 +32,4 @@ returns c =
     }
 
 pub put-record-spec : {M : Type 1} → statement M
-put-record-spec =
-    tie.close
-    (tie.spec refused-at-requires mul-block block-requires recorded-requires same-length returns)
+put-record-spec = tie.close (tie.spec (λ c κs. search needs) (λ c. search needs) block-requires (λ c κs. search needs) (λ c. search needs) returns)

@@ -1,31 +1,11 @@
-use mathlib.Core.Path.{_≡_, refl, ap, sym, _∙_, subst}
-use mathlib.Core.List.{List, [], _∷_, _++_}
-use Prim.Native.Nat.{ℕ, suc, _+_, _-_, _*_, _/_, _^_, _<_, _≤_}
-use native.Mathlib.Omega.{arith}
-use lib.ListN.{length, getD, set, length-set, length-append}
+use mathlib.Core.Path.{refl, sym, _∙_}
 use Rattle.definition.specs.Counts.{of-points, of-slots}
 use Rattle.settling.specs.Standings.{sort-of}
 use Rattle.settling.proofs.Settling.{can-put, put-settles, can-record, record-settles, end-settles, sort-last}
 use borrow.Author.Needs.{needs}
 use Rattle.settling.proofs.settle.settle.Statement.{statement}
 use Rattle.settling.proofs.settle.settle.Tie as tie
-use Rattle.settling.proofs.settle.settle.Reads as reads
-use Rattle.settling.proofs.settle.settle.Lts as lts
-use Rattle.settling.proofs.settle.put_quad.Reads as put-quad-reads
-use Rattle.settling.proofs.settle.put_record.Reads as put-record-reads
-use Rattle.settling.proofs.standing.refused.Reads as refused-reads
-use Rattle.settling.proofs.standing.sort_of.Reads as sort-of-reads
-use Rattle.settling.proofs.standing.tried.Reads as tried-reads
 
--- src/settle.rt:97:9
-tried-requires : tie.Need-tried-requires
-tried-requires c κs = search needs
-
--- src/settle.rt:98:9
-sort-of-requires : tie.Need-sort-of-requires
-sort-of-requires c κs = search needs
-
--- src/settle.rt:100:9
 put-quad-requires : tie.Need-put-quad-requires
 put-quad-requires c κs =
     let at-if1 = c .before .before in
@@ -37,15 +17,6 @@ put-quad-requires c κs =
     let h = t .pre in
     (h .0, h .1, h .2, h .3, can-put (a .w .now) (a .quads .now) (a .s) (a .p) (a .g) (a .t) (a .u) (a .v) (h .0) (h .1) (h .2) (h .3) (h .4) (at-tried .tried .result) (at-tried .tried .ensures) (sym (at-sort-of .sort-of .ensures) ∙ at-if1 .if1 .taken))
 
--- src/settle.rt:100:9
-same-length : tie.Need-same-length
-same-length c = search needs
-
--- src/settle.rt:100:9
-same-length-2 : tie.Need-same-length-2
-same-length-2 c = search needs
-
--- src/settle.rt:100:9
 returns : tie.Need-returns
 returns c =
     let at-quads = c .before in
@@ -60,7 +31,6 @@ returns c =
     λ ever bl qs old h. put-settles (a .w .now) (a .quads .now) (a .s) (a .p) (a .g) (a .t) (a .u) (a .v) ever bl qs old h (at-tried .tried .result) (at-tried .tried .ensures) (at-put-quad .put-quad .last .0) (at-put-quad .put-quad .last .1 .0) (at-put-quad .put-quad .result) (sym (at-sort-of .sort-of .ensures) ∙ at-if1 .if1 .taken)
     (at-put-quad .put-quad .ensures ever bl qs old (can-put (a .w .now) (a .quads .now) (a .s) (a .p) (a .g) (a .t) (a .u) (a .v) ever bl qs old h (at-tried .tried .result) (at-tried .tried .ensures) (sym (at-sort-of .sort-of .ensures) ∙ at-if1 .if1 .taken)))
 
--- src/settle.rt:103:13
 refused-requires : tie.Need-refused-requires
 refused-requires c κs =
     let at-if2 = c in
@@ -72,7 +42,6 @@ refused-requires c κs =
     let a = t .args in
     at-tried .tried .ensures .few
 
--- src/settle.rt:104:9
 put-record-requires : tie.Need-put-record-requires
 put-record-requires c κs =
     let at-refused = c .before in
@@ -86,11 +55,6 @@ put-record-requires c κs =
     let h = t .pre in
     (h .0, h .1, can-record (a .w .now) (a .quads .now) (a .s) (a .p) (a .g) (a .t) (a .u) (a .v) (h .0) (h .1) (h .2) (h .3) (h .4) (at-tried .tried .result) (at-tried .tried .ensures) (at-refused .refused .result) (at-refused .refused .ensures) (sym (at-sort-of .sort-of .ensures) ∙ at-if2 .if2 .taken))
 
--- src/settle.rt:104:9
-same-length-3 : tie.Need-same-length-3
-same-length-3 c = search needs
-
--- src/settle.rt:104:9
 returns-2 : tie.Need-returns-2
 returns-2 c =
     let at-w2 = c .before in
@@ -106,7 +70,6 @@ returns-2 c =
     λ ever bl qs old h. record-settles (a .w .now) (a .quads .now) (a .s) (a .p) (a .g) (a .t) (a .u) (a .v) ever bl qs old h (at-tried .tried .result) (at-tried .tried .ensures) (at-refused .refused .result) (at-refused .refused .ensures) (sym (at-sort-of .sort-of .ensures) ∙ at-if2 .if2 .taken) (at-put-record .put-record .last .0) (at-put-record .put-record .result)
     (at-put-record .put-record .ensures ever bl (can-record (a .w .now) (a .quads .now) (a .s) (a .p) (a .g) (a .t) (a .u) (a .v) ever bl qs old h (at-tried .tried .result) (at-tried .tried .ensures) (at-refused .refused .result) (at-refused .refused .ensures) (sym (at-sort-of .sort-of .ensures) ∙ at-if2 .if2 .taken)))
 
--- src/settle.rt:107:9
 returns-3 : tie.Need-returns-3
 returns-3 c =
     let at-if3 = c in
@@ -119,7 +82,6 @@ returns-3 c =
     let a = t .args in
     λ ever bl qs old h. end-settles (a .w .now) (a .quads .now) (a .s) (a .p) (a .g) (a .t) (a .u) (a .v) ever bl qs old h (at-tried .tried .result) (at-tried .tried .ensures) of-points _ (sym (at-sort-of .sort-of .ensures) ∙ at-if3 .if3 .taken) refl refl
 
--- src/settle.rt:82:1
 returns-4 : tie.Need-returns-4
 returns-4 c =
     let at-if3 = c in
@@ -137,15 +99,5 @@ pub settle-spec : {M : Type 1} → statement M
 settle-spec =
     tie.close
     (tie.spec
-    tried-requires
-    sort-of-requires
-    put-quad-requires
-    same-length
-    same-length-2
-    returns
-    refused-requires
-    put-record-requires
-    same-length-3
-    returns-2
-    returns-3
-    returns-4)
+    (λ c κs. search needs) (λ c κs. search needs) put-quad-requires (λ c. search needs) (λ c. search needs) returns refused-requires put-record-requires
+    (λ c. search needs) returns-2 returns-3 returns-4)

@@ -1,17 +1,10 @@
-use mathlib.Core.Path.{_≡_, refl, ap, sym, _∙_, subst}
+use mathlib.Core.Path.{refl}
 use Rattle.definition.specs.Counts.{tally}
 use Rattle.settling.proofs.Tallies.{inserted-counts}
 use borrow.Author.Needs.{needs}
 use Rattle.settling.proofs.standing.tried.Statement.{statement}
 use Rattle.settling.proofs.standing.tried.Tie as tie
-use Rattle.settling.proofs.standing.tried.Reads as reads
-use Rattle.settling.proofs.standing.tried.Lts as lts
 
--- src/standing.rt:142:5
-add-t : tie.Need-add-t
-add-t c = search needs
-
--- src/standing.rt:136:1
 returns : tie.Need-returns
 unfolding tally
 returns c =
@@ -20,4 +13,4 @@ returns c =
     record { counters = refl; counts = λ e. inserted-counts (a .g .tally) (a .g .counters .attempts) (a .c .attempts) (a .n) e; few = record { front = few .front; placement = few .placement; invalid = few .invalid; recovery = few .recovery; region = few .region; odd = few .odd; insertions = c .before .before .pre .1; limit = few .limit }; quads = refl; records = refl }
 
 pub tried-spec : {M : Type 1} → statement M
-tried-spec = tie.close (tie.spec add-t returns)
+tried-spec = tie.close (tie.spec (λ c. search needs) returns)

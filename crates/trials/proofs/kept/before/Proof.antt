@@ -14,12 +14,9 @@ returns-2 : tie.Need-returns-2
 unfolding trial-before trial-of _≺_
 returns-2 c = rw (c .before .before .before .if1 .left, c .if2 .taken)
 
-nodes-before-requires : tie.Need-nodes-before-requires
-nodes-before-requires c κs = search needs
-
 returns-3 : tie.Need-returns-3
 unfolding trial-before trial-of _≺_
 returns-3 c = rw (c .before .before .before .before .if1 .left, c .before .if2 .left) (c .nodes-before .ensures)
 
 pub before-spec : {M : Type 1} → statement M
-before-spec = tie.close (tie.spec returns returns-2 nodes-before-requires returns-3)
+before-spec = tie.close (tie.spec returns returns-2 (λ c κs. search needs) returns-3)

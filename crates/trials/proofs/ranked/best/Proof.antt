@@ -24,14 +24,8 @@ below c = omega (arith, c .before .loop .inv .within, c .loop-test .taken)
 inside : (c : tie.In-loop Inv-loop μ-loop) → c .before .before .before .before .before .args .near-at + (c .before .loop .i - 1) < length (c .before .before .before .before .before .args .w .now)
 inside c = omega (arith, below c, c .before .before .before .before .before .pre .1 .near)
 
-none-requires : tie.Need-none-requires Inv-loop μ-loop
-none-requires c κs = search needs
-
 loop-holds : tie.Need-loop-holds Inv-loop μ-loop
 loop-holds c = gone-none _ _ _ _ (length-part _ _ _ (c .before .before .before .pre .1 .near)) _ (c .none .ensures)
-
-sub-i : tie.Need-sub-i Inv-loop μ-loop
-sub-i c = search needs
 
 add-c : tie.Need-add-c Inv-loop μ-loop
 add-c c = let h = inside c in search needs
@@ -59,9 +53,6 @@ with-node-requires c κs =
       },
     )
 
-loop-less : tie.Need-loop-less Inv-loop μ-loop
-loop-less c = search needs
-
 loop-again : tie.Need-loop-again Inv-loop μ-loop
 loop-again c =
     let l = c .before .before .before in
@@ -78,16 +69,5 @@ pub best-spec : {M : Type 1} → statement M
 best-spec =
     tie.close
     (tie.spec
-    Inv-loop
-    μ-loop
-    none-requires
-    loop-holds
-    sub-i
-    add-c
-    mul-c
-    shared-slice-read-c
-    cast-c
-    with-node-requires
-    loop-less
-    loop-again
-    returns)
+    Inv-loop μ-loop (λ c κs. search needs) loop-holds (λ c. search needs) add-c mul-c shared-slice-read-c cast-c with-node-requires (λ c. search needs)
+    loop-again returns)

@@ -12,9 +12,6 @@ use Rattle.trials.proofs.Rating.{rated-absent, rated-fails, rated-passe
 use Rattle.trials.proofs.ranked.rate.Statement.{statement}
 use Rattle.trials.proofs.ranked.rate.Tie as tie
 
-quad-metrics-requires : tie.Need-quad-metrics-requires
-quad-metrics-requires c κs = search needs
-
 enum-told : tie.Need-enum-told
 enum-told c = search needs
 
@@ -24,24 +21,12 @@ returns c =
     let k = c .before .before in
     kept-same _ _ (k .before .before .pre .0) (rated-absent _ _ (sym (k .quad-metrics .ensures base base-fixed) ∙ ap metrics-of-enum (c .enum-told .given .1)))
 
-enum-told-2 : tie.Need-enum-told-2
-enum-told-2 c = search needs
-
-passes-base-requires : tie.Need-passes-base-requires
-passes-base-requires c κs = search needs
-
 returns-2 : tie.Need-returns-2
 unfolding metrics-at
 returns-2 c =
     let k = c .before in
     let m = k .before .before .before .quad-metrics .ensures base base-fixed in
     kept-same _ _ (k .before .before .before .before .before .pre .0) (rated-fails _ _ (ap (passes base) (sym m) ∙ sym (k .passes-base .ensures) ∙ not-true _ (c .if1 .taken)))
-
-score-requires : tie.Need-score-requires
-score-requires c κs = search needs
-
-insert-requires : tie.Need-insert-requires
-insert-requires c κs = search needs
 
 returns-3 : tie.Need-returns-3
 unfolding metrics-at trial-of quad-of
@@ -55,12 +40,4 @@ pub rate-spec : {M : Type 1} → statement M
 rate-spec =
     tie.close
     (tie.spec
-    quad-metrics-requires
-    enum-told
-    returns
-    enum-told-2
-    passes-base-requires
-    returns-2
-    score-requires
-    insert-requires
-    returns-3)
+    (λ c κs. search needs) enum-told returns (λ c. search needs) (λ c κs. search needs) returns-2 (λ c κs. search needs) (λ c κs. search needs) returns-3)

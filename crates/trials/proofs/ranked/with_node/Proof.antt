@@ -21,18 +21,6 @@ loop-holds : tie.Need-loop-holds Inv-loop μ-loop
 unfolding onto
 loop-holds c = let k = c .before .before in gone-none _ _ _ _ (length-part _ _ _ (k .pre .1 .stands)) _ (kept-same _ [] (k .pre .0) refl)
 
-sub-j : tie.Need-sub-j Inv-loop μ-loop
-sub-j c = search needs
-
-add-d : tie.Need-add-d Inv-loop μ-loop
-add-d c = search needs
-
-mul-d : tie.Need-mul-d Inv-loop μ-loop
-mul-d c = search needs
-
-shared-slice-read-d : tie.Need-shared-slice-read-d Inv-loop μ-loop
-shared-slice-read-d c = search needs
-
 cast-d : tie.Need-cast-d Inv-loop μ-loop
 cast-d c = search (needs, c .shared-slice-known3 .given (c .before .before .before .before .before .args .far-at + (c .before .before .loop .j - 1)))
 
@@ -42,9 +30,6 @@ with-pair-requires c κs =
     let h : c .before .before .loop .j - 1 < k .args .fars = omega (arith, c .before .before .loop .inv .within, c .before .loop-test .taken) in
     let p = k .pre .1 in
     (c .before .before .loop .inv .so-far .few, p .a-within, p .b-within, p .c-within, p .within _ h)
-
-loop-less : tie.Need-loop-less Inv-loop μ-loop
-loop-less c = search needs
 
 loop-again : tie.Need-loop-again Inv-loop μ-loop
 loop-again c =
@@ -61,15 +46,5 @@ pub with-node-spec : {M : Type 1} → statement M
 with-node-spec =
     tie.close
     (tie.spec
-    Inv-loop
-    μ-loop
-    loop-holds
-    sub-j
-    add-d
-    mul-d
-    shared-slice-read-d
-    cast-d
-    with-pair-requires
-    loop-less
-    loop-again
-    returns)
+    Inv-loop μ-loop loop-holds (λ c. search needs) (λ c. search needs) (λ c. search needs) (λ c. search needs) cast-d with-pair-requires
+    (λ c. search needs) loop-again returns)

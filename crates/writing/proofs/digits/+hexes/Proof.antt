@@ -1,10 +1,8 @@
 -- `digits::hexes` calls itself for the digits before the last; the measure is their number.
-use mathlib.Core.Path.{sym, ap, _∙_}
-use mathlib.Core.List.{[], _∷_, _++_}
-use Prim.Native.Nat.{ℕ, _+_, _-_, _/_, _%_, _<_, _≤_}
+use mathlib.Core.Path.{sym}
+use Prim.Native.Nat.{ℕ, _-_, _/_, _<_}
 use native.Mathlib.Omega.{arith}
-use lib.ListN.{length, length-set}
-use Rattle.definition.specs.Text.{hex-in}
+use lib.ListN.{length-set}
 use Rattle.writing.proofs.Puts.{and-on, one-byte, no-text, same-text}
 use Rattle.writing.proofs.Shows.{hex-none, hex-more, hex-long}
 use borrow.Author.Needs.{needs}

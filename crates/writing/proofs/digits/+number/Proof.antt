@@ -1,10 +1,8 @@
 -- `digits::number` calls itself for a tenth of the number; the measure is the number.
-use mathlib.Core.Path.{sym, ap, _∙_}
-use mathlib.Core.List.{[], _∷_, _++_}
-use Prim.Native.Nat.{ℕ, _+_, _/_, _%_, _<_, _≤_}
+use mathlib.Core.Path.{sym, ap}
+use Prim.Native.Nat.{ℕ, _+_, _%_, _<_}
 use native.Mathlib.Omega.{arith}
 use lib.ListN.{length, length-set}
-use Rattle.definition.specs.Text.{show}
 use Rattle.writing.proofs.Puts.{and-on, one-byte, same-text}
 use Rattle.writing.proofs.Shows.{show-one, show-more, show-longer}
 use borrow.Author.Needs.{needs}

@@ -7,17 +7,11 @@ use native.Mathlib.Omega.{arith}
 use Rattle.writing.proofs.digits.bits_then.Statement.{statement}
 use Rattle.writing.proofs.digits.bits_then.Tie as tie
 
-hexes-requires : tie.Need-hexes-requires
-hexes-requires c κs = search needs
-
 slice-write-out : tie.Need-slice-write-out
 slice-write-out c = omega (arith, hex-long 16 (c .before .before .before .before .before .args .n), c .before .before .hexes .ensures .next, c .before .before .hexes .kept .0, c .before .before .before .before .before .pre)
 
 add-result : tie.Need-add-result
 add-result c = omega (arith, hex-long 16 (c .before .before .before .before .before .args .n), c .before .before .hexes .ensures .next, c .before .before .before .before .before .pre, c .before .before .before .before .before .good .0 .0)
-
-same-length : tie.Need-same-length
-same-length c = search needs
 
 returns : tie.Need-returns
 unfolding show-bits
@@ -31,4 +25,4 @@ returns c =
     }
 
 pub bits-then-spec : {M : Type 1} → statement M
-bits-then-spec = tie.close (tie.spec hexes-requires slice-write-out add-result same-length returns)
+bits-then-spec = tie.close (tie.spec (λ c κs. search needs) slice-write-out add-result (λ c. search needs) returns)

@@ -2,7 +2,6 @@
 use borrow.Author.Needs.{needs}
 use Rattle.writing.proofs.Puts.{and-next, one-byte}
 use Rattle.writing.proofs.Shows.{show-short}
-use Rattle.definition.specs.Text.{show-bits}
 use native.Mathlib.Omega.{arith}
 use Rattle.writing.proofs.digits.number_then.Statement.{statement}
 use Rattle.writing.proofs.digits.number_then.Tie as tie
@@ -16,9 +15,6 @@ slice-write-out c = omega (arith, show-short (c .before .before .before .before 
 add-result : tie.Need-add-result
 add-result c = omega (arith, show-short (c .before .before .before .before .before .args .n) (c .before .before .before .before .before .fits .n .fits), c .before .before .number .ensures .next, c .before .before .before .before .before .pre, c .before .before .before .before .before .good .0 .0)
 
-same-length : tie.Need-same-length
-same-length c = search needs
-
 returns : tie.Need-returns
 returns c =
     let a = c .before .before .before .before .before in
@@ -30,5 +26,4 @@ returns c =
     }
 
 pub number-then-spec : {M : Type 1} → statement M
-number-then-spec =
-    tie.close (tie.spec number-requires slice-write-out add-result same-length returns)
+number-then-spec = tie.close (tie.spec number-requires slice-write-out add-result (λ c. search needs) returns)

@@ -2,7 +2,7 @@
 use borrow.Author.Needs.{needs}
 use Rattle.writing.proofs.Puts.{and-next, no-text, same-text}
 use Rattle.writing.proofs.Rows.{point-more, no-lines}
-use mathlib.Core.Path.{_≡_, refl, sym, ap, _∙_}
+use mathlib.Core.Path.{_≡_, refl, ap, _∙_}
 use mathlib.Core.List.{map}
 use Prim.Native.Nat.{ℕ, _+_, _-_, _*_, _≤_}
 use lib.Ieee.{nan, binary64, toBits}
@@ -27,50 +27,8 @@ loop-holds c =
     let e : a .k - a .k ≡ 0 = omega arith in
     (omega arith, omega arith, omega arith, refl, same-text (no-text _ _) (rw e (no-lines show-bits 3 (map (toBits binary64) (drop (3 * a .k) (now (a .points)))))))
 
-mul-j : tie.Need-mul-j Inv-loop μ-loop
-mul-j c = search needs
-
-mul-bits-of : tie.Need-mul-bits-of Inv-loop μ-loop
-mul-bits-of c = search needs
-
-shared-slice-read-bits-of : tie.Need-shared-slice-read-bits-of Inv-loop μ-loop
-shared-slice-read-bits-of c = search needs
-
-bits-of-requires : tie.Need-bits-of-requires Inv-loop μ-loop
-bits-of-requires c κs = search needs
-
-add-bits-of : tie.Need-add-bits-of Inv-loop μ-loop
-add-bits-of c = search needs
-
-mul-bits-of-2 : tie.Need-mul-bits-of-2 Inv-loop μ-loop
-mul-bits-of-2 c = search needs
-
-shared-slice-read-bits-of-2 : tie.Need-shared-slice-read-bits-of-2 Inv-loop μ-loop
-shared-slice-read-bits-of-2 c = search needs
-
-bits-of-requires-2 : tie.Need-bits-of-requires-2 Inv-loop μ-loop
-bits-of-requires-2 c κs = search needs
-
-add-bits-of-2 : tie.Need-add-bits-of-2 Inv-loop μ-loop
-add-bits-of-2 c = search needs
-
-mul-bits-of-3 : tie.Need-mul-bits-of-3 Inv-loop μ-loop
-mul-bits-of-3 c = search needs
-
-shared-slice-read-bits-of-3 : tie.Need-shared-slice-read-bits-of-3 Inv-loop μ-loop
-shared-slice-read-bits-of-3 c = search needs
-
-bits-of-requires-3 : tie.Need-bits-of-requires-3 Inv-loop μ-loop
-bits-of-requires-3 c κs = search needs
-
 place-requires : tie.Need-place-requires Inv-loop μ-loop
 place-requires c κs = omega (arith, c .before .before .before .before .before .before .before .before .loop .inv .0, c .before .before .before .before .before .before .before .before .loop .inv .2, c .before .before .before .before .before .before .before .before .loop .inv .3, c .before .before .before .before .before .before .before .before .before .before .before .pre, c .before .before .before .before .before .before .before .loop-test .taken)
-
-add-i : tie.Need-add-i Inv-loop μ-loop
-add-i c = search needs
-
-loop-less : tie.Need-loop-less Inv-loop μ-loop
-loop-less c = search needs
 
 loop-again : tie.Need-loop-again Inv-loop μ-loop
 loop-again c =
@@ -101,24 +59,6 @@ pub added-spec : {M : Type 1} → statement M
 added-spec =
     tie.close
     (tie.spec
-    Inv-loop
-    μ-loop
-    loop-holds
-    mul-j
-    mul-bits-of
-    shared-slice-read-bits-of
-    bits-of-requires
-    add-bits-of
-    mul-bits-of-2
-    shared-slice-read-bits-of-2
-    bits-of-requires-2
-    add-bits-of-2
-    mul-bits-of-3
-    shared-slice-read-bits-of-3
-    bits-of-requires-3
-    place-requires
-    add-i
-    loop-less
-    loop-again
-    same-length
-    returns)
+    Inv-loop μ-loop loop-holds (λ c. search needs) (λ c. search needs) (λ c. search needs) (λ c κs. search needs) (λ c. search needs) (λ c. search needs)
+    (λ c. search needs) (λ c κs. search needs) (λ c. search needs) (λ c. search needs) (λ c. search needs) (λ c κs. search needs) place-requires
+    (λ c. search needs) (λ c. search needs) loop-again same-length returns)

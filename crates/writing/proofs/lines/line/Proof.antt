@@ -2,7 +2,7 @@
 use borrow.Author.Needs.{needs}
 use Rattle.writing.proofs.Puts.{and-next, no-text, same-text}
 use Rattle.writing.proofs.Rows.{spaced, spaced-next, line-next}
-use mathlib.Core.Path.{_≡_, refl, sym, _∙_}
+use mathlib.Core.Path.{_≡_, refl, _∙_}
 use Prim.Native.Nat.{_+_, _-_, _*_, _≤_}
 use lib.ListN.{length, take, drop}
 use denote.Ref.{now}
@@ -22,27 +22,6 @@ loop-holds : tie.Need-loop-holds Inv-loop μ-loop
 unfolding spaced
 loop-holds c = (omega arith, omega arith, refl, no-text _ _)
 
-add-loop : tie.Need-add-loop Inv-loop μ-loop
-add-loop c = search needs
-
-add-number-then : tie.Need-add-number-then Inv-loop μ-loop
-add-number-then c = search needs
-
-mul-number-then : tie.Need-mul-number-then Inv-loop μ-loop
-mul-number-then c = search needs
-
-shared-slice-read-number-then : tie.Need-shared-slice-read-number-then Inv-loop μ-loop
-shared-slice-read-number-then c = search needs
-
-number-then-requires : tie.Need-number-then-requires Inv-loop μ-loop
-number-then-requires c κs = search needs
-
-add-j : tie.Need-add-j Inv-loop μ-loop
-add-j c = search needs
-
-loop-less : tie.Need-loop-less Inv-loop μ-loop
-loop-less c = search needs
-
 loop-again : tie.Need-loop-again Inv-loop μ-loop
 loop-again c =
     let a = c .before .before .before .before .before .before .before .before .before .args in
@@ -54,18 +33,6 @@ loop-again c =
       same-text (and-next (l .inv .3) (omega (arith, c .before .before .before .before .before .before .before .before .before .pre, l .inv .1, c .before .before .before .before .before .loop-test .taken)) (f .ensures .written))
           (spaced-next show (now (a .xs)) (a .from) (l .j) (omega (arith, c .before .before .before .before .before .before .before .before .before .pre, c .before .before .before .before .before .loop-test .taken))),
     )
-
-add-number-then-2 : tie.Need-add-number-then-2 Inv-loop μ-loop
-add-number-then-2 c = search needs
-
-mul-number-then-2 : tie.Need-mul-number-then-2 Inv-loop μ-loop
-mul-number-then-2 c = search needs
-
-shared-slice-read-number-then-2 : tie.Need-shared-slice-read-number-then-2 Inv-loop μ-loop
-shared-slice-read-number-then-2 c = search needs
-
-number-then-requires-2 : tie.Need-number-then-requires-2 Inv-loop μ-loop
-number-then-requires-2 c κs = search needs
 
 same-length : tie.Need-same-length Inv-loop μ-loop
 same-length c = c .before .before .number-then2 .kept .0 ∙ c .before .before .before .before .before .before .loop .inv .2
@@ -85,20 +52,5 @@ pub line-spec : {M : Type 1} → statement M
 line-spec =
     tie.close
     (tie.spec
-    Inv-loop
-    μ-loop
-    loop-holds
-    add-loop
-    add-number-then
-    mul-number-then
-    shared-slice-read-number-then
-    number-then-requires
-    add-j
-    loop-less
-    loop-again
-    add-number-then-2
-    mul-number-then-2
-    shared-slice-read-number-then-2
-    number-then-requires-2
-    same-length
-    returns)
+    Inv-loop μ-loop loop-holds (λ c. search needs) (λ c. search needs) (λ c. search needs) (λ c. search needs) (λ c κs. search needs) (λ c. search needs)
+    (λ c. search needs) loop-again (λ c. search needs) (λ c. search needs) (λ c. search needs) (λ c κs. search needs) same-length returns)

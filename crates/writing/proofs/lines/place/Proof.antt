@@ -2,23 +2,10 @@
 use borrow.Author.Needs.{needs}
 use Rattle.writing.proofs.Puts.{and-next, same-text}
 use mathlib.Core.List.{append-assoc}
-use mathlib.Core.Path.{_∙_}
 use Rattle.definition.specs.Text.{line-of}
 use native.Mathlib.Omega.{arith}
 use Rattle.writing.proofs.lines.place.Statement.{statement}
 use Rattle.writing.proofs.lines.place.Tie as tie
-
-bits-then-requires : tie.Need-bits-then-requires
-bits-then-requires c κs = search needs
-
-bits-then-requires-2 : tie.Need-bits-then-requires-2
-bits-then-requires-2 c κs = search needs
-
-bits-then-requires-3 : tie.Need-bits-then-requires-3
-bits-then-requires-3 c κs = search needs
-
-same-length : tie.Need-same-length
-same-length c = search needs
 
 returns : tie.Need-returns
 unfolding line-of
@@ -35,6 +22,4 @@ returns c =
     }
 
 pub place-spec : {M : Type 1} → statement M
-place-spec =
-    tie.close
-    (tie.spec bits-then-requires bits-then-requires-2 bits-then-requires-3 same-length returns)
+place-spec = tie.close (tie.spec (λ c κs. search needs) (λ c κs. search needs) (λ c κs. search needs) (λ c. search needs) returns)

@@ -33,12 +33,6 @@ line-requires c κs = omega (arith, fits-next (c .before))
 add-from : tie.Need-add-from Inv-loop μ-loop
 add-from c = omega (arith, fits-next (c .before .before .before .before), c .before .before .before .before .before .before .before .before .good .1 .1 .0 .0, c .before .before .before .before .before .loop .inv .1, c .before .before .before .before .before .before .before .before .pre)
 
-add-i : tie.Need-add-i Inv-loop μ-loop
-add-i c = search needs
-
-loop-less : tie.Need-loop-less Inv-loop μ-loop
-loop-less c = search needs
-
 loop-again : tie.Need-loop-again Inv-loop μ-loop
 loop-again c =
     let a = c .before .before .before .before .before .before .before .before .args in
@@ -69,13 +63,4 @@ pub table-spec : {M : Type 1} → statement M
 table-spec =
     tie.close
     (tie.spec
-    Inv-loop
-    μ-loop
-    loop-holds
-    line-requires
-    add-from
-    add-i
-    loop-less
-    loop-again
-    same-length
-    returns)
+    Inv-loop μ-loop loop-holds line-requires add-from (λ c. search needs) (λ c. search needs) loop-again same-length returns)

@@ -6,16 +6,10 @@ use Rattle.trials.specs.Kept.{most}
 use Rattle.trials.proofs.kept.Trials.insert.Statement.{statement}
 use Rattle.trials.proofs.kept.Trials.insert.Tie as tie
 
-place-requires : tie.Need-place-requires
-place-requires c κs = search needs
-
-put-requires : tie.Need-put-requires
-put-requires c κs = search needs
-
 returns : tie.Need-returns
 returns c =
     let k = c .put .ensures in
     record { few = k .few; list = k .list ∙ ap (take most) (sym (c .before .place .ensures .there)) }
 
 pub insert-spec : {M : Type 1} → statement M
-insert-spec = tie.close (tie.spec place-requires put-requires returns)
+insert-spec = tie.close (tie.spec (λ c κs. search needs) (λ c κs. search needs) returns)

@@ -21,38 +21,11 @@ whole c = simp length-map at (c .good .0 .1 .1 .0 .1 .0 .1)
 loop-holds : tie.Need-loop-holds Inv-loop μ-loop
 loop-holds c = pushed-none _ _ _ (c .pre .0)
 
-mul-next : tie.Need-mul-next Inv-loop μ-loop
-mul-next c = search needs
-
-element-copy-out-next : tie.Need-element-copy-out-next Inv-loop μ-loop
-element-copy-out-next c = search needs
-
-mul-carried : tie.Need-mul-carried Inv-loop μ-loop
-mul-carried c = search needs
-
-element-set-from-carried : tie.Need-element-set-from-carried Inv-loop μ-loop
-element-set-from-carried c = search needs
-
-add-i : tie.Need-add-i Inv-loop μ-loop
-add-i c = search needs
-
-loop-less : tie.Need-loop-less Inv-loop μ-loop
-loop-less c = search needs
-
 loop-again : tie.Need-loop-again Inv-loop μ-loop
 loop-again c = let k = c .before .before in pushed-more _ _ _ _ _ _ _ (k .loop .inv) _ (c .before .loop-test .taken) (omega (arith, whole (k .before), k .before .pre .1))
 
 returns : tie.Need-returns Inv-loop μ-loop
 returns c = let k = c .before .before in put-full _ _ _ _ _ _ _ (k .loop .inv) refl (k .before .pre .0) (c .before .loop-test .left) (c .if1 .taken) (whole (k .before))
-
-mul-carried-2 : tie.Need-mul-carried-2 Inv-loop μ-loop
-mul-carried-2 c = search needs
-
-element-set-from-carried-2 : tie.Need-element-set-from-carried-2 Inv-loop μ-loop
-element-set-from-carried-2 c = search needs
-
-add-self : tie.Need-add-self Inv-loop μ-loop
-add-self c = search needs
 
 returns-2 : tie.Need-returns-2 Inv-loop μ-loop
 returns-2 c = let k = c .before .before in put-room _ _ _ _ _ _ _ (k .loop .inv) refl (k .before .pre .0) (c .before .loop-test .left) (omega (arith, c .if1 .left, k .before .pre .1)) (whole (k .before))
@@ -61,18 +34,5 @@ pub put-spec : {M : Type 1} → statement M
 put-spec =
     tie.close
     (tie.spec
-    Inv-loop
-    μ-loop
-    loop-holds
-    mul-next
-    element-copy-out-next
-    mul-carried
-    element-set-from-carried
-    add-i
-    loop-less
-    loop-again
-    returns
-    mul-carried-2
-    element-set-from-carried-2
-    add-self
-    returns-2)
+    Inv-loop μ-loop loop-holds (λ c. search needs) (λ c. search needs) (λ c. search needs) (λ c. search needs) (λ c. search needs) (λ c. search needs)
+    loop-again returns (λ c. search needs) (λ c. search needs) (λ c. search needs) returns-2)
