@@ -7,7 +7,7 @@ use native.Mathlib.Omega.{arith}
 use lib.ListN.{length, take, length-append}
 use lib.Seq.{take-append-seam}
 use Rattle.definition.specs.Numbers.{Settings}
-use Rattle.definition.specs.Counts.{Counts, tally, _⊞_, no-counts, emptied, one-attempt, insertions, at-limit, Refusal, Placement, Shape, Recovery, Region, OddRegion, refused-by}
+use Rattle.definition.specs.Counts.{Counts, tally, _⊞_, no-counts, emptied, one-attempt, Spent, spending, at-limit, Refusal, Placement, Shape, Recovery, Region, OddRegion, refused-by}
 use Rattle.definition.specs.Plane.{Node, Edge}
 use Rattle.definition.specs.Cells.{Tri, Mesh}
 use Rattle.definition.specs.Front.{State, counting, Result, ran, new-mesh, start, result, run-front}
@@ -23,16 +23,16 @@ use Rattle.account.specs.Run.{Rule, run-ok}
 abbrev pub Adds-up : Counts → ℕ → Type 0
 Adds-up c quads = c .attempts ≡ quads + c .placement + c .invalid-quad + c .recovery + c .region + c .odd-region + c .limit
 
-sum-refused : (c : Counts) (quads n : ℕ) (why : Refusal) → Adds-up c quads → Adds-up (c ⊞ one-attempt ⊞ insertions n ⊞ refused-by why) quads
-unfolding _⊞_ tally one-attempt insertions refused-by
+sum-refused : (c : Counts) (quads : ℕ) (n : Spent) (why : Refusal) → Adds-up c quads → Adds-up (c ⊞ one-attempt ⊞ spending n ⊞ refused-by why) quads
+unfolding _⊞_ tally one-attempt spending refused-by
 sum-refused c quads n Placement h = omega arith
 sum-refused c quads n Shape h = omega arith
 sum-refused c quads n Recovery h = omega arith
 sum-refused c quads n Region h = omega arith
 sum-refused c quads n OddRegion h = omega arith
 
-added-refused : (c : Counts) (n : ℕ) (why : Refusal) → (c ⊞ one-attempt ⊞ insertions n ⊞ refused-by why) .mismatch-insertions ≡ c .mismatch-insertions + n
-unfolding _⊞_ tally one-attempt insertions refused-by
+added-refused : (c : Counts) (n : Spent) (why : Refusal) → (c ⊞ one-attempt ⊞ spending n ⊞ refused-by why) .mismatch-insertions ≡ c .mismatch-insertions + n .insertions
+unfolding _⊞_ tally one-attempt spending refused-by
 added-refused c n Placement = omega arith
 added-refused c n Shape = omega arith
 added-refused c n Recovery = omega arith
@@ -75,7 +75,7 @@ module _ (s : Settings) (ps : List Node) where
 
   -- every attempt is counted once, and every added point
   pub counted-rule : Rule s Q P (λ st. Unit {0})
-  unfolding _⊞_ tally one-attempt insertions at-limit emptied counting
+  unfolding _⊞_ tally one-attempt spending at-limit emptied counting
   counted-rule = record {
     opens = λ st es ok h f. h;
     begins = λ st es h. record { new = []; is = sym (append-nil (st .mesh .points)); number = refl };
@@ -85,13 +85,13 @@ module _ (s : Settings) (ps : List Node) where
       is = split-grows m (x .slot) t p ∙ ap (λ l. l ++ (p ∷ [])) (h .is) ∙ append-assoc (st .mesh .points) (h .new) (p ∷ []);
       number = length-append (h .new) (p ∷ []) ∙ omega (arith, h .number);
     };
-    refuses = λ st e es why n m h ok w. grown (st .mesh .points) (m .points) (st .counts) _ (length (st .quads)) _ n h w (added-refused (st .counts) n why) (sum-refused (st .counts) (length (st .quads)) n why (h .adds-up));
+    refuses = λ st e es why n m h ok w. grown (st .mesh .points) (m .points) (st .counts) _ (length (st .quads)) _ (n .insertions) h w (added-refused (st .counts) n why) (sum-refused (st .counts) (length (st .quads)) n why (h .adds-up));
     places = λ st e es n m q h w.
         let same : m .points ≡ w .mesh .points = ap (λ k. k .points) (w .after) ∙ replaced-points (w .mesh) q (w .cells) in
         let b = w .before .1 in
         let l = length-append (st .quads) (q ∷ []) in
         let sum = h .adds-up in
-        grown (st .mesh .points) (m .points) (st .counts) _ (length (st .quads)) _ n h (record { new = b .new; is = same ∙ b .is; number = b .number }) (omega arith) (omega arith);
+        grown (st .mesh .points) (m .points) (st .counts) _ (length (st .quads)) _ (n .insertions) h (record { new = b .new; is = same ∙ b .is; number = b .number }) (omega arith) (omega arith);
     ends = λ st e es n m h ok w. tt;
     limits = λ st es h. record { added = h .added; points-are = h .points-are; number = omega (arith, h .number); adds-up = let sum = h .adds-up in omega arith };
     empties = λ st h. record { added = h .added; points-are = h .points-are; number = omega (arith, h .number); adds-up = let sum = h .adds-up in omega arith };

@@ -11,7 +11,7 @@ use lib.Dec.{eqb, leb, ltb}
 use lib.ListN.{length}
 use borrow.Author.Tests.{eqb-false, leb-false, ltb-false}
 use Rattle.definition.specs.Lists.{any, find, table, below}
-use Rattle.definition.specs.Numbers.{Numbers}
+use Rattle.definition.specs.Numbers.{Quality}
 use Rattle.definition.specs.Counts.{Counts}
 use Rattle.definition.specs.Plane.{Node}
 use Rattle.definition.specs.Cells.{Tri, tri-nodes}
@@ -34,30 +34,30 @@ table-length f [] = refl
 table-length f (x ∷ xs) = ap suc (table-length f xs)
 
 -- the run behind a finished call
-pub record Behind (num : Numbers) (a : Asked) (l : Lent) (c : Counts) (n : Lengths) : Type 0 where
+pub record Behind (y : Quality) (a : Asked) (l : Lent) (c : Counts) (n : Lengths) : Type 0 where
   pub run : Result
-  pub ended : run-front (settings num a) (given-tris a l) (given-points a l) ≡ ran run
+  pub ended : run-front (settings y a) (given-tris a l) (given-points a l) ≡ ran run
   pub counts-are : c ≡ run .counts
   pub lengths-are : n ≡ lengths run
-  pub exit : call num a l .lent ≡ written (run .points) (run .quads) (run .triangles) (run .sizes) l
+  pub exit : call y a l .lent ≡ written (run .points) (run .quads) (run .triangles) (run .sizes) l
   pub passed : find (λ c. c .1) (conditions a l) ≡ none
 
-module _ (num : Numbers) (a : Asked) (l : Lent) (c : Counts) (n : Lengths) where
-  call-runs : find (λ c. c .1) (conditions a l) ≡ none → call num a l ≡ after-run l (run-front (settings num a) (given-tris a l) (given-points a l))
+module _ (y : Quality) (a : Asked) (l : Lent) (c : Counts) (n : Lengths) where
+  call-runs : find (λ c. c .1) (conditions a l) ≡ none → call y a l ≡ after-run l (run-front (settings y a) (given-tris a l) (given-points a l))
   unfolding call
   call-runs f = rw (f, call) refl
 
-  by-outcome : (o : Outcome) → find (λ c. c .1) (conditions a l) ≡ none → run-front (settings num a) (given-tris a l) (given-points a l) ≡ o
-      → after-run l o .answer ≡ finished c n → Behind num a l c n
+  by-outcome : (o : Outcome) → find (λ c. c .1) (conditions a l) ≡ none → run-front (settings y a) (given-tris a l) (given-points a l) ≡ o
+      → after-run l o .answer ≡ finished c n → Behind y a l c n
   unfolding after-run
   by-outcome (ran r) f e h = record { run = r; ended = e; counts-are = cc; lengths-are = cc; exit = ap (λ z. z .lent) (call-runs f ∙ ap (after-run l) e); passed = f }
   by-outcome (wanting w ps qs) f e h = absurd (let z : _≡_ {A = ℕ} 0 1 = cc in omega arith)
 
   -- a finished call has a run behind it
-  pub behind : call num a l .answer ≡ finished c n → Behind num a l c n
+  pub behind : call y a l .answer ≡ finished c n → Behind y a l c n
   unfolding call untouched
   behind h = elim (known (find (λ c. c .1) (conditions a l))) [
-    | inl f ↦ by-outcome (run-front (settings num a) (given-tris a l) (given-points a l)) f refl (sym (ap (λ z. z .answer) (call-runs f)) ∙ h)
+    | inl f ↦ by-outcome (run-front (settings y a) (given-tris a l) (given-points a l)) f refl (sym (ap (λ z. z .answer) (call-runs f)) ∙ h)
     | inr f ↦
         let g : refusal (f .0 .0) ≡ finished c n = rw (f .1, call) at h in
         absurd (let z : _≡_ {A = ℕ} 0 1 = cc in omega arith)

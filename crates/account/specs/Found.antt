@@ -9,7 +9,7 @@ use Prim.Native.Nat.{ℕ, zero, suc}
 use lib.Ieee.{Float}
 use borrow.Author.Tests.{eqb-true}
 use Rattle.definition.specs.Floats.{_⊗_}
-use Rattle.definition.specs.Numbers.{Numbers}
+use Rattle.definition.specs.Numbers.{insert-reach}
 use Rattle.definition.specs.Plane.{Node, Edge}
 use Rattle.definition.specs.Cells.{Tri, Quad, Cell, tri, quad, Live, Mesh, is-tri, live-tri, edges, quad-edges, edge-before, owns, in-slot, cell-of, owners, tri-owners, tri-owner, all-edges, in-slot-order, without, among}
 use Rattle.definition.specs.Flips.{first-crossing}
@@ -77,11 +77,11 @@ live-region-tris m seed o r = region-from-live (m .used) m o r [] [] (seed-stack
 -- ---- one cell, one edge
 
 -- the holder of a point
-pub holder-in : (num : Numbers) (m : Mesh) (seed : ℕ) (p : Node) (x : Live) → holder num m seed p ≡ some x → In x (m .live) × (holds num m p (x .cell) ≡ true)
+pub holder-in : (m : Mesh) (seed : ℕ) (p : Node) (x : Live) → holder m seed p ≡ some x → In x (m .live) × (holds m p (x .cell) ≡ true)
 unfolding holder in-slot-order
-holder-in num m seed p x e =
-    let near = live-region m seed p (num .insert-reach ⊗ m .bucket) in
-    let r = find-in (λ x. holds num m p (x .cell)) x (near ++ in-slot-order (m .live)) e in
+holder-in m seed p x e =
+    let near = live-region m seed p (insert-reach ⊗ m .bucket) in
+    let r = find-in (λ x. holds m p (x .cell)) x (near ++ in-slot-order (m .live)) e in
     (elim (in-either x near (in-slot-order (m .live)) (r .0)) [ inl i ↦ live-region-tris m seed p _ x i .0 | inr i ↦ sort-in _ x (m .live) i ], r .1)
 
 -- the first crossing edge is an edge of the mesh
@@ -158,33 +158,33 @@ flood-tris (suc n) m sides done (x ∷ todo) cells h k e = elim (known (reach-al
 ]
 
 -- a region that fills the quad is the flood
-pub filled-is : (num : Numbers) (m : Mesh) (q : Quad) (o : Option (List Live)) (cells : List Live) → if-filled num m q o ≡ some cells → o ≡ some cells
+pub filled-is : (m : Mesh) (q : Quad) (o : Option (List Live)) (cells : List Live) → if-filled m q o ≡ some cells → o ≡ some cells
 unfolding if-filled
-filled-is num m q none cells e = no-some cells e
-filled-is num m q (some r) cells e = elim (which (fills num m q r)) [ inl f ↦ rw f at e | inr f ↦ no-some cells (rw f at e) ]
+filled-is m q none cells e = no-some cells e
+filled-is m q (some r) cells e = elim (which (fills m q r)) [ inl f ↦ rw f at e | inr f ↦ no-some cells (rw f at e) ]
 
-from-seed-tris : (num : Numbers) (m : Mesh) (q : Quad) (o : Option Live) (cells : List Live) → ((x : Live) → o ≡ some x → In x (m .live) × (live-tri x ≡ true))
-    → region-from num m q o ≡ some cells → All-tris m cells
+from-seed-tris : (m : Mesh) (q : Quad) (o : Option Live) (cells : List Live) → ((x : Live) → o ≡ some x → In x (m .live) × (live-tri x ≡ true))
+    → region-from m q o ≡ some cells → All-tris m cells
 unfolding region-from
-from-seed-tris num m q none cells h e = no-some cells e
-from-seed-tris num m q (some x) cells h e =
+from-seed-tris m q none cells h e = no-some cells e
+from-seed-tris m q (some x) cells h e =
     flood-tris (m .used) m (quad-edges q) [] (x ∷ []) cells (λ y i. absurd i)
-    (λ y i. elim i [ inl f ↦ subst (λ z. In z (m .live) × (live-tri z ≡ true)) (sym f) (h x refl) ]) (filled-is num m q _ cells e)
+    (λ y i. elim i [ inl f ↦ subst (λ z. In z (m .live) × (live-tri z ≡ true)) (sym f) (h x refl) ]) (filled-is m q _ cells e)
 
 -- a region from a triangle's slot has live triangles alone
-pub region-tris : (num : Numbers) (m : Mesh) (seed : ℕ) (q : Quad) (cells : List Live) → Valid m → Tri-at m seed → region num m seed q ≡ some cells → All-tris m cells
+pub region-tris : (m : Mesh) (seed : ℕ) (q : Quad) (cells : List Live) → Valid m → Tri-at m seed → region m seed q ≡ some cells → All-tris m cells
 unfolding region
-region-tris num m seed q cells ok sd e = from-seed-tris num m q (cell-of m seed) cells (λ y f.
+region-tris m seed q cells ok sd e = from-seed-tris m q (cell-of m seed) cells (λ y f.
     let r = cell-live m seed y f in
     let g : sd .x ≡ y = one-cell (m .live) (sd .x) y (ok .slots) (sd .at) (r .0) (sd .slot-is ∙ r .1) in
     (r .0, subst (λ z. live-tri z ≡ true) g (sd .is-one))) e
 
 -- a live cell whose slot is one of the region's is a triangle
-pub region-slot-tri : (num : Numbers) (m : Mesh) (seed : ℕ) (q : Quad) (cells : List Live) → Valid m → Tri-at m seed → region num m seed q ≡ some cells
+pub region-slot-tri : (m : Mesh) (seed : ℕ) (q : Quad) (cells : List Live) → Valid m → Tri-at m seed → region m seed q ≡ some cells
     → (x : Live) → In x (m .live) → among cells x ≡ true → (t : Tri) × (x .cell ≡ tri t)
 unfolding among live-tri in-slot
-region-slot-tri num m seed q cells ok sd e x i a =
+region-slot-tri m seed q cells ok sd e x i a =
     let r = any-in (in-slot (x .slot)) cells a in
-    let w = region-tris num m seed q cells ok sd e (r .0) (r .1) in
+    let w = region-tris m seed q cells ok sd e (r .0) (r .1) in
     let g : r .0 ≡ x = one-cell (m .live) (r .0) x (ok .slots) (w .0) i (sym (eqb-true (x .slot) (r .0 .slot) (r .2))) in
     is-a-tri (x .cell) (subst (λ z. live-tri z ≡ true) g (w .1))

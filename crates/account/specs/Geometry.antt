@@ -8,7 +8,7 @@ use lib.ListN.{length}
 use lib.Ieee.{Float, nan, inf, fin, le, ofBits}
 use borrow.Author.Tests.{not-false}
 use Rattle.definition.specs.Floats.{_≼_, abs, finite, f64, 0·0, 8·0}
-use Rattle.definition.specs.Numbers.{Settings, base}
+use Rattle.definition.specs.Numbers.{Settings, Quality, base, insert-shares, tiny-length}
 use Rattle.definition.specs.Plane.{Node, flat, point, point-strictly-inside, from-to, norm, dist, edge-length}
 use Rattle.definition.specs.Metrics.{corners, quad-metrics, passes}
 use Rattle.definition.specs.Cells.{Tri, Quad, tri, Mesh, node-at, quad-nodes}
@@ -33,15 +33,15 @@ Within p = outside p ≡ false
 -- proved of the floats elsewhere
 pub record Geometry : Type 0 where
   -- a quad whose metrics pass is exactly convex and counterclockwise, and no corner is under 24.99 degrees
-  pub passing : (a b c d : Node) → Within a → Within b → Within c → Within d → passes base (quad-metrics base a b c d) ≡ true
+  pub passing : (a b c d : Node) → Within a → Within b → Within c → Within d → passes base (quad-metrics a b c d) ≡ true
       → All Turns-left (corners a b c d) × All Wide-enough (corners a b c d)
   -- a point on the normal of an edge a b, strictly inside a triangle t u v, is within the limit
-  pub inside : (asked : Asked) → bad-size asked ≡ false
+  pub inside : (s : Settings) (asked : Asked) → s .size ≡ asked .size → bad-size asked ≡ false
       → (a b o t u v : Node) → Within a → Within b → Within o → Within t → Within u → Within v
-      → (share : Float) → share ∈ base .shares
-      → (norm (from-to a b) ≼ base .tiny-length) ≡ false
-      → (p : Node) → p ≡ along o (inward-normal (from-to a b) (norm (from-to a b))) (target-of (settings base asked) (dist b a)) share
-      → point-strictly-inside base t u v p ≡ true → Within p
+      → (share : Float) → share ∈ insert-shares
+      → (norm (from-to a b) ≼ tiny-length) ≡ false
+      → (p : Node) → p ≡ along o (inward-normal (from-to a b) (norm (from-to a b))) (target-of s (dist b a)) share
+      → point-strictly-inside t u v p ≡ true → Within p
 
 -- ---- points within the limit
 
@@ -75,21 +75,18 @@ within-finite p h =
 
 -- ---- the run
 
-module _ (geometry : Geometry) (asked : Asked) (sized : bad-size asked ≡ false) where
-  abbrev s : Settings
-  s = settings base asked
-
+module _ (geometry : Geometry) (s : Settings) (asked : Asked) (same : s .size ≡ asked .size) (sized : bad-size asked ≡ false) where
   split-within : (start m : Mesh) (p : Node) (t : Tri) → All-within (start .points) → All-within (m .points) → On-normal s start m p
-      → holds base m p (tri t) ≡ true → Within p
-  unfolding settings holds node-at edge-length
+      → holds m p (tri t) ≡ true → Within p
+  unfolding holds node-at edge-length
   split-within start m p t h k on held =
       let at : (i : ℕ) → Within (point (start .points) i) = point-within (start .points) h in
       let here : (i : ℕ) → Within (point (m .points) i) = point-within (m .points) k in
-      geometry .inside asked sized (node-at start (on .a)) (node-at start (on .b)) (node-at m (on .end)) (node-at m (t .n0)) (node-at m (t .n1)) (node-at m (t .n2))
+      geometry .inside s asked same sized (node-at start (on .a)) (node-at start (on .b)) (node-at m (on .end)) (node-at m (t .n0)) (node-at m (t .n1)) (node-at m (t .n2))
       (at (on .a)) (at (on .b)) (here (on .end)) (here (t .n0)) (here (t .n1)) (here (t .n2)) (on .share) (on .among) (on .long) p (on .place) held
 
   within-rule : Rule s (λ st es. All-within (st .mesh .points)) (λ st es n m. All-within (st .mesh .points) × All-within (m .points)) (λ st. All-within (st .mesh .points))
-  unfolding counting settings
+  unfolding counting
   within-rule = record {
     opens = λ st es ok h f. h;
     begins = λ st es h. (h, h);

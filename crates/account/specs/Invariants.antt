@@ -5,7 +5,7 @@ use Prim.{absurd}
 use Prim.Native.Nat.{ℕ, _+_, _≤_}
 use native.Mathlib.Omega.{arith}
 use lib.ListN.{length}
-use Rattle.definition.specs.Numbers.{Numbers, Settings}
+use Rattle.definition.specs.Numbers.{Quality, Settings}
 use Rattle.definition.specs.Counts.{Counts, Want}
 use Rattle.definition.specs.Plane.{Node, Edge}
 use Rattle.definition.specs.Cells.{Tri, Quad, Mesh, triangles}
@@ -29,7 +29,7 @@ pub record Good (s : Settings) (given : ℕ) (m : Mesh) (quads : List Quad) (es 
   -- every quad took a slot that no given triangle had
   pub quads-fit : given + length quads ≤ m .used
   -- every quad was rated by the points as they are
-  pub rated : All-rated (s .numbers) (m .points) quads
+  pub rated : All-rated (s .quality) (m .points) quads
   -- the different edges are at most three for each slot in use
   pub tracked : Tracked m es
 
@@ -47,7 +47,7 @@ module _ (s : Settings) (given : ℕ) (fs : List Edge) where
   abbrev pub R : State → Type 0
   R st = Good s given (st .mesh) (st .quads) fs
 
-  four : {m : Mesh} {qs : List Quad} → Fits s m → given + length qs ≤ m .used → All-rated (s .numbers) (m .points) qs → Tracked m fs → Good s given m qs fs
+  four : {m : Mesh} {qs : List Quad} → Fits s m → given + length qs ≤ m .used → All-rated (s .quality) (m .points) qs → Tracked m fs → Good s given m qs fs
   four a b c d = record { fits = a; quads-fit = b; rated = c; tracked = d }
 
   -- every state of a run is good
@@ -65,10 +65,10 @@ module _ (s : Settings) (given : ℕ) (fs : List Edge) where
         splits = λ st es n m x t p ok h w. four (a .splits st es n m x t p ok (h .fits) w) (b .splits st es n m x t p ok (h .quads-fit) w) (c .splits st es n m x t p ok (h .rated) w) (d .splits st es n m x t p ok (h .tracked) w);
         refuses = λ st e es why n m h ok w. w;
         places = λ st e es n m q h w. four
-            (a .places st e es n m q (h .fits) (made-weaker s _ _ (λ n m k. (k .0, k .1 .fits)) n m q w))
-            (b .places st e es n m q (h .quads-fit) (made-weaker s _ _ (λ n m k. (k .0, k .1 .quads-fit)) n m q w))
-            (c .places st e es n m q (h .rated) (made-weaker s _ _ (λ n m k. (k .0, k .1 .rated)) n m q w))
-            (d .places st e es n m q (h .tracked) (made-weaker s _ _ (λ n m k. (k .0, k .1 .tracked)) n m q w));
+            (a .places st e es n m q (h .fits) (made-weaker s _ _ (λ n m k. (k .0, k .1 .fits)) (n .insertions) m q w))
+            (b .places st e es n m q (h .quads-fit) (made-weaker s _ _ (λ n m k. (k .0, k .1 .quads-fit)) (n .insertions) m q w))
+            (c .places st e es n m q (h .rated) (made-weaker s _ _ (λ n m k. (k .0, k .1 .rated)) (n .insertions) m q w))
+            (d .places st e es n m q (h .tracked) (made-weaker s _ _ (λ n m k. (k .0, k .1 .tracked)) (n .insertions) m q w));
         ends = λ st e es n m h ok w. w;
         limits = λ st es h. h;
         empties = λ st h. h;
@@ -125,11 +125,11 @@ left-fit s ts ps qs us w h a b e =
     (omega arith, omega arith)
 
 -- a finished call's lists fit the slices that the caller stated
-pub answer-fits : (num : Numbers) (a : Asked) (l : Lent) (c : Counts) (n : Lengths) → call num a l .answer ≡ finished c n
-    → Lists-fit (settings num a) (n .points) (n .quads) (n .triangles) (n .components)
+pub answer-fits : (y : Quality) (a : Asked) (l : Lent) (c : Counts) (n : Lengths) → call y a l .answer ≡ finished c n
+    → Lists-fit (settings y a) (n .points) (n .quads) (n .triangles) (n .components)
 unfolding settings lengths
-answer-fits num a l c n e =
-    let b = behind num a l c n e in
-    let w = lists-fit (settings num a) (given-tris a l) (given-points a l) (b .run) (given-proper a l (b .passed))
+answer-fits y a l c n e =
+    let b = behind y a l c n e in
+    let w = lists-fit (settings y a) (given-tris a l) (given-points a l) (b .run) (given-proper a l (b .passed))
     (omega (arith, points-number a l (b .passed), given-fit a l (b .passed))) (omega (arith, tris-number a l (b .passed), slots-fit a l (b .passed))) (b .ended) in
-    subst (λ k. Lists-fit (settings num a) (k .points) (k .quads) (k .triangles) (k .components)) (sym (b .lengths-are)) w
+    subst (λ k. Lists-fit (settings y a) (k .points) (k .quads) (k .triangles) (k .components)) (sym (b .lengths-are)) w

@@ -1,5 +1,5 @@
 -- Every finished call keeps its account, given what is asked of exact geometry.
-use mathlib.Core.Path.{_≡_, sym, subst}
+use mathlib.Core.Path.{_≡_, sym, subst, refl}
 use mathlib.Core.Bool.{false}
 use mathlib.Core.List.{List}
 use Prim.Native.Nat.{ℕ}
@@ -32,7 +32,7 @@ module _ (geometry : Geometry) where
       let c = counted s ps ts r proper e in
       let k = leftover s ts ps r proper e in
       let rated = quads-rated s ts ps r proper e in
-      let within = points-within geometry a size ts ps r proper near e in
+      let within = points-within geometry (settings base a) a refl size ts ps r proper near e in
       let sound : (q : Quad) → In q (r .quads) → Sound-quad (r .points) q = λ q i. sound-quad geometry (r .points) q within (rated q i) in
       record {
         points-given = points-given ps (r .points) (r .counts) (length (r .quads)) c;

@@ -8,8 +8,8 @@ use Prim.{absurd}
 use Prim.Native.Nat.{ℕ, zero, suc, _+_, _<_}
 use native.Mathlib.Omega.{arith}
 use lib.ListN.{length}
-use Rattle.definition.specs.Numbers.{Settings, max-attempts}
-use Rattle.definition.specs.Counts.{_⊞_, emptied, one-attempt, insertions, at-limit, Refusal, Placement, refused-by, Want}
+use Rattle.definition.specs.Numbers.{Settings}
+use Rattle.definition.specs.Counts.{_⊞_, emptied, one-attempt, Spent, nothing-spent, spending, at-limit, Refusal, Placement, refused-by, Want}
 use Rattle.definition.specs.Plane.{Node, Edge}
 use Rattle.definition.specs.Cells.{Tri, Quad, Live, Mesh, all-edges, is-front, front}
 use Rattle.definition.specs.Flips.{flip}
@@ -29,16 +29,16 @@ use Rattle.account.specs.Fronts.{loops-in, open-in, front-in}
 -- ---- the states after an attempt that was counted
 
 -- the edge is blocked
-abbrev pub after-refused : State → Edge → Refusal → ℕ → Mesh → State
-after-refused st e why n m = record { mesh = m; quads = st .quads; blocked = e ∷ st .blocked; counts = st .counts ⊞ one-attempt ⊞ insertions n ⊞ refused-by why }
+abbrev pub after-refused : State → Edge → Refusal → Spent → Mesh → State
+after-refused st e why n m = record { mesh = m; quads = st .quads; blocked = e ∷ st .blocked; counts = st .counts ⊞ one-attempt ⊞ spending n ⊞ refused-by why }
 
 -- the quad is there
-abbrev pub after-placed : State → ℕ → Mesh → Quad → State
-after-placed st n m q = record { mesh = m; quads = st .quads ++ (q ∷ []); blocked = freed q (st .blocked); counts = st .counts ⊞ one-attempt ⊞ insertions n }
+abbrev pub after-placed : State → Spent → Mesh → Quad → State
+after-placed st n m q = record { mesh = m; quads = st .quads ++ (q ∷ []); blocked = freed q (st .blocked); counts = st .counts ⊞ one-attempt ⊞ spending n }
 
 -- the run ends for want of lent memory
-abbrev pub after-ended : State → ℕ → Mesh → State
-after-ended st n m = record { mesh = m; quads = st .quads; blocked = st .blocked; counts = st .counts ⊞ one-attempt ⊞ insertions n }
+abbrev pub after-ended : State → Spent → Mesh → State
+after-ended st n m = record { mesh = m; quads = st .quads; blocked = st .blocked; counts = st .counts ⊞ one-attempt ⊞ spending n }
 
 -- a limit ends the run
 abbrev pub after-limit : State → State
@@ -59,11 +59,11 @@ pub record Rule (s : Settings) (Q : State → List Edge → Type 0) (P : State �
   pub flips : (st : State) (es : List Edge) (n : ℕ) (m m′ : Mesh) (e : Edge) → Valid m → P st es n m → In e (all-edges m) → flip m e ≡ some m′ → P st es n m′
   pub splits : (st : State) (es : List Edge) (n : ℕ) (m : Mesh) (x : Live) (t : Tri) (p : Node) → Valid m → P st es n m → Splitting s (st .mesh) m x t p
       → P st es (suc n) (split-triangle m (x .slot) t p)
-  pub refuses : (st : State) (e : Edge) (es : List Edge) (why : Refusal) (n : ℕ) (m : Mesh) → Q st (e ∷ es) → Valid m → P st (e ∷ es) n m
+  pub refuses : (st : State) (e : Edge) (es : List Edge) (why : Refusal) (n : Spent) (m : Mesh) → Q st (e ∷ es) → Valid m → P st (e ∷ es) (n .insertions) m
       → Q (after-refused st e why n m) es
-  pub places : (st : State) (e : Edge) (es : List Edge) (n : ℕ) (m : Mesh) (q : Quad) → Q st (e ∷ es) → Made s (λ n m. Valid m × P st (e ∷ es) n m) n m q
+  pub places : (st : State) (e : Edge) (es : List Edge) (n : Spent) (m : Mesh) (q : Quad) → Q st (e ∷ es) → Made s (λ n m. Valid m × P st (e ∷ es) n m) (n .insertions) m q
       → Q (after-placed st n m q) []
-  pub ends : (st : State) (e : Edge) (es : List Edge) (n : ℕ) (m : Mesh) → Q st (e ∷ es) → Valid m → P st (e ∷ es) n m → R (after-ended st n m)
+  pub ends : (st : State) (e : Edge) (es : List Edge) (n : Spent) (m : Mesh) → Q st (e ∷ es) → Valid m → P st (e ∷ es) (n .insertions) m → R (after-ended st n m)
   pub limits : (st : State) (es : List Edge) → Q st es → Q (after-limit st) []
   pub empties : (st : State) → Q st [] → Q (counting st emptied) []
 
@@ -97,17 +97,17 @@ module _ (s : Settings) (Q : State → List Edge → Type 0) (P : State → List
   after-ok : (st : State) (e : Edge) (es : List Edge) (a : Attempt) → Q st (e ∷ es) → Attempt-ok s (λ n m. Valid m × P st (e ∷ es) n m) a
       → Progress-ok Q R es (after (counting st one-attempt) e a)
   unfolding after counting
-  after-ok st e es (placed n m q) h ok = (made-valid (P st (e ∷ es)) n m q ok, rule .places st e es n m q h ok)
+  after-ok st e es (placed n m q) h ok = (made-valid (P st (e ∷ es)) (n .insertions) m q ok, rule .places st e es n m q h ok)
   after-ok st e es (refused why n m) h ok = (ok .0, rule .refuses st e es why n m h (ok .0) (ok .1))
   after-ok st e es (ended w n m) h ok = (ok .0, rule .ends st e es n m h (ok .0) (ok .1))
 
   -- one attempt
   pub attempt-ok : (given : ℕ) (st : State) (e : Edge) (es : List Edge) → e .0 < e .1 → Sound Q st (e ∷ es) → Progress-ok Q R es (attempt s given st e)
-  unfolding attempt make-attempt counting
+  unfolding attempt make-attempt counting nothing-spent
   attempt-ok given st e es l h =
-      let off : Attempt = refused Placement 0 (st .mesh) in
+      let off : Attempt = refused Placement nothing-spent (st .mesh) in
       let first = rule .begins st (e ∷ es) (h .1) in
-      cond-ok (Progress-ok Q R es) (past-limit (s .numbers) given (counting st one-attempt)) _ _ (λ z. (h .0, rule .limits st (e ∷ es) (h .1)))
+      cond-ok (Progress-ok Q R es) (past-limit s given (counting st one-attempt)) _ _ (λ z. (h .0, rule .limits st (e ∷ es) (h .1)))
       (λ z. after-ok st e es _ (h .1) (cond-ok (Attempt-ok s (λ n m. Valid m × P st (e ∷ es) n m)) (is-front (st .mesh) e) (try-quad s (st .mesh) e) off
       (λ y. try-quad-ok s (st .mesh) (λ n m. Valid m × P st (e ∷ es) n m)
       (λ n m m′ f p i w. (flip-kept m f m′ (p .0) i (flip-made m f m′ w) .valid, rule .flips st (e ∷ es) n m m′ f (p .0) (p .1) i w))
@@ -182,7 +182,7 @@ module _ (s : Settings) (Q : State → List Edge → Type 0) (P : State → List
   pub run-ok : (ts : List Tri) (ps : List Node) (r : Result) → Sound Q (start s ts ps) [] → run-front s ts ps ≡ ran r → (st : State) × Sound Q st [] × (r ≡ result st)
   unfolding run-front
   run-ok ts ps r h e =
-      let n = max-attempts (s .numbers) (length ts) + 2 in
+      let n = s .attempts + 2 in
       outcome-ok r (front-loop n s (length ts) (start s ts ps)) (front-loop-ok n (length ts) (start s ts ps) h) e
 
   stopped-ok : (w : Want) (ps : List Node) (qs : List Quad) (p : Progress) → Progress-ok Q R [] p → outcome p ≡ wanting w ps qs
@@ -198,5 +198,5 @@ module _ (s : Settings) (Q : State → List Edge → Type 0) (P : State → List
       → (st : State) × Valid (st .mesh) × R st × (qs ≡ st .mesh .points) × (us ≡ st .quads)
   unfolding run-front
   run-stopped ts ps w qs us h e =
-      let n = max-attempts (s .numbers) (length ts) + 2 in
+      let n = s .attempts + 2 in
       stopped-ok w qs us (front-loop n s (length ts) (start s ts ps)) (front-loop-ok n (length ts) (start s ts ps) h) e

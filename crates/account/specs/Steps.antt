@@ -13,8 +13,8 @@ use lib.Ieee.{Float}
 use borrow.Author.Tests.{leb-false, ltb-false}
 use Rattle.definition.specs.Lists.{below}
 use Rattle.definition.specs.Floats.{_⊗_, _≼_}
-use Rattle.definition.specs.Numbers.{Settings, Turn}
-use Rattle.definition.specs.Counts.{Refusal, Recovery}
+use Rattle.definition.specs.Numbers.{Settings, Turn, first-turn, second-turn, insert-shares, node-spacing, tiny-length}
+use Rattle.definition.specs.Counts.{Refusal, Recovery, Spent, nothing-spent, inserting}
 use Rattle.definition.specs.Plane.{Node, Vec, Edge, norm, from-to, edge-length}
 use Rattle.definition.specs.Cells.{Tri, Quad, Cell, tri, quad, Live, Mesh, node-at, cell-of, tri-owner, has-edge, all-edges, with-live, set-cell, push-cell}
 use Rattle.definition.specs.Flips.{flip, flip-first, first-crossing, recover-in, recover}
@@ -39,8 +39,8 @@ pub record On-normal (s : Settings) (start m : Mesh) (p : Node) : Type 0 where
   pub b : ℕ
   pub end : ℕ
   pub share : Float
-  pub among : In share (s .numbers .shares)
-  pub long : (norm (from-to (node-at start a) (node-at start b)) ≼ s .numbers .tiny-length) ≡ false
+  pub among : In share insert-shares
+  pub long : (norm (from-to (node-at start a) (node-at start b)) ≼ tiny-length) ≡ false
   pub place : p ≡ along (node-at m end) (inward-normal (from-to (node-at start a) (node-at start b)) (norm (from-to (node-at start a) (node-at start b))))
       (target-of s (edge-length (start .points) (a, b))) share
 
@@ -48,7 +48,7 @@ pub record On-normal (s : Settings) (start m : Mesh) (p : Node) : Type 0 where
 pub record Splitting (s : Settings) (start m : Mesh) (x : Live) (t : Tri) (p : Node) : Type 0 where
   pub at : In x (m .live)
   pub cell : x .cell ≡ tri t
-  pub held : holds (s .numbers) m p (tri t) ≡ true
+  pub held : holds m p (tri t) ≡ true
   pub point-left : length (m .points) < s .capacity
   pub slots-left : m .used + 2 ≤ s .slots
   pub normal : On-normal s start m p
@@ -60,10 +60,10 @@ pub record Made (s : Settings) (P : ℕ → Mesh → Type 0) (n : ℕ) (m′ : M
   pub seed : ℕ
   pub seed-tri : Tri-at mesh seed
   pub cells : List Live
-  pub reached : region (s .numbers) mesh seed q ≡ some cells
+  pub reached : region mesh seed q ≡ some cells
   pub none-odd : s .even ≡ true → removing-leaves-odd-component mesh cells ≡ false
   pub slot-left : mesh .used + 1 ≤ s .slots
-  pub trial : Rated (s .numbers) (mesh .points) q
+  pub trial : Rated (s .quality) (mesh .points) q
   pub after : m′ ≡ replaced mesh q cells
 
 -- what an insertion leaves
@@ -74,9 +74,9 @@ Inserted-ok P n (full w) = Unit {0}
 
 -- what the search of side nodes leaves
 abbrev pub Sides-ok : (ℕ → Mesh → Type 0) → Sides → Type 0
-Sides-ok P (found vs n m) = P n m × Below vs m
-Sides-ok P (missing n m) = P n m
-Sides-ok P (overfull w n m) = P n m
+Sides-ok P (found vs n m) = P (n .insertions) m × Below vs m
+Sides-ok P (missing n m) = P (n .insertions) m
+Sides-ok P (overfull w n m) = P (n .insertions) m
 
 -- ps are the points by which the quad was rated
 abbrev pub Tried-ok : Settings → (ℕ → Mesh → Type 0) → ℕ → List Node → Quad → Tried → Type 0
@@ -87,9 +87,9 @@ Tried-ok s P n ps q (no-slot m) = P n m
 
 -- what an attempt leaves
 abbrev pub Attempt-ok : Settings → (ℕ → Mesh → Type 0) → Attempt → Type 0
-Attempt-ok s P (placed n m q) = Made s P n m q
-Attempt-ok s P (refused why n m) = P n m
-Attempt-ok s P (ended w n m) = P n m
+Attempt-ok s P (placed n m q) = Made s P (n .insertions) m q
+Attempt-ok s P (refused why n m) = P (n .insertions) m
+Attempt-ok s P (ended w n m) = P (n .insertions) m
 
 -- every flip keeps P
 abbrev pub Flips-keep : (ℕ → Mesh → Type 0) → Type 0
@@ -145,7 +145,7 @@ split-count m id t p = ap length (split-grows m id t p) ∙ length-append (m .po
 
 module _ (s : Settings) (start : Mesh) (P : ℕ → Mesh → Type 0) (splits : Splits-keep s start P) where
   split-ok : (k : ℕ) (m : Mesh) (p : Node) (x : Live) (c : Cell) → P k m → On-normal s start m p → In x (m .live) → x .cell ≡ c
-      → holds (s .numbers) m p c ≡ true → Inserted-ok P k (split s m p (x .slot) c)
+      → holds m p c ≡ true → Inserted-ok P k (split s m p (x .slot) c)
   unfolding split
   split-ok k m p x (quad q) h on i e f = tt
   split-ok k m p x (tri t) h on i e f =
@@ -157,7 +157,7 @@ module _ (s : Settings) (start : Mesh) (P : ℕ → Mesh → Type 0) (splits : S
       )))
 
   split-clear-ok : (k : ℕ) (m : Mesh) (p : Node) (spacing : Float) (o : Option Live) → P k m → On-normal s start m p
-      → ((x : Live) → o ≡ some x → In x (m .live) × (holds (s .numbers) m p (x .cell) ≡ true)) → Inserted-ok P k (split-clear s m p spacing o)
+      → ((x : Live) → o ≡ some x → In x (m .live) × (holds m p (x .cell) ≡ true)) → Inserted-ok P k (split-clear s m p spacing o)
   unfolding split-clear
   split-clear-ok k m p spacing none h on i = tt
   split-clear-ok k m p spacing (some x) h on i =
@@ -166,9 +166,9 @@ module _ (s : Settings) (start : Mesh) (P : ℕ → Mesh → Type 0) (splits : S
   insert-near-ok : (k : ℕ) (m : Mesh) (seed : ℕ) (p : Node) → P k m → On-normal s start m p → Inserted-ok P k (insert-near s m seed p)
   unfolding insert-near
   insert-near-ok k m seed p h on =
-      let spacing = s .numbers .spacing ⊗ m .bucket in
-      cond-ok (Inserted-ok P k) (slot-clear m p spacing (cell-of m seed)) (split-clear s m p spacing (holder (s .numbers) m seed p)) nowhere
-      (λ z. split-clear-ok k m p spacing (holder (s .numbers) m seed p) h on (holder-in (s .numbers) m seed p)) (λ z. tt)
+      let spacing = node-spacing ⊗ m .bucket in
+      cond-ok (Inserted-ok P k) (slot-clear m p spacing (cell-of m seed)) (split-clear s m p spacing (holder m seed p)) nowhere
+      (λ z. split-clear-ok k m p spacing (holder m seed p) h on (holder-in m seed p)) (λ z. tt)
 
   insert-case : (k : ℕ) (m : Mesh) (seed : ℕ) (o : Node) (n : Vec) (target share : Float) (shares : List Float) (r : Inserted)
       → insert-near s m seed (along o n target share) ≡ r
@@ -190,48 +190,48 @@ module _ (s : Settings) (start : Mesh) (P : ℕ → Mesh → Type 0) (splits : S
 
   -- a stance of this attempt: every share of its target along its normal is on the normal
   abbrev pub Standing : Stance → Type 0
-  Standing f = (m : Mesh) (p : ℕ) (c : Float) → In c (s .numbers .shares) → On-normal s start m (along (node-at m p) (f .normal) (f .target) c)
+  Standing f = (m : Mesh) (p : ℕ) (c : Float) → In c insert-shares → On-normal s start m (along (node-at m p) (f .normal) (f .target) c)
 
-  sides-by-ok : (k : ℕ) (m : Mesh) (r : Inserted) → P k m → Inserted-ok P k r → Sides-ok P (sides-by k m r)
-  unfolding sides-by
+  sides-by-ok : (k : Spent) (m : Mesh) (r : Inserted) → P (k .insertions) m → Inserted-ok P (k .insertions) r → Sides-ok P (sides-by k m r)
+  unfolding sides-by inserting
   sides-by-ok k m nowhere h ok = h
   sides-by-ok k m (inserted v m′) h ok = (ok .0, λ u i. elim i [ inl e ↦ subst (λ z. z < length (m′ .points)) (sym e) (ok .1) ])
   sides-by-ok k m (full w) h ok = h
 
-  sides-from-ok : (f : Stance) (k : ℕ) (m : Mesh) (p : ℕ) (cs : List ℕ) → Standing f → P k m → Below cs m → Sides-ok P (sides-from s f k m p cs)
+  sides-from-ok : (f : Stance) (k : Spent) (m : Mesh) (p : ℕ) (cs : List ℕ) → Standing f → P (k .insertions) m → Below cs m → Sides-ok P (sides-from s f k m p cs)
   unfolding sides-from insert-along
   sides-from-ok f k m p (c ∷ cs) on h b = (h, b)
   sides-from-ok f k m p [] on h b =
       cond-ok (Sides-ok P) (f .mismatch) _ _ (λ z. sides-by-ok k m (insert-along s m (f .seed) (node-at m p) (f .normal) (f .target)) h
-      (insert-by-ok k m (f .seed) (node-at m p) (f .normal) (f .target) (s .numbers .shares) h (on m p))) (λ z. h)
+      (insert-by-ok (k .insertions) m (f .seed) (node-at m p) (f .normal) (f .target) insert-shares h (on m p))) (λ z. h)
 
   -- the side nodes at one end
-  pub side-nodes-ok : (t : Turn) (f : Stance) (k : ℕ) (m : Mesh) (p other : ℕ) → Standing f → P k m → Sides-ok P (side-nodes s t f k m p other)
+  pub side-nodes-ok : (t : Turn) (f : Stance) (k : Spent) (m : Mesh) (p other : ℕ) → Standing f → P (k .insertions) m → Sides-ok P (side-nodes s t f k m p other)
   unfolding side-nodes candidates
   side-nodes-ok t f k m p other on h =
-      sides-from-ok f k m p (candidates (s .numbers) t m p other (f .seed) (f .normal) (f .target)) on h
+      sides-from-ok f k m p (candidates (s .quality) t m p other (f .seed) (f .normal) (f .target)) on h
       (λ v i. in-below (length (m .points)) v (in-filter _ (below (length (m .points))) i .0))
 
 -- ---- pairs
 
 module _ (s : Settings) (P : ℕ → Mesh → Type 0) (flips : Flips-keep P) where
-  replace-ok : (k : ℕ) (m : Mesh) (q : Quad) (seed : ℕ) (cells : List Live) → P k m → Tri-at m seed → Rated (s .numbers) (m .points) q
-      → region (s .numbers) m seed q ≡ some cells
+  replace-ok : (k : ℕ) (m : Mesh) (q : Quad) (seed : ℕ) (cells : List Live) → P k m → Tri-at m seed → Rated (s .quality) (m .points) q
+      → region m seed q ≡ some cells
       → (s .even ≡ true → removing-leaves-odd-component m cells ≡ false) → Tried-ok s P k (m .points) q (replace s m q cells)
   unfolding replace
   replace-ok k m q seed cells h sd r e f =
       cond-ok (Tried-ok s P k (m .points) q) (ltb (s .slots) (m .used + 1)) _ _ (λ z. h)
       (λ z. record { mesh = m; before = h; seed = seed; seed-tri = sd; cells = cells; reached = e; none-odd = f; slot-left = ltb-false (s .slots) (m .used + 1) z; trial = r; after = refl })
 
-  try-region-ok : (k : ℕ) (m : Mesh) (q : Quad) (seed : ℕ) (o : Option (List Live)) → P k m → Tri-at m seed → Rated (s .numbers) (m .points) q
-      → region (s .numbers) m seed q ≡ o → Tried-ok s P k (m .points) q (try-region s m q o)
+  try-region-ok : (k : ℕ) (m : Mesh) (q : Quad) (seed : ℕ) (o : Option (List Live)) → P k m → Tri-at m seed → Rated (s .quality) (m .points) q
+      → region m seed q ≡ o → Tried-ok s P k (m .points) q (try-region s m q o)
   unfolding try-region
   try-region-ok k m q seed none h sd r e = (h, refl)
   try-region-ok k m q seed (some cells) h sd r e =
       cond-ok (Tried-ok s P k (m .points) q) (s .even && removing-leaves-odd-component m cells) _ _ (λ z. (h, refl))
       (λ z. replace-ok k m q seed cells h sd r e (λ ev. rw ev at z))
 
-  try-pair-ok : (k : ℕ) (m : Mesh) (q : Quad) (o : Option Live) → P k m → Rated (s .numbers) (m .points) q → ((x : Live) → o ≡ some x → Tri-at m (x .slot))
+  try-pair-ok : (k : ℕ) (m : Mesh) (q : Quad) (o : Option Live) → P k m → Rated (s .quality) (m .points) q → ((x : Live) → o ≡ some x → Tri-at m (x .slot))
       → Tried-ok s P k (m .points) q (try-pair s m q o)
   unfolding try-pair try-recovered
   try-pair-ok k m q none h r sd = tt
@@ -240,14 +240,14 @@ module _ (s : Settings) (P : ℕ → Mesh → Type 0) (flips : Flips-keep P) whe
       let kept : P k (w .mesh) × Tri-at (w .mesh) (x .slot) × (w .mesh .points ≡ m .points) =
       recover-all-ok (λ n a. P n a × Tri-at a (x .slot) × (a .points ≡ m .points))
       (λ n a b e h i f. (flips n a b e (h .0) i f, flip-tri-at a e b (x .slot) f (h .1), flip-points a e b f ∙ h .2)) k m (open-sides q) (h, sd x refl, refl) in
-      let r′ = subst (λ ps. Rated (s .numbers) ps q) (sym (kept .2)) r in
+      let r′ = subst (λ ps. Rated (s .quality) ps q) (sym (kept .2)) r in
       cond-ok (Tried-ok s P k (m .points) q) (w .there) _ _
-      (λ z. subst (λ ps. Tried-ok s P k ps q (try-region s (w .mesh) q (region (s .numbers) (w .mesh) (x .slot) q))) (kept .2) (try-region-ok k (w .mesh) q (x .slot) (region (s .numbers) (w .mesh) (x .slot) q) (kept .0) (kept .1) r′ refl))
+      (λ z. subst (λ ps. Tried-ok s P k ps q (try-region s (w .mesh) q (region (w .mesh) (x .slot) q))) (kept .2) (try-region-ok k (w .mesh) q (x .slot) (region (w .mesh) (x .slot) q) (kept .0) (kept .1) r′ refl))
       (λ z. (kept .0, kept .2))
 
-  try-pairs-case : (k : ℕ) (m : Mesh) (e : Edge) (last : Refusal) (t : Trial) (ts : List Trial) (r : Tried) → P k m
-      → try-pair s m (t .nodes) (tri-owner m e) ≡ r → Tried-ok s P k (m .points) (t .nodes) r
-      → ((why : Refusal) (m′ : Mesh) → P k m′ → m′ .points ≡ m .points → Attempt-ok s P (try-pairs s k m′ e why ts)) → Attempt-ok s P (try-pairs s k m e last (t ∷ ts))
+  try-pairs-case : (k : Spent) (m : Mesh) (e : Edge) (last : Refusal) (t : Trial) (ts : List Trial) (r : Tried) → P (k .insertions) m
+      → try-pair s m (t .nodes) (tri-owner m e) ≡ r → Tried-ok s P (k .insertions) (m .points) (t .nodes) r
+      → ((why : Refusal) (m′ : Mesh) → P (k .insertions) m′ → m′ .points ≡ m .points → Attempt-ok s P (try-pairs s k m′ e why ts)) → Attempt-ok s P (try-pairs s k m e last (t ∷ ts))
   unfolding try-pairs
   try-pairs-case k m e last t ts (made m′) h f ok next = rw (f, try-pairs) ok
   try-pairs-case k m e last t ts (failed why m′) h f ok next = rw (f, try-pairs) (next why m′ (ok .0) (ok .1))
@@ -257,16 +257,16 @@ module _ (s : Settings) (P : ℕ → Mesh → Type 0) (flips : Flips-keep P) whe
   owner-at : (m : Mesh) (e : Edge) (x : Live) → tri-owner m e ≡ some x → Tri-at m (x .slot)
   owner-at m e x f = let w = owner-in m e x f in record { x = x; at = w .at; slot-is = refl; is-one = w .is-one }
 
-  try-pairs-ok : (k : ℕ) (m : Mesh) (e : Edge) (last : Refusal) (ts : List Trial) → P k m → ((t : Trial) → In t ts → Rated (s .numbers) (m .points) (t .nodes))
+  try-pairs-ok : (k : Spent) (m : Mesh) (e : Edge) (last : Refusal) (ts : List Trial) → P (k .insertions) m → ((t : Trial) → In t ts → Rated (s .quality) (m .points) (t .nodes))
       → Attempt-ok s P (try-pairs s k m e last ts)
   unfolding try-pairs
   try-pairs-ok k m e last [] h r = h
   try-pairs-ok k m e last (t ∷ ts) h r =
-      try-pairs-case k m e last t ts (try-pair s m (t .nodes) (tri-owner m e)) h refl (try-pair-ok k m (t .nodes) (tri-owner m e) h (r t (inl refl)) (owner-at m e))
-      (λ why m′ h′ same. try-pairs-ok k m′ e why ts h′ (λ u i. subst (λ ps. Rated (s .numbers) ps (u .nodes)) (sym same) (r u (inr i))))
+      try-pairs-case k m e last t ts (try-pair s m (t .nodes) (tri-owner m e)) h refl (try-pair-ok (k .insertions) m (t .nodes) (tri-owner m e) h (r t (inl refl)) (owner-at m e))
+      (λ why m′ h′ same. try-pairs-ok k m′ e why ts h′ (λ u i. subst (λ ps. Rated (s .quality) ps (u .nodes)) (sym same) (r u (inr i))))
 
   -- the pairs in their order
-  pub try-trials-ok : (k : ℕ) (m : Mesh) (e : Edge) (ts : List Trial) → P k m → ((t : Trial) → In t ts → Rated (s .numbers) (m .points) (t .nodes))
+  pub try-trials-ok : (k : Spent) (m : Mesh) (e : Edge) (ts : List Trial) → P (k .insertions) m → ((t : Trial) → In t ts → Rated (s .quality) (m .points) (t .nodes))
       → Attempt-ok s P (try-trials s k m e ts)
   unfolding try-trials
   try-trials-ok k m e [] h r = h
@@ -292,9 +292,9 @@ made-weaker s P R f n m q w =
 
 -- of an attempt
 pub weaker : (s : Settings) (P R : ℕ → Mesh → Type 0) → ((n : ℕ) (m : Mesh) → P n m → R n m) → (a : Attempt) → Attempt-ok s P a → Attempt-ok s R a
-weaker s P R f (placed n m q) ok = made-weaker s P R f n m q ok
-weaker s P R f (refused why n m) ok = f n m ok
-weaker s P R f (ended w n m) ok = f n m ok
+weaker s P R f (placed n m q) ok = made-weaker s P R f (n .insertions) m q ok
+weaker s P R f (refused why n m) ok = f (n .insertions) m ok
+weaker s P R f (ended w n m) ok = f (n .insertions) m ok
 
 module _ (s : Settings) (start : Mesh) (P : ℕ → Mesh → Type 0) (flips : Flips-keep P) (splits : Splits-keep s start P) where
   -- the ends a and b are nodes of the points, and cs are side nodes at a
@@ -307,8 +307,8 @@ module _ (s : Settings) (start : Mesh) (P : ℕ → Mesh → Type 0) (flips : Fl
     unfolding try-both
     try-both-ok cs (missing k m) h = h .0 .0
     try-both-ok cs (overfull w k m) h = h .0 .0
-    try-both-ok cs (found ds k m) h = try-trials-ok s P flips k m (f .edge) (trials (s .numbers) m (f .a) (f .b) cs ds) (h .0 .0 .0)
-        (trials-rated (s .numbers) m (f .a) (f .b) two (h .0 .0 .1) cs ds (h .0 .1) (h .1))
+    try-both-ok cs (found ds k m) h = try-trials-ok s P flips k m (f .edge) (trials (s .quality) m (f .a) (f .b) cs ds) (h .0 .0 .0)
+        (trials-rated (s .quality) m (f .a) (f .b) two (h .0 .0 .1) cs ds (h .0 .1) (h .1))
 
     try-first-ok : (r : Sides) → Sides-ok (With s start P ends) r → Attempt-ok s P (try-first s f r)
     unfolding try-first
@@ -317,24 +317,24 @@ module _ (s : Settings) (start : Mesh) (P : ℕ → Mesh → Type 0) (flips : Fl
     try-first-ok (found cs k m) h =
         let P₁ = With s start P ends in
         let s₁ = with-splits s start P ends splits in
-        try-both-ok cs (side-nodes s (s .numbers .second-turn) f k m (f .b) (f .a))
-        (side-nodes-ok s start (With s start P₁ cs) (with-splits s start P₁ cs s₁) (s .numbers .second-turn) f k m (f .b) (f .a) on h)
+        try-both-ok cs (side-nodes s second-turn f k m (f .b) (f .a))
+        (side-nodes-ok s start (With s start P₁ cs) (with-splits s start P₁ cs s₁) second-turn f k m (f .b) (f .a) on h)
 
   try-along-ok : (e : Edge) (seed a b : ℕ) → a ≢ b → Below (a ∷ b ∷ []) start → P 0 start → Attempt-ok s P (try-along s start e seed a b)
-  unfolding try-along stance
+  unfolding try-along stance nothing-spent
   try-along-ok e seed a b two near h =
       let f = stance s start e seed a b in
       let long = norm (from-to (node-at start a) (node-at start b)) in
-      let short = f .target ≼ s .numbers .tiny-length in
-      cond-ok (Attempt-ok s P) (short || long ≼ s .numbers .tiny-length) _ _ (λ z. h)
+      let short = f .target ≼ tiny-length in
+      cond-ok (Attempt-ok s P) (short || long ≼ tiny-length) _ _ (λ z. h)
       (λ z.
-      let on : Standing s start P splits f = λ m p c i. record { a = a; b = b; end = p; share = c; among = i; long = or-false short (long ≼ s .numbers .tiny-length) z .1; place = refl } in
-      try-first-ok f two on (side-nodes s (s .numbers .first-turn) f 0 start a b)
-      (side-nodes-ok s start (With s start P (a ∷ b ∷ [])) (with-splits s start P (a ∷ b ∷ []) splits) (s .numbers .first-turn) f 0 start a b on (h, near)))
+      let on : Standing s start P splits f = λ m p c i. record { a = a; b = b; end = p; share = c; among = i; long = or-false short (long ≼ tiny-length) z .1; place = refl } in
+      try-first-ok f two on (side-nodes s first-turn f nothing-spent start a b)
+      (side-nodes-ok s start (With s start P (a ∷ b ∷ [])) (with-splits s start P (a ∷ b ∷ []) splits) first-turn f nothing-spent start a b on (h, near)))
 
   try-seed-ok : (e : Edge) (seed : ℕ) (c : Cell) → e .0 ≢ e .1 → ((t : Tri) → c ≡ tri t → Below (e .0 ∷ e .1 ∷ []) start) → P 0 start
       → Attempt-ok s P (try-seed s start e seed c)
-  unfolding try-seed
+  unfolding try-seed nothing-spent
   try-seed-ok e seed (quad q) two near h = h
   try-seed-ok e seed (tri t) two near h =
       elim (lies-left start e t) as (λ left. Attempt-ok s P (elim left [ true ↦ try-along s start e seed (e .0) (e .1) | false ↦ try-along s start e seed (e .1) (e .0) ])) [
@@ -350,7 +350,7 @@ module _ (s : Settings) (start : Mesh) (P : ℕ → Mesh → Type 0) (flips : Fl
 
   try-owner-ok : (e : Edge) (o : Option Live) → e .0 ≢ e .1 → Valid start → ((x : Live) → o ≡ some x → Owner start e x) → P 0 start
       → Attempt-ok s P (try-owner s start e o)
-  unfolding try-owner
+  unfolding try-owner nothing-spent
   try-owner-ok e none two ok w h = h
   try-owner-ok e (some x) two ok w h = try-seed-ok e (x .slot) (x .cell) two (owner-below e x ok (w x refl)) h
 

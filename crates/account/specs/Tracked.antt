@@ -284,7 +284,7 @@ tracked-split m x t p es ok at cell w =
     record { dead = w .dead; room = split-room m x t p ok at cell (w .dead) (w .room); each = λ g j. split-ever m x t p ok at cell (w .dead) g (w .each g j) }
 
 pub tracked-quad : (s : Settings) (m : Mesh) (seed : ℕ) (q : Quad) (cells : List Live) (es : List Edge) → Valid m → Tri-at m seed
-    → region (s .numbers) m seed q ≡ some cells → Tracked m es → Tracked (replaced m q cells) es
+    → region m seed q ≡ some cells → Tracked m es → Tracked (replaced m q cells) es
 tracked-quad s m seed q cells es ok sd e w =
-    let only = region-slot-tri (s .numbers) m seed q cells ok sd e in
+    let only = region-slot-tri m seed q cells ok sd e in
     record { dead = w .dead ++ gone m q cells (w .dead) only; room = quad-room m q cells (w .dead) only (w .room); each = λ g j. quad-ever m q cells (w .dead) only g (w .each g j) }

@@ -13,7 +13,7 @@ use Rattle.definition.specs.Front.{attempt, open-edges, try-edges, round, front
 use Rattle.definition.specs.Call.{after-run}
 use Rattle.definition.specs.Text.{bytes, reply, show-returned, lent-for, Bytes, Input}
 use Rattle.definition.specs.Plane.{Node, Edge}
-use Rattle.definition.specs.Numbers.{base, Settings}
+use Rattle.definition.specs.Numbers.{base, max-attempts, Settings}
 use Rattle.definition.specs.Counts.{tally, _⊞_, emptied, of-points, of-slots}
 
 abbrev pt : Float → Float → Float → Node
@@ -29,7 +29,7 @@ abbrev lv : ℕ → Cell → Live
 lv n c = record { slot = n; cell = c }
 
 s : Settings
-s = record { numbers = base; capacity = 96; slots = 160; size = (fin false 5404319552844595 (negsuc 53)); even = true }
+s = record { quality = base; attempts = max-attempts 6; capacity = 96; slots = 160; size = (fin false 5404319552844595 (negsuc 53)); even = true }
 
 points-0 : List Node
 points-0 = pt (fin false 1 (pos 0)) (fin false 0 (pos 0)) (fin false 0 (pos 0)) ∷ pt (fin true 2251799813685247 (negsuc 51)) (fin false 7800463371553963 (negsuc 52)) (fin false 0 (pos 0)) ∷ pt (fin true 1125899906842625 (negsuc 50)) (fin true 975057921444245 (negsuc 49)) (fin false 0 (pos 0)) ∷ pt (fin false 3 (negsuc 0)) (fin false 0 (pos 0)) (fin false 0 (pos 0)) ∷ pt (fin true 6755399441055741 (negsuc 52)) (fin false 45705840067699 (negsuc 44)) (fin false 0 (pos 0)) ∷ pt (fin true 3377699720527875 (negsuc 51)) (fin true 2925173764332735 (negsuc 50)) (fin false 0 (pos 0)) ∷ []

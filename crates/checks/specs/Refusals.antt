@@ -9,7 +9,7 @@ use Prim.Native.Nat.{ℕ, _≤_, _<_}
 use native.Mathlib.Omega.{arith}
 use lib.Ieee.{Float}
 use Rattle.definition.specs.Lists.{find}
-use Rattle.definition.specs.Numbers.{Numbers}
+use Rattle.definition.specs.Numbers.{Quality}
 use Rattle.definition.specs.Front.{run-front}
 use Rattle.definition.specs.Call.{Asked, Lent, over-limit, bad-size, bad-stop, too-short, unknown-node, repeated-node, far-point, conditions, given-points, given-tris, settings, untouched, after-run, call}
 use Rattle.checks.specs.declared.Room.{Room}
@@ -92,9 +92,9 @@ module _ (a : Asked) (l : Lent) (zero-is : first-refusal a l ≡ 0) where
   none-holds = rw (clear .c1, clear .c2, clear .c3, clear .c4, clear .c5, clear .c6, clear .c7)
 
   -- and the call runs
-  pub call-runs : (num : Numbers) → call num a l ≡ after-run l (run-front (settings num a) (given-tris a l) (given-points a l))
+  pub call-runs : (y : Quality) → call y a l ≡ after-run l (run-front (settings y a) (given-tris a l) (given-points a l))
   unfolding call
-  call-runs num = rw (none-holds, call)
+  call-runs y = rw (none-holds, call)
 
 some-found : (o : Option (ℕ × Bool)) → number-of o ≢ 0 → (c : ℕ × Bool) × (o ≡ some c)
 unfolding number-of
@@ -102,9 +102,9 @@ some-found none h = absurd (h refl)
 some-found (some c) h = (c, refl)
 
 -- a refusal is the whole answer, and nothing is touched
-pub call-refused : (num : Numbers) (a : Asked) (l : Lent) → first-refusal a l ≢ 0 → call num a l ≡ untouched (first-refusal a l) l
+pub call-refused : (y : Quality) (a : Asked) (l : Lent) → first-refusal a l ≢ 0 → call y a l ≡ untouched (first-refusal a l) l
 unfolding call first-refusal number-of
-call-refused num a l h =
+call-refused y a l h =
     let f = some-found (find (λ c. c .1) (conditions a l)) h in
     rw (f .1, call, first-refusal)
 

@@ -13,7 +13,7 @@ use lib.Ieee.{Float, nan, inf, fin, binary64, up, down, units, odd, round, fits,
 use lib.Ieee.Fits.{down-pos, round-is, round-fits, add-fits}
 use lib.Ieee.Exact.{HasValue, odd-sign}
 use Rattle.definition.specs.Floats.{_≺_, _⊕_, _⊗_, 0·0, f64}
-use Rattle.definition.specs.Numbers.{base}
+use Rattle.definition.specs.Numbers.{base, edge-high}
 use Rattle.definition.specs.Plane.{Vec, norm}
 use Rattle.definition.specs.Root.{sqrt}
 use Rattle.choices.specs.Choice.{too-far, square, FarFrom}
@@ -214,9 +214,9 @@ pub far-from : (x target : Float) → fits binary64 x ≡ true → (0·0 ≺ x) 
 far-from x target f o h =
     record {
       beyond = λ z g l.
-          both (base .edge-high ⊗ target ≺ sqrt z) (base .side-high ⊗ target ≺ sqrt z)
-          (root-beyond (base .edge-high ⊗ target) x z f g o (both-left (base .edge-high ⊗ target ≺ sqrt x) (base .side-high ⊗ target ≺ sqrt x) (sym h)) l)
-          (root-beyond (base .side-high ⊗ target) x z f g o (both-right (base .edge-high ⊗ target ≺ sqrt x) (base .side-high ⊗ target ≺ sqrt x) (sym h)) l);
+          both (edge-high ⊗ target ≺ sqrt z) (base .side-high ⊗ target ≺ sqrt z)
+          (root-beyond (edge-high ⊗ target) x z f g o (both-left (edge-high ⊗ target ≺ sqrt x) (base .side-high ⊗ target ≺ sqrt x) (sym h)) l)
+          (root-beyond (base .side-high ⊗ target) x z f g o (both-right (edge-high ⊗ target ≺ sqrt x) (base .side-high ⊗ target ≺ sqrt x) (sym h)) l);
     }
 
 pub far-endless : (target : Float) → FarFrom (inf false) target

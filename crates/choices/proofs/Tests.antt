@@ -7,7 +7,7 @@ use lib.ListN.{length}
 use lib.Ieee.{Float}
 use Rattle.definition.specs.Lists.{filter, below}
 use Rattle.definition.specs.Floats.{_≺_, _⊗_, _⊕_}
-use Rattle.definition.specs.Numbers.{Turn, base}
+use Rattle.definition.specs.Numbers.{Turn, base, side-margin, edge-high}
 use Rattle.definition.specs.Plane.{Node, Vec, flat, norm, from-to}
 use Rattle.definition.specs.Cells.{Live, Mesh, node-at}
 use Rattle.definition.specs.Candidates.{ahead, walls, side-candidate, toward, edge-candidate, live-region, candidates}
@@ -27,7 +27,7 @@ both-right true b h = h
 both-right false b h = absurd (false≢true h)
 
 module _ (t : Turn) (m : Mesh) (a other : ℕ) (n : Vec) (target : Float) (g : List Live) (v : ℕ) where
-  edge-off : (base .edge-high ⊗ target ≺ norm (toward m a v)) ≡ true → by-edge t m a other target v ≡ false
+  edge-off : (edge-high ⊗ target ≺ norm (toward m a v)) ≡ true → by-edge t m a other target v ≡ false
   unfolding edge-candidate
   edge-off h = rw h (simp and-false)
 
@@ -41,8 +41,8 @@ module _ (t : Turn) (m : Mesh) (a other : ℕ) (n : Vec) (target : Float) (g : L
 
   pub choice-far : true ≡ too-far (norm (toward m a v)) target → false ≡ is-choice t m a other n target g v
   choice-far h =
-      let x = both-left (base .edge-high ⊗ target ≺ norm (toward m a v)) (base .side-high ⊗ target ≺ norm (toward m a v)) (sym h) in
-      let y = both-right (base .edge-high ⊗ target ≺ norm (toward m a v)) (base .side-high ⊗ target ≺ norm (toward m a v)) (sym h) in
+      let x = both-left (edge-high ⊗ target ≺ norm (toward m a v)) (base .side-high ⊗ target ≺ norm (toward m a v)) (sym h) in
+      let y = both-right (edge-high ⊗ target ≺ norm (toward m a v)) (base .side-high ⊗ target ≺ norm (toward m a v)) (sym h) in
       rw (edge-off x, side-off y)
 
   pub choice-edge : true ≡ by-edge t m a other target v → true ≡ is-choice t m a other n target g v
@@ -63,7 +63,7 @@ region-read q p m k seed a h x y r e =
 
 -- the region that the side nodes of a are looked for in
 abbrev pub region-of : Mesh → ℕ → ℕ → Float → List Live
-region-of m seed a target = live-region m seed (node-at m a) ((base .side-high ⊕ base .side-margin) ⊗ target)
+region-of m seed a target = live-region m seed (node-at m a) ((base .side-high ⊕ side-margin) ⊗ target)
 
 -- the side nodes are those chosen among all nodes, in their order
 pub chosen-are : (t : Turn) (m : Mesh) (a other seed k : ℕ) (n : Vec) (target : Float) → k ≡ length (m .points)

@@ -7,7 +7,7 @@ use lib.ListN.{length, getD, set, take, drop}
 use lib.Ieee.{Float, binary64, fits}
 use Rattle.rings.specs.Rings.{Below}
 use Rattle.definition.specs.Floats.{_⊕_, _⊗_, _≺_}
-use Rattle.definition.specs.Numbers.{Turn, base}
+use Rattle.definition.specs.Numbers.{Turn, base, edge-high}
 use Rattle.definition.specs.Root.{sqrt}
 use Rattle.definition.specs.Plane.{Vec}
 use Rattle.definition.specs.Cells.{Live, Mesh}
@@ -48,7 +48,7 @@ pub record ChosenTo (w w' : List ℕ) (s p n at k : ℕ) (cs : List ℕ) : Type 
 
 -- a length beyond the reach of either kind of candidate
 abbrev pub too-far : Float → Float → Bool
-too-far d target = (base .edge-high ⊗ target ≺ d) && (base .side-high ⊗ target ≺ d)
+too-far d target = (edge-high ⊗ target ≺ d) && (base .side-high ⊗ target ≺ d)
 
 -- the square of a vector's length, whose root is the length
 abbrev pub square : Vec → Float

@@ -18,7 +18,7 @@ ghost use Prim.Native.Nat.{_+_, _*_, _<_};
 ghost use lib.ListN.{length};
 ghost use Rattle.definition.specs.Floats.{_⊕_, _⊗_};
 ghost use Rattle.definition.specs.Lists.{filter, below};
-ghost use Rattle.definition.specs.Numbers.{base};
+ghost use Rattle.definition.specs.Numbers.{base, side-margin};
 ghost use Rattle.definition.specs.Cells.{Live, Mesh, node-at};
 ghost use Rattle.definition.specs.Candidates.{live-region, candidates};
 ghost use Rattle.plane.specs.Vectors.{vec};
@@ -154,7 +154,7 @@ fn region_around(
 ) -> usize
     requires { ⌜ ((m : Mesh) × Lent (now w) (now q) s p used m × (a < length (m .points))) ⌝ }
     requires { ⌜ seed < s ⌝ }
-    ensures { λ k. ⌜ ((m : Mesh) → Lent (now (w .entry)) (now (q .entry)) s p used m → a < length (m .points) → LiveTo (now (w .entry)) (now (w .exit)) s p k m (live-region m seed (node-at m a) ((base .side-high ⊕ base .side-margin) ⊗ target))) ⌝ }
+    ensures { λ k. ⌜ ((m : Mesh) → Lent (now (w .entry)) (now (q .entry)) s p used m → a < length (m .points) → LiveTo (now (w .entry)) (now (w .exit)) s p k m (live-region m seed (node-at m a) ((base .side-high ⊕ side-margin) ⊗ target))) ⌝ }
 {
     let o = at(q, a);
     live_region(

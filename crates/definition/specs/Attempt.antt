@@ -2,12 +2,12 @@
 use mathlib.Core.Bool.{Bool, true, false, not, _&&_, _||_, cond}
 use mathlib.Core.List.{List, [], _∷_}
 use mathlib.Core.Option.{Option, none, some}
-use Prim.Native.Nat.{ℕ, suc, _+_}
+use Prim.Native.Nat.{ℕ, _+_}
 use lib.Dec.{ltb}
 use lib.Ieee.{Float, neg}
 use Rattle.definition.specs.Floats.{_⊘_, _≺_, _≼_, 0·0}
-use Rattle.definition.specs.Numbers.{Numbers, Settings, Turn}
-use Rattle.definition.specs.Counts.{Refusal, Placement, Shape, Recovery, Region, OddRegion, Want, of-slots}
+use Rattle.definition.specs.Numbers.{Settings, Turn, first-turn, second-turn, tiny-length}
+use Rattle.definition.specs.Counts.{Refusal, Placement, Shape, Recovery, Region, OddRegion, Want, of-slots, Spent, nothing-spent, inserting}
 use Rattle.definition.specs.Plane.{Vec, Edge, cross, norm, from-to, edge-length, size-mismatch}
 use Rattle.definition.specs.Cells.{Tri, Quad, Cell, tri, quad, Live, Mesh, node-at, tri-owner, remove-cells, push-cell}
 use Rattle.definition.specs.Flips.{third, Recovered, recover}
@@ -54,7 +54,7 @@ try-region s m q (some cells) =
 -- the seed was taken before the recovery
 unfoldable pub try-recovered : Settings → ℕ → Quad → Recovered → Tried
 try-recovered s seed q r =
-    let next = try-region s (r .mesh) q (region (s .numbers) (r .mesh) seed q) in
+    let next = try-region s (r .mesh) q (region (r .mesh) seed q) in
     cond (r .there) next (failed Recovery (r .mesh))
 
 -- the sides of the quad a b d c that are not the front edge a b, in the order in which they are recovered
@@ -68,14 +68,14 @@ try-pair s m q (some seed) = try-recovered s (seed .slot) q (recover-all m (open
 
 -- ---- one attempt
 
--- a quad placed; refused; or the run ends for want of memory. The number before the mesh is that of the insertions made, which stay.
+-- a quad placed; refused; or the run ends for want of memory. What was spent stays.
 pub data Attempt : Type 0 where
-  placed : ℕ → Mesh → Quad → Attempt
-  refused : Refusal → ℕ → Mesh → Attempt
-  ended : Want → ℕ → Mesh → Attempt
+  placed : Spent → Mesh → Quad → Attempt
+  refused : Refusal → Spent → Mesh → Attempt
+  ended : Want → Spent → Mesh → Attempt
 
 -- the pairs in their order; last is what the pair before was refused under
-unfoldable pub try-pairs : Settings → ℕ → Mesh → Edge → Refusal → List Trial → Attempt
+unfoldable pub try-pairs : Settings → Spent → Mesh → Edge → Refusal → List Trial → Attempt
 try-pairs s n m e last [] = refused last n m
 try-pairs s n m e last (t ∷ ts) =
     elim (try-pair s m (t .nodes) (tri-owner m e)) [
@@ -86,7 +86,7 @@ try-pairs s n m e last (t ∷ ts) =
     ]
 
 -- without a pair the attempt is refused under the shape
-unfoldable pub try-trials : Settings → ℕ → Mesh → Edge → List Trial → Attempt
+unfoldable pub try-trials : Settings → Spent → Mesh → Edge → List Trial → Attempt
 try-trials s n m e [] = refused Shape n m
 try-trials s n m e (t ∷ ts) = try-pairs s n m e Recovery (t ∷ ts)
 
@@ -101,44 +101,44 @@ pub record Stance : Type 0 where
   pub target : Float
   pub mismatch : Bool
 
--- side nodes at one end: found; missing; or the run ends. The number before the mesh is that of the insertions so far.
+-- side nodes at one end: found; missing; or the run ends
 pub data Sides : Type 0 where
-  found : List ℕ → ℕ → Mesh → Sides
-  missing : ℕ → Mesh → Sides
-  overfull : Want → ℕ → Mesh → Sides
+  found : List ℕ → Spent → Mesh → Sides
+  missing : Spent → Mesh → Sides
+  overfull : Want → Spent → Mesh → Sides
 
 -- what an insertion gives: its node is the only side node
-unfoldable pub sides-by : ℕ → Mesh → Inserted → Sides
+unfoldable pub sides-by : Spent → Mesh → Inserted → Sides
 sides-by n m nowhere = missing n m
-sides-by n m (inserted v m′) = found (v ∷ []) (suc n) m′
+sides-by n m (inserted v m′) = found (v ∷ []) (inserting n) m′
 sides-by n m (full w) = overfull w n m
 
 -- a node is inserted only where there is no candidate and the edge's length is off the target
-unfoldable pub sides-from : Settings → Stance → ℕ → Mesh → ℕ → List ℕ → Sides
+unfoldable pub sides-from : Settings → Stance → Spent → Mesh → ℕ → List ℕ → Sides
 sides-from s f n m p (c ∷ cs) = found (c ∷ cs) n m
 sides-from s f n m p [] =
     let by-insertion = sides-by n m (insert-along s m (f .seed) (node-at m p) (f .normal) (f .target)) in
     cond (f .mismatch) by-insertion (missing n m)
 
 -- the side nodes at the end p of the edge from p to other
-unfoldable pub side-nodes : Settings → Turn → Stance → ℕ → Mesh → ℕ → ℕ → Sides
-side-nodes s t f n m p other = sides-from s f n m p (candidates (s .numbers) t m p other (f .seed) (f .normal) (f .target))
+unfoldable pub side-nodes : Settings → Turn → Stance → Spent → Mesh → ℕ → ℕ → Sides
+side-nodes s t f n m p other = sides-from s f n m p (candidates (s .quality) t m p other (f .seed) (f .normal) (f .target))
 
 -- with the side nodes cs at a, and those at b: the pairs
 unfoldable pub try-both : Settings → Stance → List ℕ → Sides → Attempt
 try-both s f cs (missing n m) = refused Placement n m
 try-both s f cs (overfull w n m) = ended w n m
-try-both s f cs (found ds n m) = try-trials s n m (f .edge) (trials (s .numbers) m (f .a) (f .b) cs ds)
+try-both s f cs (found ds n m) = try-trials s n m (f .edge) (trials (s .quality) m (f .a) (f .b) cs ds)
 
 -- with the side nodes at a: those at b
 unfoldable pub try-first : Settings → Stance → Sides → Attempt
 try-first s f (missing n m) = refused Placement n m
 try-first s f (overfull w n m) = ended w n m
-try-first s f (found cs n m) = try-both s f cs (side-nodes s (s .numbers .second-turn) f n m (f .b) (f .a))
+try-first s f (found cs n m) = try-both s f cs (side-nodes s second-turn f n m (f .b) (f .a))
 
 -- the size, or the edge's own length where there is no size
 unfoldable pub target-of : Settings → Float → Float
-target-of s span = cond (s .numbers .tiny-length ≺ s .size) (s .size) span
+target-of s span = cond (tiny-length ≺ s .size) (s .size) span
 
 -- the direction of a vector, turned a quarter left: the unit normal into the triangle on its left
 unfoldable pub inward-normal : Vec → Float → Vec
@@ -156,7 +156,7 @@ stance s m e seed a b =
       seed = seed;
       normal = inward-normal tangent (norm tangent);
       target = target-of s span;
-      mismatch = size-mismatch (s .numbers) span (target-of s span);
+      mismatch = size-mismatch span (target-of s span);
     }
 
 -- refused where the target or the edge has no length
@@ -164,8 +164,8 @@ unfoldable pub try-along : Settings → Mesh → Edge → ℕ → ℕ → ℕ �
 try-along s m e seed a b =
     let f = stance s m e seed a b in
     let long = norm (from-to (node-at m a) (node-at m b)) in
-    let go = try-first s f (side-nodes s (s .numbers .first-turn) f 0 m a b) in
-    cond (f .target ≼ s .numbers .tiny-length || long ≼ s .numbers .tiny-length) (refused Placement 0 m) go
+    let go = try-first s f (side-nodes s first-turn f nothing-spent m a b) in
+    cond (f .target ≼ tiny-length || long ≼ tiny-length) (refused Placement nothing-spent m) go
 
 -- the seed's triangle lies on the left of the edge, from its first node to its second
 unfoldable pub lies-left : Mesh → Edge → Tri → Bool
@@ -173,12 +173,12 @@ lies-left m e t = 0·0 ≺ cross (node-at m (e .0)) (node-at m (e .1)) (node-at 
 
 -- the edge is taken in the direction that has the seed's triangle on its left
 unfoldable pub try-seed : Settings → Mesh → Edge → ℕ → Cell → Attempt
-try-seed s m e seed (quad q) = refused Placement 0 m
+try-seed s m e seed (quad q) = refused Placement nothing-spent m
 try-seed s m e seed (tri t) = elim (lies-left m e t) [ true ↦ try-along s m e seed (e .0) (e .1) | false ↦ try-along s m e seed (e .1) (e .0) ]
 
 -- the seed is the triangle that owns the edge
 unfoldable pub try-owner : Settings → Mesh → Edge → Option Live → Attempt
-try-owner s m e none = refused Placement 0 m
+try-owner s m e none = refused Placement nothing-spent m
 try-owner s m e (some x) = try-seed s m e (x .slot) (x .cell)
 
 -- the seed is the first triangle that owns the edge

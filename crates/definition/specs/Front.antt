@@ -6,8 +6,8 @@ use lib.Dec.{ltb}
 use lib.ListN.{length}
 use Rattle.definition.specs.Lists.{filter, contains}
 use Rattle.definition.specs.Floats.{_≺_, 1·0}
-use Rattle.definition.specs.Numbers.{Numbers, Settings, max-attempts, max-triangles}
-use Rattle.definition.specs.Counts.{Counts, _⊞_, no-counts, emptied, one-attempt, insertions, at-limit, Placement, refused-by, Want}
+use Rattle.definition.specs.Numbers.{Settings, max-triangles, tiny-size}
+use Rattle.definition.specs.Counts.{Counts, _⊞_, no-counts, emptied, one-attempt, nothing-spent, spending, at-limit, Placement, refused-by, Want}
 use Rattle.definition.specs.Plane.{Node, Edge}
 use Rattle.definition.specs.Cells.{Tri, Quad, tri, Live, Mesh, new-live, quad-nodes, has-edge-in, is-front, live-tris, triangles, front}
 use Rattle.definition.specs.Components.{component-sizes}
@@ -45,28 +45,28 @@ freed q es = filter (clear-of q) es
 -- a quad is written after those already there; a refused edge is blocked
 unfoldable pub after : State → Edge → Attempt → Progress
 after st e (placed n m q) =
-    progressed (record { mesh = m; quads = st .quads ++ (q ∷ []); blocked = freed q (st .blocked); counts = st .counts ⊞ insertions n })
+    progressed (record { mesh = m; quads = st .quads ++ (q ∷ []); blocked = freed q (st .blocked); counts = st .counts ⊞ spending n })
 after st e (refused why n m) =
-    stuck (record { mesh = m; quads = st .quads; blocked = e ∷ st .blocked; counts = st .counts ⊞ insertions n ⊞ refused-by why })
+    stuck (record { mesh = m; quads = st .quads; blocked = e ∷ st .blocked; counts = st .counts ⊞ spending n ⊞ refused-by why })
 after st e (ended w n m) =
-    stopped w (record { mesh = m; quads = st .quads; blocked = st .blocked; counts = st .counts ⊞ insertions n })
+    stopped w (record { mesh = m; quads = st .quads; blocked = st .blocked; counts = st .counts ⊞ spending n })
 
 -- an edge that a flip of its round took off the front is refused under placement
 unfoldable pub make-attempt : Settings → State → Edge → Progress
 make-attempt s st e =
     let tried = try-quad s (st .mesh) e in
-    after st e (cond (is-front (st .mesh) e) tried (refused Placement 0 (st .mesh)))
+    after st e (cond (is-front (st .mesh) e) tried (refused Placement nothing-spent (st .mesh)))
 
 -- given is the number of given triangles. The stopping attempt is counted and not made.
-unfoldable pub past-limit : Numbers → ℕ → State → Bool
-past-limit num given st = ltb (max-attempts num given) (st .counts .attempts) || ltb (max-triangles num given) (live-tris (st .mesh))
+unfoldable pub past-limit : Settings → ℕ → State → Bool
+past-limit s given st = ltb (s .attempts) (st .counts .attempts) || ltb (max-triangles given) (live-tris (st .mesh))
 
 -- every candidate counts an attempt
 unfoldable pub attempt : Settings → ℕ → State → Edge → Progress
 attempt s given st e =
     let counted = counting st one-attempt in
     let made = make-attempt s counted e in
-    cond (past-limit (s .numbers) given counted) (limited (counting counted at-limit)) made
+    cond (past-limit s given counted) (limited (counting counted at-limit)) made
 
 -- ---- edges, loops, rounds
 
@@ -142,7 +142,7 @@ in-slots n (t ∷ ts) = new-live n (tri t) ∷ in-slots (suc n) ts
 
 -- `CellMesh::new`: every given triangle live; without a size the bucket is 1.0
 unfoldable pub new-mesh : Settings → List Tri → List Node → Mesh
-new-mesh s ts ps = record { points = ps; used = length ts; live = in-slots 0 ts; bucket = cond (s .numbers .tiny-size ≺ s .size) (s .size) 1·0 }
+new-mesh s ts ps = record { points = ps; used = length ts; live = in-slots 0 ts; bucket = cond (tiny-size ≺ s .size) (s .size) 1·0 }
 
 -- the given mesh, nothing made, blocked or counted
 unfoldable pub start : Settings → List Tri → List Node → State
@@ -167,6 +167,6 @@ outcome (progressed st) = ran (result st)
 outcome (limited st) = ran (result st)
 outcome (stopped w st) = wanting w (st .mesh .points) (st .quads)
 
--- rounds enough: each that places a quad makes an attempt, and at most max-attempts are made
+-- rounds enough: each that places a quad makes an attempt, and at most `attempts` are made
 unfoldable pub run-front : Settings → List Tri → List Node → Outcome
-run-front s ts ps = outcome (front-loop (max-attempts (s .numbers) (length ts) + 2) s (length ts) (start s ts ps))
+run-front s ts ps = outcome (front-loop (s .attempts + 2) s (length ts) (start s ts ps))

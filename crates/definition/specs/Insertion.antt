@@ -8,7 +8,7 @@ use lib.ListN.{length}
 use lib.Ieee.{Float}
 use Rattle.definition.specs.Lists.{all, find}
 use Rattle.definition.specs.Floats.{_⊕_, _⊗_, _≺_}
-use Rattle.definition.specs.Numbers.{Numbers, Settings}
+use Rattle.definition.specs.Numbers.{Settings, insert-shares, node-spacing, insert-reach}
 use Rattle.definition.specs.Counts.{Want, of-points, of-slots}
 use Rattle.definition.specs.Plane.{Node, Vec, flat, point-strictly-inside, dist}
 use Rattle.definition.specs.Cells.{Tri, Cell, tri, quad, Live, Mesh, new-tri, nodes, node-at, cell-of, in-slot-order, set-cell, push-cell}
@@ -23,9 +23,9 @@ pub data Inserted : Type 0 where
 -- ---- where a point may go
 
 -- the cell is a triangle with p strictly inside
-unfoldable pub holds : Numbers → Mesh → Node → Cell → Bool
-holds num m p (tri t) = point-strictly-inside num (node-at m (t .n0)) (node-at m (t .n1)) (node-at m (t .n2)) p
-holds num m p (quad q) = false
+unfoldable pub holds : Mesh → Node → Cell → Bool
+holds m p (tri t) = point-strictly-inside (node-at m (t .n0)) (node-at m (t .n1)) (node-at m (t .n2)) p
+holds m p (quad q) = false
 
 -- p is not nearer than spacing to a node of the cell
 unfoldable pub point-clear : Mesh → Node → Float → Cell → Bool
@@ -37,8 +37,8 @@ slot-clear m p spacing none = true
 slot-clear m p spacing (some x) = point-clear m p spacing (x .cell)
 
 -- the first triangle that holds p: of the region around the seed, and then of all in the order of their slots
-unfoldable pub holder : Numbers → Mesh → ℕ → Node → Option Live
-holder num m seed p = find (λ x. holds num m p (x .cell)) (live-region m seed p (num .insert-reach ⊗ m .bucket) ++ in-slot-order (m .live))
+unfoldable pub holder : Mesh → ℕ → Node → Option Live
+holder m seed p = find (λ x. holds m p (x .cell)) (live-region m seed p (insert-reach ⊗ m .bucket) ++ in-slot-order (m .live))
 
 -- ---- the split
 
@@ -69,8 +69,8 @@ split-clear s m p spacing (some x) = cond (point-clear m p spacing (x .cell)) (s
 -- the triangle that holds p is split where neither it nor the seed has a node too near
 unfoldable pub insert-near : Settings → Mesh → ℕ → Node → Inserted
 insert-near s m seed p =
-    let spacing = s .numbers .spacing ⊗ m .bucket in
-    let result = split-clear s m p spacing (holder (s .numbers) m seed p) in
+    let spacing = node-spacing ⊗ m .bucket in
+    let result = split-clear s m p spacing (holder m seed p) in
     cond (slot-clear m p spacing (cell-of m seed)) result nowhere
 
 -- the point at a share of the target along n, with z 0.0
@@ -89,4 +89,4 @@ insert-by s m seed o n target (share ∷ shares) =
 
 -- the shares in their order
 unfoldable pub insert-along : Settings → Mesh → ℕ → Node → Vec → Float → Inserted
-insert-along s m seed o n target = insert-by s m seed o n target (s .numbers .shares)
+insert-along s m seed o n target = insert-by s m seed o n target insert-shares

@@ -6,7 +6,7 @@ use Prim.Native.Nat.{ℕ, zero, suc}
 use lib.Ieee.{Float}
 use Rattle.definition.specs.Lists.{filter, all, flat-map}
 use Rattle.definition.specs.Floats.{_⊕_, _⊖_, _⊗_, _⊘_, _≺_, abs, greater, 0·0, 1·0, 2·0}
-use Rattle.definition.specs.Numbers.{Numbers}
+use Rattle.definition.specs.Numbers.{area-slack}
 use Rattle.definition.specs.Plane.{Edge, cross, inside-quad, quad-area}
 use Rattle.definition.specs.Cells.{Quad, Cell, tri, quad, Live, Mesh, nodes, edges, quad-edges, has-edge-in, node-at, live-tri, owners, cell-of, among}
 
@@ -53,30 +53,30 @@ unfoldable pub region-area : Mesh → List Live → Float
 region-area m cells = foldl (λ sum x. sum ⊕ area-of m (x .cell)) 0·0 cells
 
 -- every node of the cell lies inside the quad
-unfoldable pub cell-inside : Numbers → Mesh → Quad → Live → Bool
-cell-inside num m q x =
-    all (λ v. inside-quad num (node-at m (q .n0)) (node-at m (q .n1)) (node-at m (q .n2)) (node-at m (q .n3)) (node-at m v)) (nodes (x .cell))
+unfoldable pub cell-inside : Mesh → Quad → Live → Bool
+cell-inside m q x =
+    all (λ v. inside-quad (node-at m (q .n0)) (node-at m (q .n1)) (node-at m (q .n2)) (node-at m (q .n3)) (node-at m v)) (nodes (x .cell))
 
 -- the cells' areas add up to the quad's
-unfoldable pub area-agrees : Numbers → Mesh → Quad → List Live → Bool
-area-agrees num m q cells =
+unfoldable pub area-agrees : Mesh → Quad → List Live → Bool
+area-agrees m q cells =
     let expected = abs (quad-area (node-at m (q .n0)) (node-at m (q .n1)) (node-at m (q .n2)) (node-at m (q .n3))) in
-    not (num .area-slack ⊗ greater expected 1·0 ≺ abs (region-area m cells ⊖ expected))
+    not (area-slack ⊗ greater expected 1·0 ≺ abs (region-area m cells ⊖ expected))
 
 -- every node inside, and the areas agree
-unfoldable pub fills : Numbers → Mesh → Quad → List Live → Bool
-fills num m q cells = let agrees = area-agrees num m q cells in all (cell-inside num m q) cells && agrees
+unfoldable pub fills : Mesh → Quad → List Live → Bool
+fills m q cells = let agrees = area-agrees m q cells in all (cell-inside m q) cells && agrees
 
 -- the region, if it fills the quad
-unfoldable pub if-filled : Numbers → Mesh → Quad → Option (List Live) → Option (List Live)
-if-filled num m q none = none
-if-filled num m q (some cells) = cond (fills num m q cells) (some cells) none
+unfoldable pub if-filled : Mesh → Quad → Option (List Live) → Option (List Live)
+if-filled m q none = none
+if-filled m q (some cells) = cond (fills m q cells) (some cells) none
 
 -- the flood from the seed's cell; no slot is crossed twice, so the slots given out are enough
-unfoldable pub region-from : Numbers → Mesh → Quad → Option Live → Option (List Live)
-region-from num m q none = none
-region-from num m q (some x) = if-filled num m q (flood (m .used) m (quad-edges q) [] (x ∷ []))
+unfoldable pub region-from : Mesh → Quad → Option Live → Option (List Live)
+region-from m q none = none
+region-from m q (some x) = if-filled m q (flood (m .used) m (quad-edges q) [] (x ∷ []))
 
 -- none where the region is refused
-unfoldable pub region : Numbers → Mesh → ℕ → Quad → Option (List Live)
-region num m seed q = region-from num m q (cell-of m seed)
+unfoldable pub region : Mesh → ℕ → Quad → Option (List Live)
+region m seed q = region-from m q (cell-of m seed)

@@ -11,7 +11,7 @@ use lib.Dec.{lit≤, lit<}
 use lib.Ieee.{Float, nan, inf, add, sub, mul, div, neg, lt, le, eq, ofBits, fits, round, size}
 use Rattle.definition.specs.Lists.{any}
 use Rattle.definition.specs.Floats.{_⊕_, _⊖_, _⊗_, _⊘_, _≺_, _≼_, abs, finite, lesser, greater, f64, 0·0, 0·25, 0·3, 0·4, 0·5, 0·6, 0·7, 0·8, 0·9, 0·90630778703665, 1·0, 2·0, 2·5, 3·0, 8·0, 1/64, 1e-12}
-use Rattle.definition.specs.Numbers.{base}
+use Rattle.definition.specs.Numbers.{base, insert-shares, tiny-cross, tiny-length}
 use Rattle.definition.specs.Root.{isqrt, scale, sqrt}
 use Rattle.definition.specs.Plane.{Node, flat, point, cross, side, parts, segments-cross, positive, negative, point-strictly-inside, shoelace, twice-area, from-to, dot, norm, over, dist, edge-length}
 use Rattle.definition.specs.Metrics.{Corner, corner, c0, c1, c2, c3, d0, d1, weights, weighted, scaled, jacobian-at, min-scaled-jacobian, corner-of, corners, not-convex, angle-of, clamp, cosine, largest-cosine, quad-metrics, passes, score}
@@ -26,7 +26,7 @@ use Rattle.exact.specs.Theorems.{Within, passing, inside, grid-cross}
 
 -- to unfold `computed` is to unfold what the tests are made of
 unfoldable computed : Unit {0}
-unfolding add sub mul div neg lt le eq ofBits fits round size any _⊕_ _⊖_ _⊗_ _⊘_ _≺_ _≼_ abs finite lesser greater f64 0·0 0·25 0·3 0·4 0·5 0·6 0·7 0·8 0·9 0·90630778703665 1·0 2·0 2·5 3·0 8·0 1/64 1e-12 base isqrt scale sqrt flat point cross side parts segments-cross positive negative point-strictly-inside shoelace twice-area from-to dot norm over dist edge-length corner c0 c1 c2 c3 d0 d1 weights weighted scaled jacobian-at min-scaled-jacobian corner-of corners not-convex angle-of clamp cosine largest-cosine quad-metrics passes score along target-of inward-normal loop-perimeter signed units arrow exact-cross exact-dot squared-length squared next-side last-side outside most-coordinate least-size most-size bad-size settings
+unfolding add sub mul div neg lt le eq ofBits fits round size any _⊕_ _⊖_ _⊗_ _⊘_ _≺_ _≼_ abs finite lesser greater f64 0·0 0·25 0·3 0·4 0·5 0·6 0·7 0·8 0·9 0·90630778703665 1·0 2·0 2·5 3·0 8·0 1/64 1e-12 base insert-shares tiny-cross tiny-length isqrt scale sqrt flat point cross side parts segments-cross positive negative point-strictly-inside shoelace twice-area from-to dot norm over dist edge-length corner c0 c1 c2 c3 d0 d1 weights weighted scaled jacobian-at min-scaled-jacobian corner-of corners not-convex angle-of clamp cosine largest-cosine quad-metrics passes score along target-of inward-normal loop-perimeter signed units arrow exact-cross exact-dot squared-length squared next-side last-side outside most-coordinate least-size most-size bad-size settings
 computed = tt
 
 -- the double just above 8
@@ -62,7 +62,7 @@ ne = flat 1·0 1·0
 abbrev n : Node
 n = flat 0·0 1·0
 
-square-passes : passes base (quad-metrics base o e ne n) ≡ true
+square-passes : passes base (quad-metrics o e ne n) ≡ true
 unfolding computed
 square-passes = refl
 
@@ -72,12 +72,12 @@ unfolding computed
 square-exact = passing o e ne n refl refl refl refl square-passes
 
 -- the square taken clockwise has no metrics
-clockwise-fails : passes base (quad-metrics base o n ne e) ≡ false
+clockwise-fails : passes base (quad-metrics o n ne e) ≡ false
 unfolding computed
 clockwise-fails = refl
 
 -- a parallelogram with corners of 22 degrees: its scaled Jacobian of 0.37 passes, its cosine of 0.93 does not
-thin-fails : passes base (quad-metrics base o e (flat 2·0 0·4) (flat 1·0 0·4)) ≡ false
+thin-fails : passes base (quad-metrics o e (flat 2·0 0·4) (flat 1·0 0·4)) ≡ false
 unfolding computed
 thin-fails = refl
 
@@ -114,11 +114,11 @@ one-no-limit = refl
 -- ---- strictly inside
 
 -- the triangle (0, 0) (1, 0) (0, 1) holds (0.25, 0.25), and does not hold (0.5, 0.5), which lies on its side
-held : point-strictly-inside base o e n (flat 0·25 0·25) ≡ true
+held : point-strictly-inside o e n (flat 0·25 0·25) ≡ true
 unfolding computed
 held = refl
 
-on-side : point-strictly-inside base o e n (flat 0·5 0·5) ≡ false
+on-side : point-strictly-inside o e n (flat 0·5 0·5) ≡ false
 unfolding computed
 on-side = refl
 
@@ -140,13 +140,13 @@ no-size = record { given = 0; capacity = 0; count = 0; slots = 0; size = 0·0; s
 abbrev added : Node
 added = along o (inward-normal (from-to o e) (norm (from-to o e))) (target-of (settings base no-size) (dist e o)) 0·3
 
-added-held : point-strictly-inside base (flat (neg 1·0) (neg 1·0)) (flat 1·0 (neg 1·0)) n added ≡ true
+added-held : point-strictly-inside (flat (neg 1·0) (neg 1·0)) (flat 1·0 (neg 1·0)) n added ≡ true
 unfolding computed
 added-held = refl
 
 added-within : Within added
 unfolding computed
-added-within = inside no-size refl o e o (flat (neg 1·0) (neg 1·0)) (flat 1·0 (neg 1·0)) n refl refl refl refl refl refl 0·3 (inr (inr (inr (inr (inr (inr (inr (inl refl)))))))) refl added refl added-held
+added-within = inside (settings base no-size) no-size refl refl o e o (flat (neg 1·0) (neg 1·0)) (flat 1·0 (neg 1·0)) n refl refl refl refl refl refl 0·3 (inr (inr (inr (inr (inr (inr (inr (inl refl)))))))) refl added refl added-held
 
 -- ---- lengths, perimeters
 

@@ -1,5 +1,5 @@
 -- The point that the definition tries for an insertion is within 40, and where a triangle holds it, within 8. Assumes nothing.
-use mathlib.Core.Path.{_≡_, sym, ap, subst}
+use mathlib.Core.Path.{_≡_, refl, sym, ap, subst}
 use mathlib.Core.Logic.{inl, inr}
 use mathlib.Core.Bool.{Bool, true, false, _&&_, _||_, cond}
 use mathlib.Core.List.{List, _∷_}
@@ -11,7 +11,7 @@ use lib.Ieee.{Float, nan, inf, fin, binary64, ofBits, up, down, mul, neg, lt, le
 use lib.Ieee.Fits.{and-l, and-r, down-pos, neg-fits}
 use Rattle.definition.specs.Floats.{_≺_, _≼_, f64, 0·0, 1/64, 8·0, 1e-12, 0·3, 0·4, 0·5, 0·6, 0·7, 0·8, 0·9, 1·0}
 use Rattle.definition.specs.Floats as floats
-use Rattle.definition.specs.Numbers.{Settings, base}
+use Rattle.definition.specs.Numbers.{Settings, insert-shares, tiny-length}
 use Rattle.definition.specs.Plane.{Node, Vec, flat, from-to}
 use Rattle.definition.specs.Plane as plane
 use Rattle.definition.specs.Insertion.{along}
@@ -67,17 +67,17 @@ size-of (fin s m e) t = elim (or-split (eq (fin s m e) 0·0) (least-size ≼ fin
     go false l h = (tt, some (m * up e) (down e) (mag binary64 (fin false m e)) (2 ^ 1074) (down-pos e) (le-numbers (m * up e * 1) (8 * down e) h) (mag-cut binary64 (fin false m e) .0))
     go true l h = absurd (not-minus (1 * 1 * down e) (eqb (1 * 1 * down e) (m * up e * 2 ^ 6)) (one-times (down e) (down-pos e)) l)
 
--- the shares of `base` are from 0.3 to 1
-shares-small : All (Size 1) (base .shares)
-unfolding base 0·3 0·4 0·5 0·6 0·7 0·8 0·9 1·0 f64 ofBits
+-- the shares are from 0.3 to 1
+shares-small : All (Size 1) insert-shares
+unfolding insert-shares 0·3 0·4 0·5 0·6 0·7 0·8 0·9 1·0 f64 ofBits
 shares-small = ((tt, lit≤ tt), ((tt, lit≤ tt), ((tt, lit≤ tt), ((tt, lit≤ tt), ((tt, lit≤ tt), ((tt, lit≤ tt), ((tt, lit≤ tt), ((tt, lit≤ tt), tt))))))))
 
 pub from-all : {A : Type 0} (P : A → Type 0) (xs : List A) (x : A) → All P xs → x ∈ xs → P x
 from-all P (y ∷ ys) x (p, ps) (inl e) = subst P (sym e) p
 from-all P (y ∷ ys) x (p, ps) (inr m) = from-all P ys x ps m
 
-pub share-small : (x : Float) → x ∈ base .shares → Size 1 x
-share-small x m = from-all (Size 1) (base .shares) x shares-small m
+pub share-small : (x : Float) → x ∈ insert-shares → Size 1 x
+share-small x m = from-all (Size 1) insert-shares x shares-small m
 
 -- ---- the normal
 
@@ -120,7 +120,11 @@ over-tiny w t T e z h = go (rw e at h)
     go : (T, 0) ⊏ w → T ≤ w .0
     go h = omega arith
 
-module _ (s : Settings) (tiny : s .numbers .tiny-length ≡ 1e-12) (size : Size 8 (s .size)) (a b : Node) (A : At 8 a) (B : At 8 b) (far : (plane.norm (from-to a b) ≼ s .numbers .tiny-length) ≡ false) where
+short : tiny-length ≡ 1e-12
+unfolding tiny-length
+short = refl
+
+module _ (s : Settings) (size : Size 8 (s .size)) (a b : Node) (A : At 8 a) (B : At 8 b) (far : (plane.norm (from-to a b) ≼ tiny-length) ≡ false) where
   abbrev span : Float
   span = plane.norm (from-to a b)
 
@@ -138,7 +142,7 @@ module _ (s : Settings) (tiny : s .numbers .tiny-length ≡ 1e-12) (size : Size 
       let dx = from-to a b .dx in
       let dy = from-to a b .dy in
       let r = length-root dx dy (wx a b) (wy a b) x-part y-part in
-      let t = over-tiny (whole binary64 span) (whole binary64 1e-12) tiny-units tiny-is (r .1) (not-le binary64 span 1e-12 (r .0) tiny-ok (rw tiny at far)) in
+      let t = over-tiny (whole binary64 span) (whole binary64 1e-12) tiny-units tiny-is (r .1) (not-le binary64 span 1e-12 (r .0) tiny-ok (rw short at far)) in
       (long binary64 (2 ^ 1021) room64 dx dy span (wx a b) (wy a b) tiny-units x-part y-part r (lit≤ tt) t, t)
 
   abbrev normal : Vec
@@ -161,7 +165,7 @@ module _ (s : Settings) (tiny : s .numbers .tiny-length ≡ 1e-12) (size : Size 
 
   target-size : Size 23 (target-of s span)
   unfolding target-of
-  target-size = go (s .numbers .tiny-length ≺ s .size)
+  target-size = go (tiny-length ≺ s .size)
     where
       more : (a L : ℕ) → a ≤ 8 * L → a ≤ 23 * L
       more a L h = omega arith

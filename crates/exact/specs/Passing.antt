@@ -8,7 +8,7 @@ use lib.Dec.{T}
 use lib.Ieee.{Float, inf, fin, binary64, ofBits, lt, neg, fits}
 use Rattle.definition.specs.Floats.{_⊘_, _≺_, _≼_, f64, finite, greater, 0·0, 1·0, 1e-12}
 use Rattle.definition.specs.Lists.{any}
-use Rattle.definition.specs.Numbers.{Numbers}
+use Rattle.definition.specs.Numbers.{Quality, tiny-cross}
 use Rattle.definition.specs.Plane.{Node, twice-area}
 use Rattle.definition.specs.Metrics.{Metrics, absent, measured, Corner, corner-of, corners, not-convex, angle-of, clamp, cosine, largest-cosine, min-scaled-jacobian, quad-metrics, passes}
 use Rattle.definition.specs.Exact.{Turns-left}
@@ -133,37 +133,37 @@ and-true true b e = (refl, e)
 and-true false b e = absurd (is-not (sym e) tt)
 
 -- what passing says of the quad's metrics
-record Passed (num : Numbers) (a b c d : Node) : Type 0 where
-  convex : any (not-convex num) (corners a b c d) ≡ false
-  cosine : (num .largest-cosine ≺ largest-cosine (map angle-of (corners a b c d))) ≡ false
-  jacobian : (min-scaled-jacobian a b c d ≺ num .least-jacobian) ≡ false
+record Passed (y : Quality) (a b c d : Node) : Type 0 where
+  convex : any not-convex (corners a b c d) ≡ false
+  cosine : (y .largest-cosine ≺ largest-cosine (map angle-of (corners a b c d))) ≡ false
+  jacobian : (min-scaled-jacobian a b c d ≺ y .least-jacobian) ≡ false
 
-pub no-metrics : (num : Numbers) → passes num absent ≡ true → ⊥
+pub no-metrics : (y : Quality) → passes y absent ≡ true → ⊥
 unfolding passes
-no-metrics num e = is-not (sym e) tt
+no-metrics y e = is-not (sym e) tt
 
-both-pass : (num : Numbers) (sj k : Float) → passes num (measured sj k) ≡ true → ((sj ≺ num .least-jacobian) ≡ false) × ((num .largest-cosine ≺ k) ≡ false)
+both-pass : (y : Quality) (sj k : Float) → passes y (measured sj k) ≡ true → ((sj ≺ y .least-jacobian) ≡ false) × ((y .largest-cosine ≺ k) ≡ false)
 unfolding passes
-both-pass num sj k e =
-    let p = not (sj ≺ num .least-jacobian) in
-    let q = not (num .largest-cosine ≺ k) in
+both-pass y sj k e =
+    let p = not (sj ≺ y .least-jacobian) in
+    let q = not (y .largest-cosine ≺ k) in
     let i = and-true (finite sj && finite k && p) q e in
-    (not-true (sj ≺ num .least-jacobian) (and-true (finite sj && finite k) p (i .0) .1), not-true (num .largest-cosine ≺ k) (i .1))
+    (not-true (sj ≺ y .least-jacobian) (and-true (finite sj && finite k) p (i .0) .1), not-true (y .largest-cosine ≺ k) (i .1))
 
-passed : (num : Numbers) (a b c d : Node) → passes num (quad-metrics num a b c d) ≡ true → Passed num a b c d
+passed : (y : Quality) (a b c d : Node) → passes y (quad-metrics a b c d) ≡ true → Passed y a b c d
 unfolding quad-metrics
-passed num a b c d e =
-    go (twice-area a b c d ≼ num .tiny-cross) (any (not-convex num) (corners a b c d)) (any (λ k. k .sides ≼ 0·0) (map angle-of (corners a b c d))) refl e
+passed y a b c d e =
+    go (twice-area a b c d ≼ tiny-cross) (any not-convex (corners a b c d)) (any (λ k. k .sides ≼ 0·0) (map angle-of (corners a b c d))) refl e
   where
     result : Metrics
     result = measured (min-scaled-jacobian a b c d) (largest-cosine (map angle-of (corners a b c d)))
 
-    go : (x y z : Bool) → any (not-convex num) (corners a b c d) ≡ y → passes num (cond (x || y || z) absent result) ≡ true → Passed num a b c d
-    go true y z h e = absurd (no-metrics num e)
-    go false true z h e = absurd (no-metrics num e)
-    go false false true h e = absurd (no-metrics num e)
+    go : (x w z : Bool) → any not-convex (corners a b c d) ≡ w → passes y (cond (x || w || z) absent result) ≡ true → Passed y a b c d
+    go true w z h e = absurd (no-metrics y e)
+    go false true z h e = absurd (no-metrics y e)
+    go false false true h e = absurd (no-metrics y e)
     go false false false h e =
-        let p = both-pass num (min-scaled-jacobian a b c d) (largest-cosine (map angle-of (corners a b c d))) e in
+        let p = both-pass y (min-scaled-jacobian a b c d) (largest-cosine (map angle-of (corners a b c d))) e in
         record { convex = h; cosine = p .1; jacobian = p .0 }
 
 -- ---- the four corners
@@ -172,13 +172,13 @@ passed num a b c d e =
 abbrev pub Cosine-near : Float → Corner → Type 0
 Cosine-near t k = Cosine-at-most (billion * whole binary64 t .0 + 2 ^ 1074) (billion * 2 ^ 1074) k
 
-module _ (num : Numbers) (tiny : num .tiny-cross ≡ 1e-12) (limit : Below-one (num .largest-cosine)) where
+module _ (y : Quality) (limit : Below-one (y .largest-cosine)) where
   -- one corner, where its clamped cosine is at most the largest one, which passes
-  one : (k : Corner) (n : At 8 (k .before) × At 8 (k .here) × At 8 (k .after)) (h : not-convex num k ≡ false) (m : Float) → whole binary64 (cosine (angle-of k)) ⊑ whole binary64 m → whole binary64 m ⊑ whole binary64 (num .largest-cosine) → Cosine-near (num .largest-cosine) k
+  one : (k : Corner) (n : At 8 (k .before) × At 8 (k .here) × At 8 (k .after)) (h : not-convex k ≡ false) (m : Float) → whole binary64 (cosine (angle-of k)) ⊑ whole binary64 m → whole binary64 m ⊑ whole binary64 (y .largest-cosine) → Cosine-near (y .largest-cosine) k
   unfolding cosine _≼_
   one k n h m c l =
-      let t = num .largest-cosine in
-      let q = measured-corner num tiny k n h in
+      let t = y .largest-cosine in
+      let q = measured-corner k n h in
       let quotient = angle-of k .product ⊘ angle-of k .sides in
       let i = clamp-cases quotient t (q .0) limit .1 (up-trans (whole binary64 (clamp quotient)) (whole binary64 m) (whole binary64 t) c l) in
       q .1 t (limit .0) (loosen (whole binary64 t .0) (2 ^ 1074) (limit .2)) (whole-le binary64 quotient t (q .0) (limit .0) i)
@@ -186,27 +186,27 @@ module _ (num : Numbers) (tiny : num .tiny-cross ≡ 1e-12) (limit : Below-one (
       loosen : (a b : ℕ) → a < b → a ≤ b
       loosen a b h = omega arith
 
-  cosine-ok : (k : Corner) (n : At 8 (k .before) × At 8 (k .here) × At 8 (k .after)) → not-convex num k ≡ false → Ok binary64 (cosine (angle-of k))
+  cosine-ok : (k : Corner) (n : At 8 (k .before) × At 8 (k .here) × At 8 (k .after)) → not-convex k ≡ false → Ok binary64 (cosine (angle-of k))
   unfolding cosine
-  cosine-ok k n h = clamp-cases (angle-of k .product ⊘ angle-of k .sides) (num .largest-cosine) (measured-corner num tiny k n h .0) limit .0
+  cosine-ok k n h = clamp-cases (angle-of k .product ⊘ angle-of k .sides) (y .largest-cosine) (measured-corner k n h .0) limit .0
 
-  pub four-corners : (a b c d : Node) → At 8 a → At 8 b → At 8 c → At 8 d → passes num (quad-metrics num a b c d) ≡ true
-      → All Turns-left (corners a b c d) × All (Cosine-near (num .largest-cosine)) (corners a b c d)
+  pub four-corners : (a b c d : Node) → At 8 a → At 8 b → At 8 c → At 8 d → passes y (quad-metrics a b c d) ≡ true
+      → All Turns-left (corners a b c d) × All (Cosine-near (y .largest-cosine)) (corners a b c d)
   unfolding corners corner-of largest-cosine _≺_
   four-corners a b c d A B C D e =
-      let p = passed num a b c d e in
+      let p = passed y a b c d e in
       let ka = corner-of d a b in
       let kb = corner-of a b c in
       let kc = corner-of b c d in
       let kd = corner-of c d a in
-      let v = any-none (not-convex num) ka kb kc kd (p .convex) in
+      let v = any-none not-convex ka kb kc kd (p .convex) in
       let na : At 8 d × At 8 a × At 8 b = (D, A, B) in
       let nb : At 8 a × At 8 b × At 8 c = (A, B, C) in
       let nc : At 8 b × At 8 c × At 8 d = (B, C, D) in
       let nd : At 8 c × At 8 d × At 8 a = (C, D, A) in
       let g = largest-of (cosine (angle-of ka)) (cosine (angle-of kb)) (cosine (angle-of kc)) (cosine (angle-of kd)) (cosine-ok ka na (v .0)) (cosine-ok kb nb (v .1)) (cosine-ok kc nc (v .2)) (cosine-ok kd nd (v .3)) in
       let m = largest-cosine (map angle-of (corners a b c d)) in
-      let l = not-lt binary64 (num .largest-cosine) m (limit .0) (g .0) (p .cosine) in (
-        (turns-left num tiny ka na (v .0), (turns-left num tiny kb nb (v .1), (turns-left num tiny kc nc (v .2), (turns-left num tiny kd nd (v .3), tt)))),
+      let l = not-lt binary64 (y .largest-cosine) m (limit .0) (g .0) (p .cosine) in (
+        (turns-left ka na (v .0), (turns-left kb nb (v .1), (turns-left kc nc (v .2), (turns-left kd nd (v .3), tt)))),
         (one ka na (v .0) m (g .1) l, (one kb nb (v .1) m (g .2) l, (one kc nc (v .2) m (g .3) l, (one kd nd (v .3) m (g .4) l, tt)))),
       )

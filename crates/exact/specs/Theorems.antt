@@ -1,6 +1,6 @@
 -- What the definition's float tests mean in exact arithmetic. Each statement reads by itself; the proof below it cites the file that has it. Nothing is assumed:
 -- a coordinate is any number that passes the test of refusal 7, double or not.
-use mathlib.Core.Path.{_≡_, refl}
+use mathlib.Core.Path.{_≡_, refl, sym, subst}
 use mathlib.Core.Bool.{true, false, _&&_}
 use mathlib.Core.List.{List, [], _∷_}
 use Prim.Native.Nat.{ℕ, _^_, _≤_}
@@ -8,7 +8,7 @@ use lib.IntN.{pos, _*ℤ_}
 use lib.ListN.{length}
 use lib.Ieee.{Float, fin, binary64}
 use Rattle.definition.specs.Floats.{_⊗_, _≼_, finite, 1e-12}
-use Rattle.definition.specs.Numbers.{Numbers, base}
+use Rattle.definition.specs.Numbers.{Quality, Settings, base, insert-shares, tiny-length}
 use Rattle.definition.specs.Plane.{Node, Edge, cross, side, from-to, norm, dist, edge-length, point-strictly-inside, segments-cross}
 use Rattle.definition.specs.Metrics.{corners, quad-metrics, passes, score}
 use Rattle.definition.specs.Loops.{loop-perimeter, ranked-before}
@@ -18,14 +18,14 @@ use Rattle.definition.specs.Insertion.{along, holds}
 use Rattle.definition.specs.Attempt.{inward-normal, target-of}
 use Rattle.definition.specs.Exact.{units, arrow, exact-cross, Turns-left, Wide-enough, Finite}
 use Rattle.definition.specs.Account.{All, _∈_}
-use Rattle.definition.specs.Call.{Asked, outside, bad-size, settings}
+use Rattle.definition.specs.Call.{Asked, outside, bad-size}
 use Rattle.exact.specs.Values.{Ok}
 use Rattle.exact.specs.Sums.{Number}
 use Rattle.exact.specs.Limits.{Limit, Cosine-up-to, limit-below, up-to, base-limit, base-wide}
 use Rattle.exact.specs.Points.{within-8}
 use Rattle.exact.specs.Passing.{four-corners}
 use Rattle.exact.specs.Strict.{not-outside, strictly-inside}
-use Rattle.exact.specs.Inserted.{size-asked, share-small, tried}
+use Rattle.exact.specs.Inserted.{Size, size-asked, share-small, tried}
 use Rattle.exact.specs.Finite.{within-point, length-ok, perimeter-ok, sides-ok, score-ok}
 use Rattle.exact.specs.Ranks.{Total, Finite-rank, Same-lead, ranked-order, Finite-score, Same-nodes, trial-order}
 use Rattle.exact.specs.Grid.{Grid-point, cross-exact}
@@ -47,67 +47,55 @@ all-map P Q f (x ∷ xs) (p, ps) = (f x p, all-map P Q f xs ps)
 -- ---- quads
 
 -- A quad whose metrics pass turns left at its four nodes, so it is exactly convex and counterclockwise, and the exact cosine of each of its corners is at most
--- the limit and 1e-9. The tolerance of the cross products is that of `base`; the limit is a double from 0 on, below 1 (`limit-range`: as those from 0.5 to 0.99 are).
-pub passing-quad : (num : Numbers) → num .tiny-cross ≡ 1e-12 → Limit (num .largest-cosine)
+-- the limit and 1e-9. The limit is a double from 0 on, below 1 (`limit-range`: as those from 0.5 to 0.99 are).
+pub passing-quad : (y : Quality) → Limit (y .largest-cosine)
     → (a b c d : Node) → Within a → Within b → Within c → Within d
-    → passes num (quad-metrics num a b c d) ≡ true
-    → All Turns-left (corners a b c d) × All (Cosine-up-to (num .largest-cosine)) (corners a b c d)
-passing-quad num tiny limit a b c d A B C D h =
-    let l = limit-below (num .largest-cosine) limit in
-    let p = four-corners num tiny l a b c d (within-8 a A) (within-8 b B) (within-8 c C) (within-8 d D) h in
-    (p .0, all-map _ (Cosine-up-to (num .largest-cosine)) (λ k q. up-to (num .largest-cosine) k l q) (corners a b c d) (p .1))
+    → passes y (quad-metrics a b c d) ≡ true
+    → All Turns-left (corners a b c d) × All (Cosine-up-to (y .largest-cosine)) (corners a b c d)
+passing-quad y limit a b c d A B C D h =
+    let l = limit-below (y .largest-cosine) limit in
+    let p = four-corners y l a b c d (within-8 a A) (within-8 b B) (within-8 c C) (within-8 d D) h in
+    (p .0, all-map _ (Cosine-up-to (y .largest-cosine)) (λ k q. up-to (y .largest-cosine) k l q) (corners a b c d) (p .1))
 
 -- With document 01's numbers: and no corner is under 24.99 degrees.
 pub passing : (a b c d : Node) → Within a → Within b → Within c → Within d
-    → passes base (quad-metrics base a b c d) ≡ true
+    → passes base (quad-metrics a b c d) ≡ true
     → All Turns-left (corners a b c d) × All Wide-enough (corners a b c d)
 unfolding base
 passing a b c d A B C D h =
-    let p = passing-quad base refl base-limit a b c d A B C D h in
+    let p = passing-quad base base-limit a b c d A B C D h in
     (p .0, all-map _ Wide-enough base-wide (corners a b c d) (p .1))
 
 -- ---- insertion
 
 -- The point that an insertion tries lies from o, an end of the edge a b (or any point within 8), by a share of the target along the edge's inward normal; the target is
 -- the size, or the edge's length where there is none. Where a triangle t u v within 8 holds the point strictly inside by the float test, the point is within 8.
-pub inserted-within : (num : Numbers) → num .tiny-cross ≡ 1e-12 → num .tiny-length ≡ 1e-12
-    → (asked : Asked) → bad-size asked ≡ false
+pub inside : (s : Settings) (asked : Asked) → s .size ≡ asked .size → bad-size asked ≡ false
     → (a b o t u v : Node) → Within a → Within b → Within o → Within t → Within u → Within v
-    → (share : Float) → share ∈ base .shares
-    → (norm (from-to a b) ≼ num .tiny-length) ≡ false
-    → (p : Node) → p ≡ along o (inward-normal (from-to a b) (norm (from-to a b))) (target-of (settings num asked) (dist b a)) share
-    → point-strictly-inside num t u v p ≡ true
+    → (share : Float) → share ∈ insert-shares
+    → (norm (from-to a b) ≼ tiny-length) ≡ false
+    → (p : Node) → p ≡ along o (inward-normal (from-to a b) (norm (from-to a b))) (target-of s (dist b a)) share
+    → point-strictly-inside t u v p ≡ true
     → Within p
-unfolding settings dist
-inserted-within num tiny short asked size a b o t u v wa wb wo wt wu wv share m far p e h =
-    let q = along o (inward-normal (from-to a b) (norm (from-to a b))) (target-of (settings num asked) (norm (from-to a b))) share in
-    let r = tried (settings num asked) short (size-asked asked size) a b (within-8 a wa) (within-8 b wb) far o share (within-8 o wo) (share-small share m) in
-    let i = strictly-inside num tiny t u v q (within-8 t wt) (within-8 u wu) (within-8 v wv) (r .1) (rw e at h) in
+unfolding dist
+inside s asked same size a b o t u v wa wb wo wt wu wv share m far p e h =
+    let q = along o (inward-normal (from-to a b) (norm (from-to a b))) (target-of s (norm (from-to a b))) share in
+    let r = tried s (subst (Size 8) (sym same) (size-asked asked size)) a b (within-8 a wa) (within-8 b wb) far o share (within-8 o wo) (share-small share m) in
+    let i = strictly-inside t u v q (within-8 t wt) (within-8 u wu) (within-8 v wv) (r .1) (rw e at h) in
     rw e (not-outside q (r .0) (i .0) (i .1))
 
--- With document 01's numbers.
-pub inside : (asked : Asked) → bad-size asked ≡ false
-    → (a b o t u v : Node) → Within a → Within b → Within o → Within t → Within u → Within v
-    → (share : Float) → share ∈ base .shares
-    → (norm (from-to a b) ≼ base .tiny-length) ≡ false
-    → (p : Node) → p ≡ along o (inward-normal (from-to a b) (norm (from-to a b))) (target-of (settings base asked) (dist b a)) share
-    → point-strictly-inside base t u v p ≡ true
-    → Within p
-unfolding base
-inside asked size a b o t u v wa wb wo wt wu wv share m far p e h = inserted-within base refl refl asked size a b o t u v wa wb wo wt wu wv share m far p e h
-
 -- In a mesh m whose points are within 8, a triangle that holds the point tried: the edge a b was measured in an earlier mesh n, within 8 too.
-pub held-within : (asked : Asked) → bad-size asked ≡ false
+pub held-within : (s : Settings) (asked : Asked) → s .size ≡ asked .size → bad-size asked ≡ false
     → (n m : Mesh) → All Within (n .points) → All Within (m .points)
-    → (a b o : ℕ) (t : Tri) (share : Float) → share ∈ base .shares
-    → (norm (from-to (node-at n a) (node-at n b)) ≼ base .tiny-length) ≡ false
+    → (a b o : ℕ) (t : Tri) (share : Float) → share ∈ insert-shares
+    → (norm (from-to (node-at n a) (node-at n b)) ≼ tiny-length) ≡ false
     → (p : Node)
-    → p ≡ along (node-at m o) (inward-normal (from-to (node-at n a) (node-at n b)) (norm (from-to (node-at n a) (node-at n b)))) (target-of (settings base asked) (edge-length (n .points) (a, b))) share
-    → holds base m p (tri t) ≡ true
+    → p ≡ along (node-at m o) (inward-normal (from-to (node-at n a) (node-at n b)) (norm (from-to (node-at n a) (node-at n b)))) (target-of s (edge-length (n .points) (a, b))) share
+    → holds m p (tri t) ≡ true
     → Within p
 unfolding holds node-at edge-length
-held-within asked size n m hn hm a b o t share k far p e h =
-    inside asked size (node-at n a) (node-at n b) (node-at m o) (node-at m (t .n0)) (node-at m (t .n1)) (node-at m (t .n2)) (within-point (n .points) a hn) (within-point (n .points) b hn) (within-point (m .points) o hm)
+held-within s asked same size n m hn hm a b o t share k far p e h =
+    inside s asked same size (node-at n a) (node-at n b) (node-at m o) (node-at m (t .n0)) (node-at m (t .n1)) (node-at m (t .n2)) (within-point (n .points) a hn) (within-point (n .points) b hn) (within-point (m .points) o hm)
     (within-point (m .points) (t .n0) hm) (within-point (m .points) (t .n1) hm) (within-point (m .points) (t .n2) hm) share k far p e h
 
 -- A point within 8 is finite.
@@ -133,8 +121,8 @@ pub product-finite : (p q r s : Node) → Within p → Within q → Within r →
 product-finite p q r s hp hq hr hs = sides-ok p q r s (within-8 p hp) (within-8 q hq) (within-8 r hr) (within-8 s hs)
 
 -- So is the score of a quad that passes, whatever its points.
-pub score-finite : (num : Numbers) (a b c d : Node) → passes num (quad-metrics num a b c d) ≡ true → Finite-double (score (quad-metrics num a b c d))
-score-finite num a b c d h = score-ok num a b c d h
+pub score-finite : (y : Quality) (a b c d : Node) → passes y (quad-metrics a b c d) ≡ true → Finite-double (score (quad-metrics a b c d))
+score-finite y a b c d h = score-ok y a b c d h
 
 -- On records of finite doubles the orders by which a run takes its least are strict total orders: of loops and edges, by rank and then the leading edge,
 pub ranked-total : Total Finite-rank Same-lead ranked-before
@@ -153,7 +141,7 @@ grid-cross a b c wa wb wc ga gb gc = cross-exact a b c (within-8 a wa) (within-8
 
 -- On the same points the strict-inside test says exactly that p lies strictly on one side of all three sides,
 pub grid-inside : (a b c p : Node) → Within a → Within b → Within c → Within p → Grid-point a → Grid-point b → Grid-point c → Grid-point p
-    → Same-as (point-strictly-inside base a b c p ≡ true) (Strictly-in a b c p)
+    → Same-as (point-strictly-inside a b c p ≡ true) (Strictly-in a b c p)
 grid-inside a b c p wa wb wc wp = inside-exactly a b c p (within-8 a wa) (within-8 b wb) (within-8 c wc) (within-8 p wp)
 
 -- and the test for crossing segments exactly that each has the ends of the other strictly on two sides.

@@ -12,7 +12,7 @@ use borrow.Author.Tests.{eq-eqb, ne-eqb}
 use Rattle.rings.proofs.Lists.{Same, same, differ, decide}
 use Rattle.definition.specs.Lists.{filter, any, first, flat-map, numbers, below}
 use Rattle.definition.specs.Floats.{_≼_}
-use Rattle.definition.specs.Numbers.{Turn, base}
+use Rattle.definition.specs.Numbers.{Turn, edge-dot, tiny-length}
 use Rattle.definition.specs.Plane.{Vec, norm, over, dot}
 use Rattle.definition.specs.Cells.{Live, Mesh, key, live-tri, owns, owners, tri-owners, tri-owner, cells-at, front-owners, is-front}
 use Rattle.definition.specs.Candidates.{toward, ideal-by, turned, or-turned, ideals, edge-candidate}
@@ -78,7 +78,7 @@ none-any {A} f (y ∷ l) h = go (f y) refl (none-any f l)
 module _ (m : Mesh) (a other : ℕ) (u : Vec) (every : Bool) (e : Vec) where
   some-each : some-wanted m a other u every e ≡ any (wanted-by m a other u every e) (numbers 0 (length (m .points)))
   unfolding below
-  some-each = any-flat (close every e) (ideal-by base m a other u (cells-at m a)) (numbers 0 (length (m .points)))
+  some-each = any-flat (close every e) (ideal-by m a other u (cells-at m a)) (numbers 0 (length (m .points)))
 
   pub some-hit : (v : ℕ) → v < length (m .points) → true ≡ wanted-by m a other u every e v → true ≡ some-wanted m a other u every e
   some-hit v h k = sym (some-each ∙ any-hit (wanted-by m a other u every e) 0 (length (m .points)) v (omega arith) (omega arith) (sym k))
@@ -122,17 +122,17 @@ or-alone g e t u (i ∷ l) h = absurd (false≢true (sym h))
 module _ (t : Turn) (m : Mesh) (a other : ℕ) (u e : Vec) where
   pub near-some : true ≡ some-wanted m a other u false e → true ≡ near-ideal t m a other u e
   unfolding ideals
-  near-some h = sym (or-some (λ i. base .edge-dot ≼ dot e i) t u (flat-map (ideal-by base m a other u (cells-at m a)) (below (length (m .points)))) (sym h))
+  near-some h = sym (or-some (λ i. edge-dot ≼ dot e i) t u (flat-map (ideal-by m a other u (cells-at m a)) (below (length (m .points)))) (sym h))
 
   pub near-other : false ≡ some-wanted m a other u false e → true ≡ some-wanted m a other u true e → false ≡ near-ideal t m a other u e
   unfolding ideals
-  near-other h k = sym (or-other (λ i. base .edge-dot ≼ dot e i) e t u (flat-map (ideal-by base m a other u (cells-at m a)) (below (length (m .points)))) (sym h) (sym k))
+  near-other h k = sym (or-other (λ i. edge-dot ≼ dot e i) e t u (flat-map (ideal-by m a other u (cells-at m a)) (below (length (m .points)))) (sym h) (sym k))
 
-  pub near-turned : (x : Float) (o : Vec) → o ≡ turned t u → x ≡ dot e o → false ≡ some-wanted m a other u true e → (base .edge-dot ≼ x) ≡ near-ideal t m a other u e
+  pub near-turned : (x : Float) (o : Vec) → o ≡ turned t u → x ≡ dot e o → false ≡ some-wanted m a other u true e → (edge-dot ≼ x) ≡ near-ideal t m a other u e
   unfolding ideals
   near-turned x o eo ex k =
-      ap (λ (y : Float). base .edge-dot ≼ y) (ex ∙ ap (dot e) eo)
-      ∙ sym (or-alone (λ i. base .edge-dot ≼ dot e i) e t u (flat-map (ideal-by base m a other u (cells-at m a)) (below (length (m .points)))) (sym k))
+      ap (λ (y : Float). edge-dot ≼ y) (ex ∙ ap (dot e) eo)
+      ∙ sym (or-alone (λ i. edge-dot ≼ dot e i) e t u (flat-map (ideal-by m a other u (cells-at m a)) (below (length (m .points)))) (sym k))
 
 -- ---- a live side
 
@@ -165,25 +165,25 @@ and-off b x h = rw (h, and-false b)
 module _ (t : Turn) (m : Mesh) (a other : ℕ) (target : Float) (v : ℕ) where
   pub edge-same : v ≡ a → false ≡ by-edge t m a other target v
   unfolding edge-candidate
-  edge-same h = and-off (not (norm (toward m a other) ≼ base .tiny-length)) _ (rw (eq-eqb v a h))
+  edge-same h = and-off (not (norm (toward m a other) ≼ tiny-length)) _ (rw (eq-eqb v a h))
 
   pub edge-other : v ≢ a → v ≡ other → false ≡ by-edge t m a other target v
   unfolding edge-candidate
-  edge-other d h = and-off (not (norm (toward m a other) ≼ base .tiny-length)) _ (rw (ne-eqb v a d, eq-eqb v other h))
+  edge-other d h = and-off (not (norm (toward m a other) ≼ tiny-length)) _ (rw (ne-eqb v a d, eq-eqb v other h))
 
   pub edge-far : v ≢ a → v ≢ other → false ≡ edge-reach (norm (toward m a v)) target → false ≡ by-edge t m a other target v
   unfolding edge-candidate
-  edge-far d k h = and-off (not (norm (toward m a other) ≼ base .tiny-length)) _ (rw (ne-eqb v a d, ne-eqb v other k, ← h, and-false (any (λ x. live-tri x && owns (key a v) x) (cells-at m a))))
+  edge-far d k h = and-off (not (norm (toward m a other) ≼ tiny-length)) _ (rw (ne-eqb v a d, ne-eqb v other k, ← h, and-false (any (λ x. live-tri x && owns (key a v) x) (cells-at m a))))
 
   pub edge-bare : v ≢ a → v ≢ other → tri-owner m (key a v) ≡ none → false ≡ by-edge t m a other target v
   unfolding edge-candidate
-  edge-bare d k h = and-off (not (norm (toward m a other) ≼ base .tiny-length)) _ (rw (ne-eqb v a d, ne-eqb v other k, live-none m a v h))
+  edge-bare d k h = and-off (not (norm (toward m a other) ≼ tiny-length)) _ (rw (ne-eqb v a d, ne-eqb v other k, live-none m a v h))
 
-  pub edge-tiny : (norm (toward m a other) ≼ base .tiny-length) ≡ true → false ≡ by-edge t m a other target v
+  pub edge-tiny : (norm (toward m a other) ≼ tiny-length) ≡ true → false ≡ by-edge t m a other target v
   edge-tiny h = rw h
 
   pub edge-near : (b : Bool) (x : Live) → v ≢ a → v ≢ other → true ≡ edge-reach (norm (toward m a v)) target → tri-owner m (key a v) ≡ some x
-      → (norm (toward m a other) ≼ base .tiny-length) ≡ false
+      → (norm (toward m a other) ≼ tiny-length) ≡ false
       → b ≡ near-ideal t m a other (over (toward m a other) (norm (toward m a other))) (over (toward m a v) (norm (toward m a v))) → b ≡ by-edge t m a other target v
   unfolding edge-candidate
   edge-near b x d k h l z g = rw (z, ne-eqb v a d, ne-eqb v other k, live-some m a v x l, ← h) g

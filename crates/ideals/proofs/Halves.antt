@@ -11,7 +11,7 @@ use lib.Ieee.{Float}
 use borrow.Author.Tests.{eq-eqb, ne-eqb}
 use Rattle.definition.specs.Floats.{_≺_, _≼_}
 use Rattle.definition.specs.Lists.{filter, any}
-use Rattle.definition.specs.Numbers.{base}
+use Rattle.definition.specs.Numbers.{edge-dot, ideal-sum, tiny-length}
 use Rattle.definition.specs.Plane.{Node, Vec, norm, over, dot, from-to}
 use Rattle.definition.specs.Cells.{Mesh, key, node-at, owns, cells-at, front-owners, is-front}
 use Rattle.definition.specs.Candidates.{toward, plus, halfway, ideal-by}
@@ -24,18 +24,18 @@ use Rattle.ideals.proofs.Near.{near-front}
 -- ---- halfway
 
 module _ (u v e b : Vec) (n : Float) (every : Bool) (eb : b ≡ plus u v) (en : n ≡ norm b) where
-  pub half-none : (base .ideal-sum ≺ n) ≡ false → false ≡ any (close every e) (halfway base u v)
+  pub half-none : (ideal-sum ≺ n) ≡ false → false ≡ any (close every e) (halfway u v)
   unfolding halfway any
   half-none h = rw (← eb, ← en, h)
 
-  pub half-every : (base .ideal-sum ≺ n) ≡ true → every ≡ true → true ≡ any (close every e) (halfway base u v)
+  pub half-every : (ideal-sum ≺ n) ≡ true → every ≡ true → true ≡ any (close every e) (halfway u v)
   unfolding halfway any
   half-every h k = rw (← eb, ← en, h, k)
 
-  pub half-near : (o : Vec) (z : Float) → o ≡ over b n → z ≡ dot e o → (base .ideal-sum ≺ n) ≡ true → every ≡ false
-      → (base .edge-dot ≼ z) ≡ any (close every e) (halfway base u v)
+  pub half-near : (o : Vec) (z : Float) → o ≡ over b n → z ≡ dot e o → (ideal-sum ≺ n) ≡ true → every ≡ false
+      → (edge-dot ≼ z) ≡ any (close every e) (halfway u v)
   unfolding halfway any
-  half-near o z eo ez h k = rw (← eb, ← en, h, k, ← eo, ← ez) (sym (or-false (base .edge-dot ≼ z)))
+  half-near o z eo ez h k = rw (← eb, ← en, h, k, ← eo, ← ez) (sym (or-false (edge-dot ≼ z)))
 
 -- ---- a front edge
 
@@ -52,12 +52,12 @@ module _ (m : Mesh) (a other : ℕ) (u : Vec) (every : Bool) (e : Vec) (v : ℕ)
   unfolding ideal-by any
   by-inner n k h = rw (ne-eqb v a n, ne-eqb v other k, near-front m a v, h)
 
-  pub by-tiny : v ≢ a → v ≢ other → is-front m (key a v) ≡ true → (norm (toward m a v) ≼ base .tiny-length) ≡ true → false ≡ wanted-by m a other u every e v
+  pub by-tiny : v ≢ a → v ≢ other → is-front m (key a v) ≡ true → (norm (toward m a v) ≼ tiny-length) ≡ true → false ≡ wanted-by m a other u every e v
   unfolding ideal-by any
   by-tiny n k h l = rw (ne-eqb v a n, ne-eqb v other k, near-front m a v, h, l)
 
-  pub by-half : (x : Bool) → v ≢ a → v ≢ other → is-front m (key a v) ≡ true → (norm (toward m a v) ≼ base .tiny-length) ≡ false
-      → x ≡ any (close every e) (halfway base u (over (toward m a v) (norm (toward m a v)))) → x ≡ wanted-by m a other u every e v
+  pub by-half : (x : Bool) → v ≢ a → v ≢ other → is-front m (key a v) ≡ true → (norm (toward m a v) ≼ tiny-length) ≡ false
+      → x ≡ any (close every e) (halfway u (over (toward m a v) (norm (toward m a v)))) → x ≡ wanted-by m a other u every e v
   unfolding ideal-by
   by-half x n k h l g = rw (ne-eqb v a n, ne-eqb v other k, near-front m a v, h, l) g
 

@@ -16,7 +16,6 @@ ghost use mathlib.Core.Bool.{_||_};
 ghost use Prim.Native.Nat.{_<_, _≤_};
 ghost use lib.ListN.{length};
 ghost use Rattle.definition.specs.Lists.{any};
-ghost use Rattle.definition.specs.Numbers.{base};
 ghost use Rattle.definition.specs.Plane.{over};
 ghost use Rattle.definition.specs.Cells.{Mesh};
 ghost use Rattle.definition.specs.Candidates.{plus, halfway, turned};
@@ -66,7 +65,7 @@ pub fn turned(left: bool, u: Vec) -> Vec
 
 // The direction halfway between the units u and v is an ideal, and near e; with `every` it need not be near.
 fn half_close(u: Vec, v: Vec, every: bool, e: Vec) -> bool
-    ensures { λ r. ⌜ r ≡ any (close every (vec e)) (halfway base (vec u) (vec v)) ⌝ }
+    ensures { λ r. ⌜ r ≡ any (close every (vec e)) (halfway (vec u) (vec v)) ⌝ }
 {
     let b = plus(u, v);
     let n = norm(b);

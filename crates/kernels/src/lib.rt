@@ -4,7 +4,6 @@ use plane::metrics::score;
 use plane::points::Spot;
 ghost use mathlib.Core.Path.{_≡_};
 ghost use Rattle.definition.specs.Root.{sqrt};
-ghost use Rattle.definition.specs.Numbers.{base};
 ghost use Rattle.definition.specs.Plane.{flat};
 ghost use Rattle.definition.specs.Metrics.{quad-metrics, score};
 
@@ -28,7 +27,7 @@ pub extern "C" fn sedgepick_quad_score(
     dx: f64,
     dy: f64,
 ) -> f64
-    ensures { λ r. ⌜ r ≡ score (quad-metrics base (flat ax ay) (flat bx by) (flat cx cy) (flat dx dy)) ⌝ }
+    ensures { λ r. ⌜ r ≡ score (quad-metrics (flat ax ay) (flat bx by) (flat cx cy) (flat dx dy)) ⌝ }
 {
     let a = Spot { x: ax, y: ay };
     let b = Spot { x: bx, y: by };

@@ -7,7 +7,7 @@ use native.Mathlib.Omega.{arith}
 use lib.ListN.{length, getD}
 use lib.Ieee.{Float}
 use Rattle.definition.specs.Lists.{filter}
-use Rattle.definition.specs.Numbers.{base, max-attempts}
+use Rattle.definition.specs.Numbers.{max-attempts}
 use Rattle.definition.specs.Cells.{Tri, tri, Mesh, new-live, nodes, tri-nodes, new-tri, live-tri, is-tri, live-tris}
 use Rattle.definition.specs.Front.{State, Progress, stuck, progressed, limited, stopped, in-slots, new-mesh, start, front-loop}
 use Rattle.definition.specs.Call.{Asked, Lent, tri-at, first-points, given-points, given-tris, bad-size, settings}
@@ -94,7 +94,7 @@ module _ (a : Asked) (l : Lent) (h : first-refusal a l ≡ 0) where
   pub can-run : (w' : List ℕ) (c : Counters) → Rep w' (a .slots) (a .capacity) first-mesh
       → (c .live ≡ a .count) × (c .used ≡ a .count) × (c .points ≡ a .given) × (c .attempts ≡ 0)
       → CanRun w' (l .points) (l .float-work) (l .quads) (rules-of a) c (given-tris a l) (given-points a l)
-  unfolding bad-size max-attempts base
+  unfolding bad-size
   can-run w' c r n =
       let p = passed a l h in
       let o = none-holds a l h in
@@ -114,7 +114,7 @@ module _ (a : Asked) (l : Lent) (h : first-refusal a l ≡ 0) where
         proper = given-proper a l o;
         is-given = sym (tris-number a l o);
         few = p .limited .count;
-        attempts = refl;
+        attempts = omega arith;
         points = omega (arith, points-number a l o, p .roomy .given);
         slots = omega (arith, tris-number a l o, p .roomy .count);
         fresh = attempts;
@@ -163,7 +163,7 @@ module _ (q : List Float) (ts qs w : List ℕ) (f : List Float) (a : Asked) (l :
     -- the memory in which the mesh was built is as long as that lent
     pub mesh-ran : (w₁ w' : List ℕ) (q' f' : List Float) (quads' : List ℕ) (r : Run) → length w₁ ≡ length w
         → RunTo w₁ w' q q' f f' qs quads' (rules-with a b)
-        (front-loop (max-attempts base (length (given-tris a l)) + 2) (settings-of (rules-with a b)) (length (given-tris a l))
+        (front-loop (max-attempts (a .count) + 2) (settings-of (rules-with a b)) (length (given-tris a l))
         (start (settings-of (rules-with a b)) (given-tris a l) (given-points a l))) r
         → RunTo w w' q q' f f' qs quads' (rules-of a) (progress-of a l) r
     unfolding settings settings-of

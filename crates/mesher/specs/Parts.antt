@@ -8,7 +8,7 @@ use lib.ListN.{length}
 use lib.Ieee.{Float}
 use Rattle.definition.specs.Lists.{flat-map}
 use Rattle.definition.specs.Floats.{_≺_, 1·0}
-use Rattle.definition.specs.Numbers.{base, max-attempts}
+use Rattle.definition.specs.Numbers.{base, max-attempts, tiny-size}
 use Rattle.definition.specs.Counts.{no-counts}
 use Rattle.definition.specs.Cells.{Mesh, tri-nodes, triangles}
 use Rattle.definition.specs.Components.{component-sizes}
@@ -38,11 +38,11 @@ finish-number finishes.NoSlots = 9
 
 -- the bucket's side: the size, or 1.0 without one
 abbrev pub bucket-of : Float → Float
-bucket-of size = cond (base .tiny-size ≺ size) size 1·0
+bucket-of size = cond (tiny-size ≺ size) size 1·0
 
 -- what the run of a call goes by, with this side of a bucket
 abbrev pub rules-with : Asked → Float → Rules
-rules-with a bucket = record { slots = a .slots; capacity = a .capacity; given = a .count; bucket = bucket; size = a .size; even = eqb (a .stop) 1; attempts = 200 * a .count + 10000 }
+rules-with a bucket = record { slots = a .slots; capacity = a .capacity; given = a .count; bucket = bucket; size = a .size; even = eqb (a .stop) 1; attempts = max-attempts (a .count) }
 
 -- and with its own
 abbrev pub rules-of : Asked → Rules
@@ -53,7 +53,7 @@ rules-of a = rules-with a (bucket-of (a .size))
 -- how the run of a call ends
 abbrev pub progress-of : Asked → Lent → Progress
 progress-of a l =
-    front-loop (max-attempts base (length (given-tris a l)) + 2) (settings base a) (length (given-tris a l)) (start (settings base a) (given-tris a l) (given-points a l))
+    front-loop (max-attempts (a .count) + 2) (settings base a) (length (given-tris a l)) (start (settings base a) (given-tris a l) (given-points a l))
 
 -- a call that none of 1 to 7 refuses, and the slices that its run reads and writes
 pub record CanMesh (q : List Float) (ts qs w : List ℕ) (f : List Float) (a : Asked) (l : Lent) : Type 0 where

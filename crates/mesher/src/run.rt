@@ -3,6 +3,7 @@ use crate::Answer;
 use cells::clear::clear_floats;
 use cells::clear::clear_words;
 use cells::counters::Counters;
+use checks::Stated;
 use components::sizes::component_sizes;
 use meshes::build::build;
 use results::write_triangles;
@@ -16,8 +17,9 @@ ghost use Rattle.definition.specs.Numbers.{base};
 ghost use Rattle.definition.specs.Cells.{Mesh};
 ghost use Rattle.definition.specs.Call.{Lent, call};
 ghost use Rattle.checks.specs.Refusals.{first-refusal};
+ghost use Rattle.checks.specs.Stated.{asked};
 ghost use Rattle.rounds.specs.Loop.{RunTo};
-ghost use Rattle.mesher.specs.Promise.{asked-of, lent-of, Returns};
+ghost use Rattle.mesher.specs.Promise.{lent-of, Returns};
 ghost use Rattle.mesher.specs.Parts.{Refused, finish-number, bucket-of, rules-of, progress-of, CanMesh, CanFinish, FinishTo};
 
 // A size up to this is none.
@@ -84,27 +86,29 @@ fn mesh(
     quads: &mut [u32],
     work: &mut [u32],
     float_work: &mut [f64],
-    given: usize,
-    capacity: usize,
-    count: usize,
-    slots: usize,
-    size: f64,
-    stop: u32,
+    stated: Stated,
 ) -> Run
-    requires { ⌜ ((l : Lent) × CanMesh (now points) (now triangles) (now quads) (now work) (now «float_work») (asked-of given capacity count slots size stop) l) ⌝ }
-    ensures { λ r. ⌜ ((l : Lent) → CanMesh (now (points .entry)) (now (triangles .entry)) (now (quads .entry)) (now (work .entry)) (now («float_work» .entry)) (asked-of given capacity count slots size stop) l → RunTo (now (work .entry)) (now (work .exit)) (now (points .entry)) (now (points .exit)) (now («float_work» .entry)) (now («float_work» .exit)) (now (quads .entry)) (now (quads .exit)) (rules-of (asked-of given capacity count slots size stop)) (progress-of (asked-of given capacity count slots size stop) l) r) ⌝ }
+    requires { ⌜ ((l : Lent) × CanMesh (now points) (now triangles) (now quads) (now work) (now «float_work») (asked stated) l) ⌝ }
+    ensures { λ r. ⌜ ((l : Lent) → CanMesh (now (points .entry)) (now (triangles .entry)) (now (quads .entry)) (now (work .entry)) (now («float_work» .entry)) (asked stated) l → RunTo (now (work .entry)) (now (work .exit)) (now (points .entry)) (now (points .exit)) (now («float_work» .entry)) (now («float_work» .exit)) (now (quads .entry)) (now (quads .exit)) (rules-of (asked stated)) (progress-of (asked stated) l) r) ⌝ }
 {
-    build(work, triangles, slots, capacity, count, given);
-    let counters = Counters::new(count, given);
-    let bucket = bucket_of(size);
-    let even = stop == EVEN;
-    let attempts = ATTEMPTS_EACH * count + ATTEMPTS_MORE;
+    build(
+        work,
+        triangles,
+        stated.slots,
+        stated.capacity,
+        stated.count,
+        stated.given,
+    );
+    let counters = Counters::new(stated.count, stated.given);
+    let bucket = bucket_of(stated.size);
+    let even = stated.stop == EVEN;
+    let attempts = ATTEMPTS_EACH * stated.count + ATTEMPTS_MORE;
     let rules = Rules {
-        slots,
-        capacity,
-        given: count,
+        slots: stated.slots,
+        capacity: stated.capacity,
+        given: stated.count,
         bucket,
-        size,
+        size: stated.size,
         even,
         attempts,
     };
@@ -154,34 +158,17 @@ pub fn run(
     components: &mut [u32],
     work: &mut [u32],
     float_work: &mut [f64],
-    given: usize,
-    capacity: usize,
-    count: usize,
-    slots: usize,
-    size: f64,
-    stop: u32,
+    stated: Stated,
 ) -> Answer
-    requires { ⌜ first-refusal (asked-of given capacity count slots size stop) (lent-of (now points) (now triangles) (now quads) (now «triangles_out») (now components) (now work) (now «float_work»)) ≡ 0 ⌝ }
+    requires { ⌜ first-refusal (asked stated) (lent-of (now points) (now triangles) (now quads) (now «triangles_out») (now components) (now work) (now «float_work»)) ≡ 0 ⌝ }
     ensures { λ r. ⌜ Returns
         (call base
-        (asked-of given capacity count slots size stop)
+        (asked stated)
         (lent-of (now (points .entry)) (now (triangles .entry)) (now (quads .entry)) (now («triangles_out» .entry)) (now (components .entry)) (now (work .entry)) (now («float_work» .entry))))
         r
         (lent-of (now (points .exit)) (now (triangles .entry)) (now (quads .exit)) (now («triangles_out» .exit)) (now (components .exit)) (now (work .exit)) (now («float_work» .exit))) ⌝ }
 {
-    let end = mesh(
-        points,
-        triangles,
-        quads,
-        work,
-        float_work,
-        given,
-        capacity,
-        count,
-        slots,
-        size,
-        stop,
-    );
+    let end = mesh(points, triangles, quads, work, float_work, stated);
     let how = end.finish;
     let number = number_of(how);
     if number != 0 {
@@ -190,7 +177,14 @@ pub fn run(
         return refused(number);
     }
     let g = end.standing;
-    let answer = finish(triangles_out, components, work, slots, capacity, g);
+    let answer = finish(
+        triangles_out,
+        components,
+        work,
+        stated.slots,
+        stated.capacity,
+        g,
+    );
     clear_words(work);
     clear_floats(float_work);
     answer

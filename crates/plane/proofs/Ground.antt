@@ -1,7 +1,6 @@
 -- z is never read: what a node's spot gives is what the node gives.
 use mathlib.Core.Path.{_≡_, refl}
 use Rattle.definition.specs.Lists.{any}
-use Rattle.definition.specs.Numbers.{Numbers}
 use Rattle.definition.specs.Plane.{Node, flat, cross, side, parts, shoelace, twice-area, from-to, dist}
 use Rattle.definition.specs.Metrics.{jacobian-at, min-scaled-jacobian, corner-of, corners, not-convex, angle-of, quad-metrics}
 use lib.Ieee.{Float}
@@ -39,6 +38,6 @@ module _ {s t : Node} (a b : Node) (e : s ≡ ground a) (f : t ≡ ground b) whe
       unfolding min-scaled-jacobian jacobian-at ground flat
       min-scaled-jacobian-ground = rw (e, f, g, h)
 
-      pub quad-metrics-ground : (num : Numbers) → quad-metrics num s t u v ≡ quad-metrics num a b c d
+      pub quad-metrics-ground : quad-metrics s t u v ≡ quad-metrics a b c d
       unfolding any quad-metrics min-scaled-jacobian jacobian-at twice-area shoelace corners corner-of not-convex cross angle-of from-to ground flat
-      quad-metrics-ground num = rw (e, f, g, h)
+      quad-metrics-ground = rw (e, f, g, h)

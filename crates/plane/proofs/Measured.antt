@@ -5,7 +5,7 @@ use mathlib.Core.List.{[], _∷_, map}
 use lib.Ieee.{Float, binary64, mul, div, inf}
 use Rattle.definition.specs.Floats.{_⊗_, _⊘_, _≺_, _≼_, finite, greater, 0·0}
 use Rattle.definition.specs.Lists.{any}
-use Rattle.definition.specs.Numbers.{Numbers}
+use Rattle.definition.specs.Numbers.{Quality, tiny-cross}
 use Rattle.definition.specs.Plane.{Node, Vec, from-to, dot, dist, twice-area}
 use Rattle.definition.specs.Metrics.{absent, measured, corner-of, corners, not-convex, angle-of, clamp, cosine, largest-cosine, min-scaled-jacobian, quad-metrics, passes}
 use Rattle.plane.specs.declared.metrics.Sides.{Sides}
@@ -36,15 +36,15 @@ module _ (a b c d : Node) where
   flat-by s h = rw (h .at-a, h .at-b, h .at-c, h .at-d)
 
   -- the metrics by the outcomes of the three tests
-  pub metrics-by : (num : Numbers) (p q r : Bool)
-      → (twice-area a b c d ≼ num .tiny-cross) ≡ p → any (not-convex num) (corners a b c d) ≡ q
+  pub metrics-by : (p q r : Bool)
+      → (twice-area a b c d ≼ tiny-cross) ≡ p → any not-convex (corners a b c d) ≡ q
       → any (λ k. k .sides ≼ 0·0) (map angle-of (corners a b c d)) ≡ r
-      → quad-metrics num a b c d ≡ cond (p || q || r) absent (measured (min-scaled-jacobian a b c d) (largest-cosine (map angle-of (corners a b c d))))
+      → quad-metrics a b c d ≡ cond (p || q || r) absent (measured (min-scaled-jacobian a b c d) (largest-cosine (map angle-of (corners a b c d))))
   unfolding quad-metrics
-  metrics-by num p q r e f g = rw (e, f, g)
+  metrics-by p q r e f g = rw (e, f, g)
 
 -- the test of what was measured, by numbers that were handed in
-pub passes-by : (num : Numbers) {least most : Float} (sj k : Float) → num .least-jacobian ≡ least → num .largest-cosine ≡ most
-    → (finite sj && finite k && not (sj ≺ least) && not (most ≺ k)) ≡ passes num (measured sj k)
+pub passes-by : (y : Quality) {least most : Float} (sj k : Float) → y .least-jacobian ≡ least → y .largest-cosine ≡ most
+    → (finite sj && finite k && not (sj ≺ least) && not (most ≺ k)) ≡ passes y (measured sj k)
 unfolding passes
-passes-by num sj k e f = rw (e, f)
+passes-by y sj k e f = rw (e, f)

@@ -6,10 +6,9 @@ ghost use lib.Ieee.{inf};
 ghost use Rattle.definition.specs.Call.{point-at};
 ghost use Rattle.definition.specs.Floats.{_≺_, _≼_, finite, greater, 0·0};
 ghost use Rattle.definition.specs.Lists.{any};
-ghost use Rattle.definition.specs.Numbers.{Numbers, base};
+ghost use Rattle.definition.specs.Numbers.{Quality, base};
 ghost use Rattle.definition.specs.Plane.{Node};
 ghost use Rattle.definition.specs.Metrics.{corners, corner-of, angle-of, not-convex, clamp, cosine, largest-cosine, quad-metrics, passes, score};
-ghost use Rattle.plane.specs.Limits.{Fixed};
 ghost use Rattle.plane.specs.Measures.{LengthsOf, SidesOf, metrics-of-enum};
 ghost use Rattle.plane.specs.Points.{Within, node};
 use crate::area::twice_area;
@@ -47,14 +46,14 @@ pub struct Sides {
 
 // The corner at b does not turn left by more than the tolerance.
 fn not_convex(a: Spot, b: Spot, c: Spot) -> bool
-    ensures { λ r. ⌜ ((num : Numbers) → Fixed num → r ≡ not-convex num (corner-of (node a) (node b) (node c))) ⌝ }
+    ensures { λ r. ⌜ r ≡ not-convex (corner-of (node a) (node b) (node c)) ⌝ }
 {
     tiny(cross_of(a, b, c))
 }
 
 // Some corner does not.
 fn bent(a: Spot, b: Spot, c: Spot, d: Spot) -> bool
-    ensures { λ r. ⌜ ((num : Numbers) → Fixed num → r ≡ any (not-convex num) (corners (node a) (node b) (node c) (node d))) ⌝ }
+    ensures { λ r. ⌜ r ≡ any not-convex (corners (node a) (node b) (node c) (node d)) ⌝ }
 {
     any_of(
         not_convex(d, a, b),
@@ -128,7 +127,7 @@ fn largest_cosine(a: Spot, b: Spot, c: Spot, d: Spot, s: Sides) -> f64
 
 // Of the quad a b c d.
 pub fn quad_metrics_of(a: Spot, b: Spot, c: Spot, d: Spot) -> Metrics
-    ensures { λ r. ⌜ ((num : Numbers) → Fixed num → metrics-of-enum r ≡ quad-metrics num (node a) (node b) (node c) (node d)) ⌝ }
+    ensures { λ r. ⌜ metrics-of-enum r ≡ quad-metrics (node a) (node b) (node c) (node d) ⌝ }
 {
     if tiny(twice_area(a, b, c, d)) {
         return Metrics::Absent;
@@ -147,7 +146,7 @@ pub fn quad_metrics_of(a: Spot, b: Spot, c: Spot, d: Spot) -> Metrics
 // Of the quad of four nodes: absent where the area, a corner or a side is zero or negative.
 pub fn quad_metrics(q: &[f64], a: usize, b: usize, c: usize, d: usize) -> Metrics
     requires { ⌜ Within (now q) a × Within (now q) b × Within (now q) c × Within (now q) d ⌝ }
-    ensures { λ r. ⌜ (let p = point-at (now (q .entry)) in (num : Numbers) → Fixed num → metrics-of-enum r ≡ quad-metrics num (p a) (p b) (p c) (p d)) ⌝ }
+    ensures { λ r. ⌜ (let p = point-at (now (q .entry)) in metrics-of-enum r ≡ quad-metrics (p a) (p b) (p c) (p d)) ⌝ }
 {
     quad_metrics_of(at(q, a), at(q, b), at(q, c), at(q, d))
 }
@@ -171,7 +170,7 @@ fn good(sj: f64, k: f64, least: f64, most: f64) -> bool
 
 // The quad passes with a scaled Jacobian of at least the one and a largest cosine of at most the other.
 pub fn passes(m: Metrics, least: f64, most: f64) -> bool
-    ensures { λ r. ⌜ ((num : Numbers) → num .least-jacobian ≡ least → num .largest-cosine ≡ most → r ≡ passes num (metrics-of-enum m)) ⌝ }
+    ensures { λ r. ⌜ ((y : Quality) → y .least-jacobian ≡ least → y .largest-cosine ≡ most → r ≡ passes y (metrics-of-enum m)) ⌝ }
 {
     match m {
         Metrics::Absent => false,

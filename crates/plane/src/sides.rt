@@ -5,9 +5,8 @@ ghost use mathlib.Core.List.{[], _∷_};
 ghost use Rattle.definition.specs.Call.{point-at};
 ghost use Rattle.definition.specs.Floats.{_⊗_, _≼_, 0·0};
 ghost use Rattle.definition.specs.Lists.{any};
-ghost use Rattle.definition.specs.Numbers.{Numbers};
+ghost use Rattle.definition.specs.Numbers.{tiny-cross};
 ghost use Rattle.definition.specs.Plane.{flat, cross, side, parts, segments-cross, positive, negative, point-strictly-inside, inside-quad};
-ghost use Rattle.plane.specs.Limits.{Fixed};
 ghost use Rattle.plane.specs.Points.{Within, node};
 use crate::limits::TINY;
 use crate::points::Spot;
@@ -33,21 +32,21 @@ fn parts_of(p: Spot, q: Spot, r: Spot, s: Spot) -> bool
 
 // Above zero by more than the tolerance.
 pub fn positive(d: f64) -> bool
-    ensures { λ r. ⌜ ((num : Numbers) → Fixed num → r ≡ positive num d) ⌝ }
+    ensures { λ r. ⌜ r ≡ positive d ⌝ }
 {
     d > TINY
 }
 
 // Below zero by more than the tolerance.
 pub fn negative(d: f64) -> bool
-    ensures { λ r. ⌜ ((num : Numbers) → Fixed num → r ≡ negative num d) ⌝ }
+    ensures { λ r. ⌜ r ≡ negative d ⌝ }
 {
     d < -TINY
 }
 
 // Not above zero by more than the tolerance.
 pub fn tiny(d: f64) -> bool
-    ensures { λ r. ⌜ ((num : Numbers) → Fixed num → r ≡ (d ≼ num .tiny-cross)) ⌝ }
+    ensures { λ r. ⌜ r ≡ (d ≼ tiny-cross) ⌝ }
 {
     d <= TINY
 }
@@ -82,28 +81,28 @@ pub fn any_of(a: bool, b: bool, c: bool, d: bool) -> bool
 
 // All three are above zero.
 fn all_positive(d: f64, e: f64, f: f64) -> bool
-    ensures { λ r. ⌜ ((num : Numbers) → Fixed num → r ≡ (positive num d && positive num e && positive num f)) ⌝ }
+    ensures { λ r. ⌜ r ≡ (positive d && positive e && positive f) ⌝ }
 {
     all_of(positive(d), positive(e), positive(f))
 }
 
 // All three are below zero.
 fn all_negative(d: f64, e: f64, f: f64) -> bool
-    ensures { λ r. ⌜ ((num : Numbers) → Fixed num → r ≡ (negative num d && negative num e && negative num f)) ⌝ }
+    ensures { λ r. ⌜ r ≡ (negative d && negative e && negative f) ⌝ }
 {
     all_of(negative(d), negative(e), negative(f))
 }
 
 // One of the four is above zero.
 fn any_positive(d: f64, e: f64, f: f64, g: f64) -> bool
-    ensures { λ r. ⌜ ((num : Numbers) → Fixed num → r ≡ any (positive num) (d ∷ e ∷ f ∷ g ∷ [])) ⌝ }
+    ensures { λ r. ⌜ r ≡ any positive (d ∷ e ∷ f ∷ g ∷ []) ⌝ }
 {
     any_of(positive(d), positive(e), positive(f), positive(g))
 }
 
 // One of the four is below zero.
 fn any_negative(d: f64, e: f64, f: f64, g: f64) -> bool
-    ensures { λ r. ⌜ ((num : Numbers) → Fixed num → r ≡ any (negative num) (d ∷ e ∷ f ∷ g ∷ [])) ⌝ }
+    ensures { λ r. ⌜ r ≡ any negative (d ∷ e ∷ f ∷ g ∷ []) ⌝ }
 {
     any_of(negative(d), negative(e), negative(f), negative(g))
 }
@@ -152,7 +151,7 @@ pub fn apart(q: &[f64], u: usize, v: usize, a: usize, b: usize) -> bool
 // The point x y lies strictly inside the triangle a b c, wound either way.
 pub fn point_strictly_inside(q: &[f64], a: usize, b: usize, c: usize, x: f64, y: f64) -> bool
     requires { ⌜ Within (now q) a × Within (now q) b × Within (now q) c ⌝ }
-    ensures { λ r. ⌜ (let p = point-at (now (q .entry)) in (num : Numbers) → Fixed num → r ≡ point-strictly-inside num (p a) (p b) (p c) (flat x y)) ⌝ }
+    ensures { λ r. ⌜ (let p = point-at (now (q .entry)) in r ≡ point-strictly-inside (p a) (p b) (p c) (flat x y)) ⌝ }
 {
     let sa = at(q, a);
     let sb = at(q, b);
@@ -170,7 +169,7 @@ pub fn point_strictly_inside(q: &[f64], a: usize, b: usize, c: usize, x: f64, y:
 // The node v is not strictly on the left of one side of the quad a b c d and strictly on the right of another.
 pub fn inside_quad(q: &[f64], a: usize, b: usize, c: usize, d: usize, v: usize) -> bool
     requires { ⌜ Within (now q) a × Within (now q) b × Within (now q) c × Within (now q) d × Within (now q) v ⌝ }
-    ensures { λ r. ⌜ (let p = point-at (now (q .entry)) in (num : Numbers) → Fixed num → r ≡ inside-quad num (p a) (p b) (p c) (p d) (p v)) ⌝ }
+    ensures { λ r. ⌜ (let p = point-at (now (q .entry)) in r ≡ inside-quad (p a) (p b) (p c) (p d) (p v)) ⌝ }
 {
     let ab = cross(q, a, b, v);
     let bc = cross(q, b, c, v);

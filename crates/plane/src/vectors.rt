@@ -1,9 +1,7 @@
 // Vectors and lengths.
 ghost use mathlib.Core.Path.{_≡_};
 ghost use Rattle.definition.specs.Call.{point-at};
-ghost use Rattle.definition.specs.Numbers.{Numbers};
 ghost use Rattle.definition.specs.Plane.{flat, from-to, dot, norm, over, dist, size-mismatch};
-ghost use Rattle.plane.specs.Limits.{Fixed};
 ghost use Rattle.plane.specs.Points.{Within, node};
 ghost use Rattle.plane.specs.Vectors.{vec};
 use crate::limits::MISMATCH_HIGH;
@@ -90,7 +88,7 @@ pub fn dist(q: &[f64], a: usize, x: f64, y: f64) -> f64
 
 // The length of a front edge is off the target.
 pub fn size_mismatch(span: f64, target: f64) -> bool
-    ensures { λ r. ⌜ ((num : Numbers) → Fixed num → r ≡ size-mismatch num span target) ⌝ }
+    ensures { λ r. ⌜ r ≡ size-mismatch span target ⌝ }
 {
     if span < MISMATCH_LOW * target {
         return true;

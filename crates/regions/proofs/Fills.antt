@@ -11,7 +11,7 @@ use lib.Ieee.{Float, binary64, mul, sub, lt, ofBits}
 use Rattle.rings.specs.Rings.{Below}
 use Rattle.definition.specs.Floats.{_⊕_, _⊖_, _⊗_, _⊘_, _≺_, abs, greater, f64, 0·0, 1·0, 2·0, 1e-9}
 use Rattle.definition.specs.Lists.{all}
-use Rattle.definition.specs.Numbers.{Numbers, base}
+use Rattle.definition.specs.Numbers.{area-slack}
 use Rattle.definition.specs.Plane.{Node, cross, inside-quad, quad-area}
 use Rattle.definition.specs.Cells.{Tri, tri, Live, Mesh, nodes, tri-nodes, node-at, new-live, new-quad, cell-of, quad-edges}
 use Rattle.definition.specs.Call.{point-at}
@@ -94,17 +94,17 @@ four q p m h a b c d k =
 
 -- ---- a triangle inside the quad
 
-module _ (q : List Float) (m : Mesh) (num : Numbers) (a b c d : ℕ) (f : Four q m a b c d) where
+module _ (q : List Float) (m : Mesh) (a b c d : ℕ) (f : Four q m a b c d) where
   abbrev in-mesh : ℕ → Bool
-  in-mesh v = inside-quad num (node-at m a) (node-at m b) (node-at m c) (node-at m d) (node-at m v)
+  in-mesh v = inside-quad (node-at m a) (node-at m b) (node-at m c) (node-at m d) (node-at m v)
 
   abbrev in-slice : ℕ → Bool
-  in-slice v = inside-quad num (point-at q a) (point-at q b) (point-at q c) (point-at q d) (point-at q v)
+  in-slice v = inside-quad (point-at q a) (point-at q b) (point-at q c) (point-at q d) (point-at q v)
 
   at-spot : (v u : ℕ) → Spotted q m v → v ≡ u → in-slice v ≡ in-mesh u
   at-spot v u k e = rw (← e, f .sa .is, f .sb .is, f .sc .is, f .sd .is, k .is)
 
-  inside-tri : (j : ℕ) (t : Tri) → cell-inside num m (new-quad a b c d) (tri-live j t) ≡ (in-mesh (t .n0) && (in-mesh (t .n1) && (in-mesh (t .n2) && true)))
+  inside-tri : (j : ℕ) (t : Tri) → cell-inside m (new-quad a b c d) (tri-live j t) ≡ (in-mesh (t .n0) && (in-mesh (t .n1) && (in-mesh (t .n2) && true)))
   unfolding cell-inside all nodes tri-nodes new-live new-quad
   inside-tri j t = refl
 
@@ -112,20 +112,20 @@ module _ (q : List Float) (m : Mesh) (num : Numbers) (a b c d : ℕ) (f : Four q
     is0 : in-mesh (t .n0) ≡ r0
     is0 = sym (e0 ∙ at-spot x (t .n0) (g .sx) (g .ex))
 
-    pub first-out : r0 ≡ false → false ≡ cell-inside num m (new-quad a b c d) (tri-live j t)
+    pub first-out : r0 ≡ false → false ≡ cell-inside m (new-quad a b c d) (tri-live j t)
     first-out h = sym (inside-tri j t ∙ ap (λ (v : Bool). v && (in-mesh (t .n1) && (in-mesh (t .n2) && true))) (is0 ∙ h))
 
     module _ (h0 : r0 ≡ true) (r1 : Bool) (e1 : r1 ≡ in-slice y) where
-      rest0 : cell-inside num m (new-quad a b c d) (tri-live j t) ≡ (in-mesh (t .n1) && (in-mesh (t .n2) && true))
+      rest0 : cell-inside m (new-quad a b c d) (tri-live j t) ≡ (in-mesh (t .n1) && (in-mesh (t .n2) && true))
       rest0 = inside-tri j t ∙ ap (λ (v : Bool). v && (in-mesh (t .n1) && (in-mesh (t .n2) && true))) (is0 ∙ h0)
 
       is1 : in-mesh (t .n1) ≡ r1
       is1 = sym (e1 ∙ at-spot y (t .n1) (g .sy) (g .ey))
 
-      pub second-out : r1 ≡ false → false ≡ cell-inside num m (new-quad a b c d) (tri-live j t)
+      pub second-out : r1 ≡ false → false ≡ cell-inside m (new-quad a b c d) (tri-live j t)
       second-out h = sym (rest0 ∙ ap (λ (v : Bool). v && (in-mesh (t .n2) && true)) (is1 ∙ h))
 
-      pub third-test : r1 ≡ true → (r2 : Bool) → r2 ≡ in-slice z → r2 ≡ cell-inside num m (new-quad a b c d) (tri-live j t)
+      pub third-test : r1 ≡ true → (r2 : Bool) → r2 ≡ in-slice z → r2 ≡ cell-inside m (new-quad a b c d) (tri-live j t)
       third-test h r2 e2 =
           e2 ∙ at-spot z (t .n2) (g .sz) (g .ez) ∙ sym (rest0 ∙ ap (λ (v : Bool). v && (in-mesh (t .n2) && true)) (is1 ∙ h) ∙ and-true (in-mesh (t .n2)))
 
@@ -200,30 +200,30 @@ all-end f xs e = rw e
 
 -- ---- the areas compared
 
-pub agrees-is : (q : List Float) (m : Mesh) (num : Numbers) (a b c d : ℕ) → Four q m a b c d → (xs : List Live)
+pub agrees-is : (q : List Float) (m : Mesh) (a b c d : ℕ) → Four q m a b c d → (xs : List Live)
     → (area : Float) → area ≡ quad-area (point-at q a) (point-at q b) (point-at q c) (point-at q d) → (expected : Float) → expected ≡ abs area
     → (sum : Float) → sum ≡ region-area m xs → (off : Float) → off ≡ abs (sub binary64 sum expected) → (most : Float) → most ≡ greater expected (ofBits binary64 0x3ff0000000000000)
-    → num .area-slack ≡ base .area-slack → not (lt (mul binary64 (ofBits binary64 0x3e112e0be826d695) most) off) ≡ area-agrees num m (new-quad a b c d) xs
-unfolding area-agrees new-quad base _⊗_ _⊖_ _≺_ 1·0 1e-9 f64
-agrees-is q m num a b c d f xs area ea expected ee sum es off eo most em sl =
-    rw (sl, em, eo, es, ee, ea, f .sa .is, f .sb .is, f .sc .is, f .sd .is)
+    → not (lt (mul binary64 (ofBits binary64 0x3e112e0be826d695) most) off) ≡ area-agrees m (new-quad a b c d) xs
+unfolding area-agrees new-quad area-slack _⊗_ _⊖_ _≺_ 1·0 1e-9 f64
+agrees-is q m a b c d f xs area ea expected ee sum es off eo most em =
+    rw (em, eo, es, ee, ea, f .sa .is, f .sb .is, f .sc .is, f .sd .is)
 
 -- ---- the region
 
-module _ (w w' : List ℕ) (s p n seed : ℕ) (num : Numbers) (m : Mesh) (a b c d : ℕ) (r : Rep w s p m) (t : TriIn m seed) where
+module _ (w w' : List ℕ) (s p n seed : ℕ) (m : Mesh) (a b c d : ℕ) (r : Rep w s p m) (t : TriIn m seed) where
   abbrev flooded : Option (List Live)
   flooded = flood (m .used) m (quad-edges (new-quad a b c d)) [] (tri-live seed (t .t) ∷ [])
 
-  region-is : region num m seed (new-quad a b c d) ≡ if-filled num m (new-quad a b c d) flooded
+  region-is : region m seed (new-quad a b c d) ≡ if-filled m (new-quad a b c d) flooded
   unfolding region region-from new-live
-  region-is = ap (region-from num m (new-quad a b c d)) (rep-cell w s p m r (t .has))
+  region-is = ap (region-from m (new-quad a b c d)) (rep-cell w s p m r (t .has))
 
   module _ (f : Reached w w' s p m [] flooded n) where
-    pub region-none : n ≡ 0 → Reached w w' s p m [] (region num m seed (new-quad a b c d)) 0
+    pub region-none : n ≡ 0 → Reached w w' s p m [] (region m seed (new-quad a b c d)) 0
     unfolding if-filled
     region-none z = subst (λ (o : Option (List Live)). Reached w w' s p m [] o 0) (sym region-is) (go flooded f)
       where
-        go : (o : Option (List Live)) → Reached w w' s p m [] o n → Reached w w' s p m [] (if-filled num m (new-quad a b c d) o) 0
+        go : (o : Option (List Live)) → Reached w w' s p m [] o n → Reached w w' s p m [] (if-filled m (new-quad a b c d) o) 0
         go none h = record { zero' = refl; aside = h .aside }
         go (some xs) h = absurd (omega (arith, h .state .list .many))
 
@@ -241,30 +241,30 @@ module _ (w w' : List ℕ) (s p n seed : ℕ) (num : Numbers) (m : Mesh) (a b c 
         go (some xs) e h = record { xs = xs; is = e; grown = h }
 
     module _ (k : Cells) where
-      filled-is : region num m seed (new-quad a b c d) ≡ cond (fills num m (new-quad a b c d) (k .xs)) (some (k .xs)) none
+      filled-is : region m seed (new-quad a b c d) ≡ cond (fills m (new-quad a b c d) (k .xs)) (some (k .xs)) none
       unfolding if-filled
-      filled-is = region-is ∙ ap (if-filled num m (new-quad a b c d)) (k .is)
+      filled-is = region-is ∙ ap (if-filled m (new-quad a b c d)) (k .is)
 
-      fills-is : fills num m (new-quad a b c d) (k .xs) ≡ (all (cell-inside num m (new-quad a b c d)) (k .xs) && area-agrees num m (new-quad a b c d) (k .xs))
+      fills-is : fills m (new-quad a b c d) (k .xs) ≡ (all (cell-inside m (new-quad a b c d)) (k .xs) && area-agrees m (new-quad a b c d) (k .xs))
       unfolding fills
       fills-is = refl
 
-      by-test : (b' : Bool) → fills num m (new-quad a b c d) (k .xs) ≡ b' → region num m seed (new-quad a b c d) ≡ cond b' (some (k .xs)) none
+      by-test : (b' : Bool) → fills m (new-quad a b c d) (k .xs) ≡ b' → region m seed (new-quad a b c d) ≡ cond b' (some (k .xs)) none
       by-test b' e = filled-is ∙ ap (λ (v : Bool). cond v (some (k .xs)) none) e
 
-      refused : region num m seed (new-quad a b c d) ≡ none → Reached w w' s p m [] (region num m seed (new-quad a b c d)) 0
+      refused : region m seed (new-quad a b c d) ≡ none → Reached w w' s p m [] (region m seed (new-quad a b c d)) 0
       refused e = subst (λ (o : Option (List Live)). Reached w w' s p m [] o 0) (sym e) (record { zero' = refl; aside = k .grown .aside })
 
-      module _ (x : Bool) (ex : x ≡ all (cell-inside num m (new-quad a b c d)) (k .xs)) where
-        pub region-outside : x ≡ false → Reached w w' s p m [] (region num m seed (new-quad a b c d)) 0
-        region-outside z = refused (by-test false (fills-is ∙ ap (λ (v : Bool). v && area-agrees num m (new-quad a b c d) (k .xs)) (sym ex ∙ z)))
+      module _ (x : Bool) (ex : x ≡ all (cell-inside m (new-quad a b c d)) (k .xs)) where
+        pub region-outside : x ≡ false → Reached w w' s p m [] (region m seed (new-quad a b c d)) 0
+        region-outside z = refused (by-test false (fills-is ∙ ap (λ (v : Bool). v && area-agrees m (new-quad a b c d) (k .xs)) (sym ex ∙ z)))
 
-        module _ (y : Bool) (ey : y ≡ area-agrees num m (new-quad a b c d) (k .xs)) (h : x ≡ true) where
-          both : (v : Bool) → y ≡ v → fills num m (new-quad a b c d) (k .xs) ≡ v
-          both v e = fills-is ∙ ap (λ (u : Bool). u && area-agrees num m (new-quad a b c d) (k .xs)) (sym ex ∙ h) ∙ sym ey ∙ e
+        module _ (y : Bool) (ey : y ≡ area-agrees m (new-quad a b c d) (k .xs)) (h : x ≡ true) where
+          both : (v : Bool) → y ≡ v → fills m (new-quad a b c d) (k .xs) ≡ v
+          both v e = fills-is ∙ ap (λ (u : Bool). u && area-agrees m (new-quad a b c d) (k .xs)) (sym ex ∙ h) ∙ sym ey ∙ e
 
-          pub region-off : y ≡ false → Reached w w' s p m [] (region num m seed (new-quad a b c d)) 0
+          pub region-off : y ≡ false → Reached w w' s p m [] (region m seed (new-quad a b c d)) 0
           region-off z = refused (by-test false (both false z))
 
-          pub region-found : y ≡ true → Reached w w' s p m [] (region num m seed (new-quad a b c d)) n
+          pub region-found : y ≡ true → Reached w w' s p m [] (region m seed (new-quad a b c d)) n
           region-found z = subst (λ (o : Option (List Live)). Reached w w' s p m [] o n) (sym (by-test true (both true z))) (k .grown)

@@ -1,18 +1,15 @@
 -- What the tests of a region read, and what its replacement gives.
-use mathlib.Core.Path.{_≡_, refl}
 use mathlib.Core.List.{List, [], _∷_, _++_}
 use Prim.Native.Nat.{ℕ}
 use lib.ListN.{length}
 use lib.Ieee.{Float}
 use Rattle.rings.specs.Rings.{Below}
-use Rattle.definition.specs.Numbers.{Numbers, base}
 use Rattle.definition.specs.Cells.{Live, Mesh, new-quad}
 use Rattle.definition.specs.Attempt.{replaced}
 use Rattle.cells.specs.Layout.{mesh-end}
 use Rattle.cells.specs.Rep.{Rep, TriIn, Pts}
 use Rattle.cells.specs.Frames.{Keeps}
 use Rattle.meshes.specs.Changes.{CanPush, quad-of-nodes}
-use Rattle.plane.specs.Limits.{Fixed, base-fixed}
 use Rattle.regions.specs.Listing.{Listed}
 
 -- the quad's nodes are among the points
@@ -29,15 +26,6 @@ pub record Drawn (w : List ℕ) (q : List Float) (s p j : ℕ) (m : Mesh) : Type
   pub rep : Rep w s p m
   pub pts : Pts q p m
   pub tri : TriIn m j
-
--- the numbers that the code has as constants are document 01's
-pub record Usual (num : Numbers) : Type 0 where
-  pub fixed : Fixed num
-  pub slack : num .area-slack ≡ base .area-slack
-
--- as in document 01's own set
-pub base-usual : Usual base
-base-usual = record { fixed = base-fixed; slack = refl }
 
 -- the cells listed are gone; nothing beyond the mesh changed
 pub record Gone (w w' : List ℕ) (s p n : ℕ) (to : Mesh → List Live → Mesh) : Type 0 where

@@ -10,13 +10,11 @@ use plane::sides::inside_quad;
 ghost use mathlib.Core.Path.{_≡_};
 ghost use mathlib.Core.List.{List, []};
 ghost use Rattle.definition.specs.Lists.{all};
-ghost use Rattle.definition.specs.Numbers.{Numbers};
 ghost use Rattle.definition.specs.Cells.{Live, Mesh, tri, new-quad};
 ghost use Rattle.definition.specs.Region.{area-of, region-area, cell-inside, area-agrees, region};
-ghost use Rattle.plane.specs.Limits.{Fixed};
 ghost use Rattle.regions.specs.Listing.{Reached};
 ghost use Rattle.regions.specs.Flood.{tri-live};
-ghost use Rattle.regions.specs.Fill.{Known, Shown, Drawn, Usual};
+ghost use Rattle.regions.specs.Fill.{Known, Shown, Drawn};
 
 // A region's area may be off by this times the greater of the quad's area and 1.
 pub const AREA_SLACK: f64 = 1e-9;
@@ -34,7 +32,7 @@ fn tri_inside(
     d: usize,
 ) -> bool
     requires { ⌜ ((m : Mesh) × Drawn (now w) (now q) s p j m × Known m a b c d) ⌝ }
-    ensures { λ r. ⌜ ((m : Mesh) (h : Drawn (now (w .entry)) (now (q .entry)) s p j m) → Known m a b c d → (num : Numbers) → Fixed num → r ≡ cell-inside num m (new-quad a b c d) (tri-live j (h .tri .t))) ⌝ }
+    ensures { λ r. ⌜ ((m : Mesh) (h : Drawn (now (w .entry)) (now (q .entry)) s p j m) → Known m a b c d → r ≡ cell-inside m (new-quad a b c d) (tri-live j (h .tri .t))) ⌝ }
 {
     let x = node(w, s, j, 0);
     let y = node(w, s, j, 1);
@@ -61,7 +59,7 @@ fn all_inside(
     d: usize,
 ) -> bool
     requires { ⌜ ((m : Mesh) × (xs : List Live) × Shown (now w) (now q) s p n m xs × Known m a b c d) ⌝ }
-    ensures { λ r. ⌜ ((m : Mesh) (xs : List Live) → Shown (now (w .entry)) (now (q .entry)) s p n m xs → Known m a b c d → (num : Numbers) → Fixed num → r ≡ all (cell-inside num m (new-quad a b c d)) xs) ⌝ }
+    ensures { λ r. ⌜ ((m : Mesh) (xs : List Live) → Shown (now (w .entry)) (now (q .entry)) s p n m xs → Known m a b c d → r ≡ all (cell-inside m (new-quad a b c d)) xs) ⌝ }
 {
     let mut i = 0;
     while i < n {
@@ -108,7 +106,7 @@ fn area_agrees(
     d: usize,
 ) -> bool
     requires { ⌜ ((m : Mesh) × (xs : List Live) × Shown (now w) (now q) s p n m xs × Known m a b c d) ⌝ }
-    ensures { λ r. ⌜ ((m : Mesh) (xs : List Live) → Shown (now (w .entry)) (now (q .entry)) s p n m xs → Known m a b c d → (num : Numbers) → Usual num → r ≡ area-agrees num m (new-quad a b c d) xs) ⌝ }
+    ensures { λ r. ⌜ ((m : Mesh) (xs : List Live) → Shown (now (w .entry)) (now (q .entry)) s p n m xs → Known m a b c d → r ≡ area-agrees m (new-quad a b c d) xs) ⌝ }
 {
     let expected = abs(quad_area(q, a, b, c, d));
     let sum = region_area(w, q, s, p, n);
@@ -128,7 +126,7 @@ pub fn region(
     d: usize,
 ) -> usize
     requires { ⌜ ((m : Mesh) × Drawn (now w) (now q) s p seed m × Known m a b c d) ⌝ }
-    ensures { λ r. ⌜ ((m : Mesh) → Drawn (now (w .entry)) (now (q .entry)) s p seed m → Known m a b c d → (num : Numbers) → Usual num → Reached (now (w .entry)) (now (w .exit)) s p m [] (region num m seed (new-quad a b c d)) r) ⌝ }
+    ensures { λ r. ⌜ ((m : Mesh) → Drawn (now (w .entry)) (now (q .entry)) s p seed m → Known m a b c d → Reached (now (w .entry)) (now (w .exit)) s p m [] (region m seed (new-quad a b c d)) r) ⌝ }
 {
     let n = flood(w, s, p, seed, a, b, c, d);
     if n == 0 {

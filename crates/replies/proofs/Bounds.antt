@@ -86,7 +86,7 @@ record Small (given : ℕ) (c : Counts) (n : Lengths) : Type 0 where
 
 module _ (a : Asked) (l : Lent) (few : a .count ≤ 64) (capacity : a .capacity ≡ 96) (slots : a .slots ≡ 160) where
   small : (c : Counts) (n : Lengths) → call base a l .answer ≡ finished c n → Small (a .given) c n
-  unfolding settings base max-attempts
+  unfolding settings max-attempts
   small c n e =
       let b = behind base a l c n e in
       let t = tris-number a l (b .passed) in

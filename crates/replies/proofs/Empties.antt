@@ -5,8 +5,8 @@ use Prim.{absurd, tt}
 use Prim.Native.Nat.{ℕ, zero, suc, _+_, _≤_}
 use native.Mathlib.Omega.{arith}
 use lib.ListN.{length}
-use Rattle.definition.specs.Numbers.{Settings, max-attempts}
-use Rattle.definition.specs.Counts.{Counts, tally, _⊞_, no-counts, emptied, one-attempt, insertions, at-limit, Refusal, Placement, Shape, Recovery, Region, OddRegion, refused-by}
+use Rattle.definition.specs.Numbers.{Settings}
+use Rattle.definition.specs.Counts.{Counts, tally, _⊞_, no-counts, emptied, one-attempt, Spent, spending, at-limit, Refusal, Placement, Shape, Recovery, Region, OddRegion, refused-by}
 use Rattle.definition.specs.Plane.{Node, Edge}
 use Rattle.definition.specs.Cells.{Tri, front}
 use Rattle.definition.specs.Loops.{front-loops}
@@ -25,16 +25,16 @@ Found k (progressed st) = found st ≤ 0
 Found k (limited st) = found st ≤ 0
 Found k (stopped w st) = Unit {0}
 
-refusal-found : (c : Counts) (n : ℕ) (why : Refusal) → (c ⊞ insertions n ⊞ refused-by why) .front-empty ≡ c .front-empty
-unfolding _⊞_ tally insertions refused-by
+refusal-found : (c : Counts) (n : Spent) (why : Refusal) → (c ⊞ spending n ⊞ refused-by why) .front-empty ≡ c .front-empty
+unfolding _⊞_ tally spending refused-by
 refusal-found c n Placement = omega arith
 refusal-found c n Shape = omega arith
 refusal-found c n Recovery = omega arith
 refusal-found c n Region = omega arith
 refusal-found c n OddRegion = omega arith
 
-insertion-found : (c : Counts) (n : ℕ) → (c ⊞ insertions n) .front-empty ≡ c .front-empty
-unfolding _⊞_ tally insertions
+insertion-found : (c : Counts) (n : Spent) → (c ⊞ spending n) .front-empty ≡ c .front-empty
+unfolding _⊞_ tally spending
 insertion-found c n = omega arith
 
 after-found : (st : State) (e : Edge) (a : Attempt) → found st ≤ 0 → Found 0 (after st e a)
@@ -48,7 +48,7 @@ module _ (s : Settings) (given : ℕ) where
   unfolding attempt make-attempt counting _⊞_ tally one-attempt at-limit
   attempt-found st e h =
       let counted = counting st one-attempt in
-      cond-ok (Found 0) (past-limit (s .numbers) given counted) _ _ (λ z. omega arith) (λ z. after-found counted e _ (omega arith))
+      cond-ok (Found 0) (past-limit s given counted) _ _ (λ z. omega arith) (λ z. after-found counted e _ (omega arith))
 
   try-edges-case : (st : State) (e : Edge) (es : List Edge) (r : Progress) → attempt s given st e ≡ r → Found 0 r
       → ((st′ : State) → found st′ ≤ 0 → Found 0 (try-edges s given st′ es)) → Found 0 (try-edges s given st (e ∷ es))
@@ -110,4 +110,4 @@ outcome-found r (stopped w st) h e = absurd (let z : _≡_ {A = ℕ} 0 1 = cc in
 -- a finished run has found its front empty at most once
 pub front-empty-bound : (s : Settings) (ts : List Tri) (ps : List Node) (r : Result) → run-front s ts ps ≡ ran r → r .counts .front-empty ≤ 1
 unfolding run-front start no-counts tally
-front-empty-bound s ts ps r e = outcome-found r _ (front-loop-found s (length ts) (max-attempts (s .numbers) (length ts) + 2) (start s ts ps) (omega arith)) e
+front-empty-bound s ts ps r e = outcome-found r _ (front-loop-found s (length ts) (s .attempts + 2) (start s ts ps) (omega arith)) e

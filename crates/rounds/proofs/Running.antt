@@ -8,7 +8,6 @@ use native.Mathlib.Omega.{arith}
 use lib.Ieee.{Float}
 use lib.ListN.{length, getD, drop}
 use Rattle.definition.specs.Lists.{flat-map}
-use Rattle.definition.specs.Numbers.{base, max-attempts}
 use Rattle.definition.specs.Counts.{Counts, tally, no-counts, Want, of-points, of-slots}
 use Rattle.definition.specs.Plane.{Node, Edge}
 use Rattle.definition.specs.Cells.{Tri, Mesh, front, quad-nodes}
@@ -75,24 +74,24 @@ pub record Running (w : List ℕ) (q : List Float) (quads : List ℕ) (x : Setup
   pub st : State
   pub fuel : ℕ
   pub goes : Goes w q quads x g st []
-  pub enough : max-attempts base (x .rules .given) < fuel + st .counts .attempts
+  pub enough : x .rules .attempts < fuel + st .counts .attempts
   pub same : p ≡ front-loop fuel (settings-of (x .rules)) (x .rules .given) st
 
 module _ (w : List ℕ) (q : List Float) (quads : List ℕ) (x : Setup) (g : Standing) (p : Progress) (t : Running w q quads x g p) where
-  tries-fit : t .st .counts .attempts ≤ max-attempts base (x .rules .given)
+  tries-fit : t .st .counts .attempts ≤ x .rules .attempts
   unfolding settings-of
   tries-fit =
       let f = t .goes .reaches .fixed in
-      subst (λ (n : ℕ). t .st .counts .attempts ≤ max-attempts base n) (sym (f .given)) (sound x f (t .st) (t .goes .reaches .old) [] (t .goes .reaches .reach) .tries-fit)
+      sound x f (t .st) (t .goes .reaches .old) [] (t .goes .reaches .reach) .tries-fit
 
   fuel-is : (n : ℕ) × (t .fuel ≡ suc n)
   fuel-is = go (t .fuel) (t .enough)
     where
-      go : (k : ℕ) → max-attempts base (x .rules .given) < k + t .st .counts .attempts → (n : ℕ) × (k ≡ suc n)
-      go zero h = let l : t .st .counts .attempts ≤ max-attempts base (x .rules .given) = tries-fit in absurd (omega arith)
+      go : (k : ℕ) → x .rules .attempts < k + t .st .counts .attempts → (n : ℕ) × (k ≡ suc n)
+      go zero h = let l : t .st .counts .attempts ≤ x .rules .attempts = tries-fit in absurd (omega arith)
       go (suc n) h = (n, refl)
 
-  gains : Gains (max-attempts base (x .rules .given)) (t .st .counts .attempts) (round (settings-of (x .rules)) (x .rules .given) (t .st) (front (t .st .mesh)))
+  gains : Gains (x .rules .attempts) (t .st .counts .attempts) (round (settings-of (x .rules)) (x .rules .given) (t .st) (front (t .st .mesh)))
   unfolding settings-of
   gains = round-gains (settings-of (x .rules)) (x .rules .given) (t .st) (front (t .st .mesh)) tries-fit
 
@@ -106,8 +105,8 @@ module _ (w : List ℕ) (q : List Float) (quads : List ℕ) (x : Setup) (g : Sta
       one : (st : State) × (round (settings-of (x .rules)) (x .rules .given) (t .st) (front (t .st .mesh)) ≡ progressed st) × Goes w' q' quads' x (s' .standing) st []
       one = progress-case w' q' quads' x (round (settings-of (x .rules)) (x .rules .given) (t .st) (front (t .st .mesh))) s' to e
 
-      more : (t .st .counts .attempts < one .0 .counts .attempts) × (one .0 .counts .attempts ≤ max-attempts base (x .rules .given))
-      more = subst (λ z. Gains (max-attempts base (x .rules .given)) (t .st .counts .attempts) z) (one .1) gains
+      more : (t .st .counts .attempts < one .0 .counts .attempts) × (one .0 .counts .attempts ≤ x .rules .attempts)
+      more = subst (λ z. Gains (x .rules .attempts) (t .st .counts .attempts) z) (one .1) gains
 
       pub goes-on : Running w' q' quads' x (s' .standing) p
       goes-on =
@@ -122,11 +121,10 @@ module _ (w : List ℕ) (q : List Float) (quads : List ℕ) (x : Setup) (g : Sta
             same = t .same ∙ ap (λ (n : ℕ). front-loop n (settings-of (x .rules)) (x .rules .given) (t .st)) k ∙ next-round x (x .rules .given) (fuel-is .0) (t .st) (one .0) (one .1);
           }
 
-      pub fewer : 200 * x .rules .given + 10001 - s' .standing .counters .attempts < 200 * x .rules .given + 10001 - g .counters .attempts
-      unfolding max-attempts base
+      pub fewer : x .rules .attempts + 1 - s' .standing .counters .attempts < x .rules .attempts + 1 - g .counters .attempts
       fewer =
           let m : t .st .counts .attempts < one .0 .counts .attempts = more .0 in
-          let l : one .0 .counts .attempts ≤ max-attempts base (x .rules .given) = more .1 in
+          let l : one .0 .counts .attempts ≤ x .rules .attempts = more .1 in
           let a : g .counters .attempts ≡ t .st .counts .attempts = ap (λ c. c .attempts) (t .goes .holds .counts) in
           let b : s' .standing .counters .attempts ≡ one .0 .counts .attempts = ap (λ c. c .attempts) (one .2 .holds .counts) in
           omega (arith, m, l, a, b)
@@ -171,8 +169,8 @@ module _ (w : List ℕ) (q f : List Float) (quads : List ℕ) (rules : Rules) (c
           reaches = record { fixed = fixed; old = []; reach = begun; sub = λ e i. i };
         }
 
-    pub fuel-enough : max-attempts base (rules .given) < max-attempts base (length ts) + 2 + start (settings-of rules) ts ps .counts .attempts
-    fuel-enough = let e = ap (max-attempts base) (k .is-given) in omega (arith, e)
+    pub fuel-enough : rules .attempts < rules .attempts + 2 + start (settings-of rules) ts ps .counts .attempts
+    fuel-enough = omega arith
 
     left : (w' : List ℕ) (q' f' : List Float) (quads' : List ℕ) (st : State) (r : Run) → length w' ≡ length w → length f' ≡ length f → Leaves w' q' quads' x (r .standing) st → LeftRun w w' q q' f f' quads quads' rules st r
     left w' q' f' quads' st r l m h = record { ready = h .ready; counts = h .counts; number = h .number; text = h .text; behind = h .behind; words = l; reals = m }
@@ -184,8 +182,8 @@ module _ (w : List ℕ) (q f : List Float) (quads : List ℕ) (rules : Rules) (c
     run-case w' q' f' quads' (stopped wt st) r l m h = (h .0, left w' q' f' quads' st r l m (h .1))
 
     pub runs-to : (w' : List ℕ) (q' f' : List Float) (quads' : List ℕ) (r : Run) → length w' ≡ length w → length f' ≡ length f
-        → Finished w' q' quads' x (front-loop (max-attempts base (length ts) + 2) (settings-of rules) (rules .given) (start (settings-of rules) ts ps)) r
-        → RunTo w w' q q' f f' quads quads' rules (front-loop (max-attempts base (length ts) + 2) (settings-of rules) (length ts) (start (settings-of rules) ts ps)) r
+        → Finished w' q' quads' x (front-loop (rules .attempts + 2) (settings-of rules) (rules .given) (start (settings-of rules) ts ps)) r
+        → RunTo w w' q q' f f' quads quads' rules (front-loop (rules .attempts + 2) (settings-of rules) (length ts) (start (settings-of rules) ts ps)) r
     runs-to w' q' f' quads' r l m h =
-        run-case w' q' f' quads' (front-loop (max-attempts base (length ts) + 2) (settings-of rules) (length ts) (start (settings-of rules) ts ps)) r l m
-        (subst (λ (n : ℕ). Finished w' q' quads' x (front-loop (max-attempts base (length ts) + 2) (settings-of rules) n (start (settings-of rules) ts ps)) r) (k .is-given) h)
+        run-case w' q' f' quads' (front-loop (rules .attempts + 2) (settings-of rules) (length ts) (start (settings-of rules) ts ps)) r l m
+        (subst (λ (n : ℕ). Finished w' q' quads' x (front-loop (rules .attempts + 2) (settings-of rules) n (start (settings-of rules) ts ps)) r) (k .is-given) h)

@@ -6,7 +6,7 @@ use Prim.Native.Nat.{ℕ, _+_, _*_, _≤_}
 use lib.ListN.{length}
 use lib.Ieee.{Float}
 use Rattle.definition.specs.Lists.{flat-map}
-use Rattle.definition.specs.Numbers.{base, max-attempts}
+use Rattle.definition.specs.Numbers.{max-attempts}
 use Rattle.definition.specs.Counts.{Want, of-points, of-slots}
 use Rattle.definition.specs.Plane.{Node}
 use Rattle.definition.specs.Cells.{Tri, quad-nodes}
@@ -81,7 +81,7 @@ pub record CanRun (w : List ℕ) (q f : List Float) (quads : List ℕ) (rules : 
   pub proper : Proper ps ts
   pub is-given : rules .given ≡ length ts
   pub few : rules .given ≤ 4096
-  pub attempts : rules .attempts ≡ max-attempts base (rules .given)
+  pub attempts : rules .attempts ≤ max-attempts (rules .given)
   pub points : length ps ≤ rules .capacity
   pub slots : length ts ≤ rules .slots
   pub fresh : c .attempts ≡ 0

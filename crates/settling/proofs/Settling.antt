@@ -5,14 +5,14 @@ use Prim.{⊥, absurd}
 use Prim.Native.Nat.{ℕ, _+_, _*_, _^_, _<_, _≤_}
 use native.Mathlib.Omega.{arith}
 use lib.ListN.{length}
-use Rattle.definition.specs.Counts.{_⊞_, insertions, Refusal, Placement, Shape, Recovery, Region, OddRegion, refused-by, Want, of-points, of-slots}
+use Rattle.definition.specs.Counts.{_⊞_, spending, Refusal, Placement, Shape, Recovery, Region, OddRegion, refused-by, Want, of-points, of-slots}
 use Rattle.definition.specs.Plane.{Edge}
 use Rattle.definition.specs.Cells.{Quad}
 use Rattle.cells.specs.Layout.{refused-at}
 use Rattle.cells.specs.declared.counters.Counters.{Counters}
 use Rattle.blocks.specs.Records.{Kept, size}
 use Rattle.blocks.specs.Blocks.{Blocks, with-edge}
-use Rattle.lending.specs.Ends.{end-of, end-for, quad-of}
+use Rattle.lending.specs.Ends.{end-of, end-for, quad-of, spent-of}
 use Rattle.lending.specs.declared.Tried.{Tried}
 use Rattle.lending.specs.declared.End.{End}
 use Rattle.lending.specs.declared.End.the-variants as ends
@@ -82,7 +82,7 @@ module _ (w quads : List ℕ) (s p : ℕ) (g : Standing) (t : Tried) (u v : ℕ)
   so-far : Kept-so-far w quads s p h ever bl qs old
   so-far = record { blocks = can .so-far .blocks; records = tm .records ∙ can .so-far .records; number = tm .quads ∙ can .so-far .number; text = can .so-far .text }
 
-  counted : Counted-on g t (counts-of g ⊞ insertions (t .inserted)) h
+  counted : Counted-on g t (counts-of g ⊞ spending (spent-of t)) h
   counted = record { counters = tm .counters; counts = tm .counts }
 
   -- ---- a quad

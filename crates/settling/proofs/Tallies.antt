@@ -2,10 +2,10 @@
 use mathlib.Core.Path.{_≡_, refl, sym, ap, _∙_}
 use Prim.Native.Nat.{ℕ, _+_}
 use native.Mathlib.Omega.{arith}
-use Rattle.definition.specs.Counts.{Counts, tally, _⊞_, one-attempt, insertions, at-limit, emptied, Refusal, Placement, Shape, Recovery, Region, OddRegion, refused-by}
+use Rattle.definition.specs.Counts.{Counts, tally, _⊞_, one-attempt, spending, at-limit, emptied, Refusal, Placement, Shape, Recovery, Region, OddRegion, refused-by}
 use Rattle.cells.specs.declared.counters.Counters.{Counters}
 use Rattle.lending.specs.declared.End.{End}
-use Rattle.lending.specs.Ends.{end-of}
+use Rattle.lending.specs.Ends.{end-of, only-inserted}
 use Rattle.settling.specs.declared.standing.Tally.{Tally}
 use Rattle.settling.specs.declared.standing.Standing.{Standing}
 use Rattle.settling.specs.Standings.{counts-of, tally-refused}
@@ -38,8 +38,8 @@ pub emptied-counts : (t : Tally) (a : ℕ) → tally (t .«front_empty» + 1) a 
 unfolding tally _⊞_ emptied
 emptied-counts t a = same-counts _ _ (omega arith) (omega arith) (omega arith) (omega arith) (omega arith) (omega arith) (omega arith) (omega arith) (omega arith)
 
-pub inserted-counts : (t : Tally) (a b n : ℕ) → b ≡ a → tally (t .«front_empty») b (t .placement) (t .«invalid_quad») (t .recovery) (t .region) (t .«odd_region») (t .«mismatch_insertions» + n) (t .limit) ≡ counts-by t a ⊞ insertions n
-unfolding tally _⊞_ insertions
+pub inserted-counts : (t : Tally) (a b n : ℕ) → b ≡ a → tally (t .«front_empty») b (t .placement) (t .«invalid_quad») (t .recovery) (t .region) (t .«odd_region») (t .«mismatch_insertions» + n) (t .limit) ≡ counts-by t a ⊞ spending (only-inserted n)
+unfolding tally _⊞_ spending
 inserted-counts t a b n e = same-counts _ _ (omega arith) (omega arith) (omega arith) (omega arith) (omega arith) (omega arith) (omega arith) (omega arith) (omega arith)
 
 refusal-counts : (t : Tally) (a : ℕ) (why : Refusal) → counts-by (tally-refused (end-of why) t) a ≡ counts-by t a ⊞ refused-by why

@@ -4,7 +4,7 @@ use mathlib.Core.List.{List, [], _∷_, _++_}
 use Prim.Native.Nat.{ℕ, _+_, _*_, _^_, _<_, _≤_}
 use lib.ListN.{length, drop}
 use Rattle.definition.specs.Lists.{flat-map}
-use Rattle.definition.specs.Counts.{Counts, _⊞_, insertions, Refusal, refused-by, Want, of-points, of-slots}
+use Rattle.definition.specs.Counts.{Counts, _⊞_, spending, Refusal, refused-by, Want, of-points, of-slots}
 use Rattle.definition.specs.Plane.{Edge}
 use Rattle.definition.specs.Cells.{Quad, new-quad, quad-nodes}
 use Rattle.definition.specs.Front.{freed}
@@ -12,7 +12,7 @@ use Rattle.definition.specs.Call.{onto}
 use Rattle.cells.specs.Layout.{Sizes, refused-at}
 use Rattle.blocks.specs.Records.{IsEdge, Kept, size}
 use Rattle.blocks.specs.Blocks.{Blocks, CanBlock, with-edge}
-use Rattle.lending.specs.Ends.{end-of, end-for, quad-of}
+use Rattle.lending.specs.Ends.{end-of, end-for, quad-of, spent-of}
 use Rattle.lending.specs.declared.Tried.{Tried}
 use Rattle.lending.specs.declared.End.the-variants as ends
 use Rattle.settling.specs.declared.standing.Standing.{Standing}
@@ -94,13 +94,13 @@ pub record Counted-on (g : Standing) (t : Tried) (c : Counts) (r : Standing) : T
 -- the quad stands behind the others, and frees edges
 pub record Placing (w' quads' : List ℕ) (s p : ℕ) (g : Standing) (t : Tried) (ever bl : List Edge) (qs : List Quad) (old : List ℕ) (r : Step) : Type 0 where
   pub kind : r .kind ≡ goings.Progressed
-  pub counted : Counted-on g t (counts-of g ⊞ insertions (t .inserted)) (r .standing)
+  pub counted : Counted-on g t (counts-of g ⊞ spending (spent-of t)) (r .standing)
   pub so-far : Kept-so-far w' quads' s p (r .standing) ever (freed (quad-of t) bl) (qs ++ quad-of t ∷ []) old
 
 -- the edge is blocked
 pub record Refusing (w' quads' : List ℕ) (s p : ℕ) (g : Standing) (t : Tried) (u v : ℕ) (why : Refusal) (ever bl : List Edge) (qs : List Quad) (old : List ℕ) (r : Step) : Type 0 where
   pub kind : r .kind ≡ goings.Stuck
-  pub counted : Counted-on g t (counts-of g ⊞ insertions (t .inserted) ⊞ refused-by why) (r .standing)
+  pub counted : Counted-on g t (counts-of g ⊞ spending (spent-of t) ⊞ refused-by why) (r .standing)
   pub so-far : Kept-so-far w' quads' s p (r .standing) (with-edge (u, v) ever) ((u, v) ∷ bl) qs old
 
 -- the end for want of lent memory
@@ -111,7 +111,7 @@ want-kind of-slots = goings.NoSlots
 -- the run ends
 pub record Ending (w' quads' : List ℕ) (s p : ℕ) (g : Standing) (t : Tried) (wt : Want) (ever bl : List Edge) (qs : List Quad) (old : List ℕ) (r : Step) : Type 0 where
   pub kind : r .kind ≡ want-kind wt
-  pub counted : Counted-on g t (counts-of g ⊞ insertions (t .inserted)) (r .standing)
+  pub counted : Counted-on g t (counts-of g ⊞ spending (spent-of t)) (r .standing)
   pub so-far : Kept-so-far w' quads' s p (r .standing) ever bl qs old
 
 -- what `settle` gives, by the attempt's end

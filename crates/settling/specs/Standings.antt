@@ -2,8 +2,9 @@
 use mathlib.Core.Path.{_≡_}
 use mathlib.Core.Bool.{Bool, true, false}
 use Prim.Native.Nat.{ℕ, _+_, _^_, _<_, _≤_}
-use Rattle.definition.specs.Counts.{Counts, _⊞_, one-attempt, insertions}
+use Rattle.definition.specs.Counts.{Counts, _⊞_, one-attempt, spending}
 use Rattle.cells.specs.Counting.{Attempted}
+use Rattle.lending.specs.Ends.{only-inserted}
 use Rattle.cells.specs.declared.counters.Counters.{Counters}
 use Rattle.lending.specs.declared.End.{End}
 use Rattle.lending.specs.declared.End.the-variants as ends
@@ -89,7 +90,7 @@ pub record CountsMore (g : Standing) (c : Counts) (r : Standing) : Type 0 where
 -- n insertions more, and the counters are c; attempts stay where c has those of g
 pub record TriedMore (g : Standing) (c : Counters) (n : ℕ) (r : Standing) : Type 0 where
   pub counters : r .counters ≡ c
-  pub counts : c .attempts ≡ g .counters .attempts → counts-of r ≡ counts-of g ⊞ insertions n
+  pub counts : c .attempts ≡ g .counters .attempts → counts-of r ≡ counts-of g ⊞ spending (only-inserted n)
   pub few : FewTally (r .tally)
   pub quads : r .quads ≡ g .quads
   pub records : r .records ≡ g .records

@@ -3,7 +3,7 @@ use cells::counters::Counters;
 use lending::End;
 ghost use mathlib.Core.Path.{_≡_};
 ghost use Prim.Native.Nat.{_+_, _^_, _<_};
-ghost use Rattle.definition.specs.Counts.{Refusal, insertions, at-limit, emptied, refused-by};
+ghost use Rattle.definition.specs.Counts.{Refusal, at-limit, emptied, refused-by};
 ghost use Rattle.cells.specs.Counting.{Few};
 ghost use Rattle.lending.specs.Ends.{end-of};
 ghost use Rattle.settling.specs.Standings.{FewCounts, CountedOne, CountsMore, TriedMore, Quadded, Recorded, sort-of, is-stuck, FewTally, tally-refused};

@@ -12,8 +12,8 @@ use borrow.Author.Tests.{lt-ltb, le-ltb}
 use lib.ListN.{length, getD, drop, length-append}
 use lib.Seq.{drop-drop}
 use Rattle.definition.specs.Lists.{any, flat-map}
-use Rattle.definition.specs.Numbers.{base, max-attempts, max-triangles}
-use Rattle.definition.specs.Counts.{Counts, tally, _⊞_, one-attempt, insertions, at-limit, Refusal, Placement, Shape, Recovery, Region, OddRegion, refused-by, Want, of-points, of-slots}
+use Rattle.definition.specs.Numbers.{max-attempts, max-triangles}
+use Rattle.definition.specs.Counts.{Counts, tally, _⊞_, one-attempt, Spent, nothing-spent, spending, at-limit, Refusal, Placement, Shape, Recovery, Region, OddRegion, refused-by, Want, of-points, of-slots}
 use Rattle.definition.specs.Plane.{Node, Edge}
 use Rattle.definition.specs.Cells.{Mesh, Quad, new-quad, quad-nodes, key, is-front, live-tris, same-edge, has-edge-in}
 use Rattle.definition.specs.Attempt.{Attempt, placed, refused, ended, try-quad}
@@ -39,7 +39,7 @@ use Rattle.blocks.proofs.Edges.{with-old, with-new}
 use Rattle.blocks.proofs.Room.{with-distinct}
 use Rattle.blocks.proofs.Framing.{framed}
 use Rattle.lending.specs.Ready.{Ready, Behind, Beyond}
-use Rattle.lending.specs.Ends.{end-of, end-for, quad-of, Plain, Left, AttemptTo}
+use Rattle.lending.specs.Ends.{only-inserted, spent-of, end-of, end-for, quad-of, Plain, Left, AttemptTo}
 use Rattle.lending.specs.declared.Tried.{Tried}
 use Rattle.lending.specs.declared.End.the-variants as ends
 use Rattle.settling.specs.declared.standing.Standing.{Standing}
@@ -65,11 +65,11 @@ not-false false e = sym e
 
 -- ---- limits
 
-pub past-first : (most given tries live : ℕ) → most < tries → true ≡ (ltb most tries || ltb (max-triangles base given) live)
+pub past-first : (most given tries live : ℕ) → most < tries → true ≡ (ltb most tries || ltb (max-triangles given) live)
 past-first most given tries live h = rw (lt-ltb most tries h) refl
 
-pub past-second : (most given tries live : ℕ) → tries ≤ most → ltb (4 * given + 100) live ≡ (ltb most tries || ltb (max-triangles base given) live)
-unfolding max-triangles base
+pub past-second : (most given tries live : ℕ) → tries ≤ most → ltb (4 * given + 100) live ≡ (ltb most tries || ltb (max-triangles given) live)
+unfolding max-triangles
 past-second most given tries live h = rw (le-ltb most tries h) refl
 
 -- ---- frames
@@ -136,8 +136,8 @@ module _ (x : Setup) (st : State) (old es : List Edge) (f : Fixed x) (small : x 
 
   -- attempts and insertions are few
   pub tries-few : st .counts .attempts ≤ 829200
-  unfolding max-attempts base settings-of
-  tries-few = omega (arith, sd .tries-fit, f .given, f .few)
+  unfolding max-attempts settings-of
+  tries-few = omega (arith, sd .tries-fit, f .attempts, f .few)
 
   pub insertions-few : st .counts .mismatch-insertions ≤ x .rules .capacity
   unfolding settings-of
@@ -166,12 +166,12 @@ module _ (x : Setup) (st : State) (old es : List Edge) (f : Fixed x) (small : x 
 
 -- ---- the attempt
 
-made-number : (c : Counts) (n : ℕ) → (c ⊞ one-attempt ⊞ insertions n) .mismatch-insertions ≡ c .mismatch-insertions + n
-unfolding _⊞_ tally one-attempt insertions
+made-number : (c : Counts) (n : Spent) → (c ⊞ one-attempt ⊞ spending n) .mismatch-insertions ≡ c .mismatch-insertions + n .insertions
+unfolding _⊞_ tally one-attempt spending
 made-number c n = omega arith
 
-refused-number : (c : Counts) (n : ℕ) (why : Refusal) → (c ⊞ one-attempt ⊞ insertions n ⊞ refused-by why) .mismatch-insertions ≡ c .mismatch-insertions + n
-unfolding _⊞_ tally one-attempt insertions refused-by
+refused-number : (c : Counts) (n : Spent) (why : Refusal) → (c ⊞ one-attempt ⊞ spending n ⊞ refused-by why) .mismatch-insertions ≡ c .mismatch-insertions + n .insertions
+unfolding _⊞_ tally one-attempt spending refused-by
 refused-number c n Placement = omega arith
 refused-number c n Shape = omega arith
 refused-number c n Recovery = omega arith
@@ -226,7 +226,7 @@ module _ (x : Setup) (w : List ℕ) (q : List Float) (quads : List ℕ) (g : Sta
   unfolding attempt settings-of
   made = rw (k .below) refl
 
-  pub off-front : is-front (st .mesh) (u, v) ≡ false → attempt (settings-of (x .rules)) (x .rules .given) st (u, v) ≡ after (counting st one-attempt) (u, v) (refused Placement 0 (st .mesh))
+  pub off-front : is-front (st .mesh) (u, v) ≡ false → attempt (settings-of (x .rules)) (x .rules .given) st (u, v) ≡ after (counting st one-attempt) (u, v) (refused Placement nothing-spent (st .mesh))
   unfolding make-attempt counting
   off-front h = made ∙ (rw h refl)
 
@@ -276,17 +276,17 @@ module _ (x : Setup) (w : List ℕ) (q : List Float) (quads : List ℕ) (g : Sta
       (omega (arith, m, h .number), omega (arith, m))
 
   -- a refusal
-  module _ (why : Refusal) (n : ℕ) (m : Mesh) (ran : attempt (settings-of (x .rules)) (x .rules .given) st (u, v) ≡ after (counting st one-attempt) (u, v) (refused why n m)) where
+  module _ (why : Refusal) (n : Spent) (m : Mesh) (ran : attempt (settings-of (x .rules)) (x .rules .given) st (u, v) ≡ after (counting st one-attempt) (u, v) (refused why n m)) where
     abbrev refused-state : State
-    refused-state = record { mesh = m; quads = st .quads; blocked = (u, v) ∷ st .blocked; counts = counting st one-attempt .counts ⊞ insertions n ⊞ refused-by why }
+    refused-state = record { mesh = m; quads = st .quads; blocked = (u, v) ∷ st .blocked; counts = counting st one-attempt .counts ⊞ spending n ⊞ refused-by why }
 
     refused-reach : Gets x fx refused-state ((u, v) ∷ k .reaches .old) es
     unfolding after counting
     refused-reach = by-refusal st refused-state (k .reaches .old) (u, v) es before (ran-given (refused why n m) ran)
 
-    refused-fine : length (m .points) ≤ x .rules .capacity → (n ≤ x .rules .capacity) × (length (st .mesh .points) ≤ length (m .points))
+    refused-fine : length (m .points) ≤ x .rules .capacity → (n .insertions ≤ x .rules .capacity) × (length (st .mesh .points) ≤ length (m .points))
     unfolding after counting
-    refused-fine l = fine-few (m .points) n _ (fine (refused why n m) ran .1) (refused-number (st .counts) n why) l
+    refused-fine l = fine-few (m .points) (n .insertions) _ (fine (refused why n m) ran .1) (refused-number (st .counts) n why) l
 
     refused-room : m .used ≤ x .rules .slots → length (with-edge (u, v) (k .ever)) ≤ 3 * x .rules .slots
     unfolding settings-of
@@ -308,17 +308,17 @@ module _ (x : Setup) (w : List ℕ) (q : List Float) (quads : List ℕ) (g : Sta
         deeper (inr i) = inr (k .reaches .sub f i)
 
   -- a quad
-  module _ (n : ℕ) (m : Mesh) (h : Quad) (ran : attempt (settings-of (x .rules)) (x .rules .given) st (u, v) ≡ after (counting st one-attempt) (u, v) (placed n m h)) where
+  module _ (n : Spent) (m : Mesh) (h : Quad) (ran : attempt (settings-of (x .rules)) (x .rules .given) st (u, v) ≡ after (counting st one-attempt) (u, v) (placed n m h)) where
     abbrev placed-state : State
-    placed-state = record { mesh = m; quads = st .quads ++ (h ∷ []); blocked = freed h (st .blocked); counts = counting st one-attempt .counts ⊞ insertions n }
+    placed-state = record { mesh = m; quads = st .quads ++ (h ∷ []); blocked = freed h (st .blocked); counts = counting st one-attempt .counts ⊞ spending n }
 
     placed-reach : Gets x fx placed-state (k .reaches .old) []
     unfolding after counting
     placed-reach = by-quad st placed-state (k .reaches .old) (u, v) es before (ran-given (placed n m h) ran)
 
-    placed-fine : length (m .points) ≤ x .rules .capacity → (n ≤ x .rules .capacity) × (length (st .mesh .points) ≤ length (m .points))
+    placed-fine : length (m .points) ≤ x .rules .capacity → (n .insertions ≤ x .rules .capacity) × (length (st .mesh .points) ≤ length (m .points))
     unfolding after counting
-    placed-fine l = fine-few (m .points) n _ (fine (placed n m h) ran .1) (made-number (st .counts) n) l
+    placed-fine l = fine-few (m .points) (n .insertions) _ (fine (placed n m h) ran .1) (made-number (st .counts) n) l
 
     placed-fits : (a b c d : ℕ) → new-quad a b c d ≡ h → length (m .points) ≤ x .rules .capacity → QuadFits quads (x .rules .slots) (x .rules .capacity) (length (st .quads)) a b c d
     unfolding settings-of
@@ -330,10 +330,10 @@ module _ (x : Setup) (w : List ℕ) (q : List Float) (quads : List ℕ) (g : Sta
         record { node0 = omega (arith, four .0); node1 = omega (arith, four .1); node2 = omega (arith, four .2); node3 = omega (arith, four .3); room = omega (arith, more, quads-long, fx .room); few = more }
 
   -- an end for want of lent memory
-  module _ (wt : Want) (n : ℕ) (m : Mesh) (ran : attempt (settings-of (x .rules)) (x .rules .given) st (u, v) ≡ after (counting st one-attempt) (u, v) (ended wt n m)) where
-    ended-fine : length (m .points) ≤ x .rules .capacity → (n ≤ x .rules .capacity) × (length (st .mesh .points) ≤ length (m .points))
+  module _ (wt : Want) (n : Spent) (m : Mesh) (ran : attempt (settings-of (x .rules)) (x .rules .given) st (u, v) ≡ after (counting st one-attempt) (u, v) (ended wt n m)) where
+    ended-fine : length (m .points) ≤ x .rules .capacity → (n .insertions ≤ x .rules .capacity) × (length (st .mesh .points) ≤ length (m .points))
     unfolding after counting
-    ended-fine l = fine-few (m .points) n _ (fine (ended wt n m) ran .1) (made-number (st .counts) n) l
+    ended-fine l = fine-few (m .points) (n .insertions) _ (fine (ended wt n m) ran .1) (made-number (st .counts) n) l
 
   -- ---- what `settle` asks
 
@@ -370,15 +370,15 @@ module _ (x : Setup) (w : List ℕ) (q : List Float) (quads : List ℕ) (g : Sta
         → AttemptTo w' q q' (x .rules) (g .counters) a t → CanSettle w' quads (x .rules .slots) (x .rules .capacity) g t u v (k .ever) (st .blocked) (st .quads) (x .begun .old)
     can-settle (placed n m h) ran to =
         let l = to .2 .ready .rep .points in
-        can-with (inserted-few n (t .inserted) (to .2 .inserted) (placed-fine n m h ran l .0))
+        can-with (inserted-few (n .insertions) (t .inserted) (ap (λ z. z .insertions) (to .2 .spent)) (placed-fine n m h ran l .0))
         (λ e. placed-fits n m h ran (t .n0) (t .n1) (t .n2) (t .n3) (to .1) l)
         (λ why e. absurd (omega (arith, sort-of-refusal (t .end) why e, ap sort-of (to .0))))
     can-settle (refused why n m) ran to =
-        can-with (inserted-few n (t .inserted) (to .1 .inserted) (refused-fine why n m ran (to .1 .ready .rep .points) .0))
+        can-with (inserted-few (n .insertions) (t .inserted) (ap (λ z. z .insertions) (to .1 .spent)) (refused-fine why n m ran (to .1 .ready .rep .points) .0))
         (λ e. absurd (omega (arith, sort-of-refusal (t .end) why (to .0), ap sort-of e)))
         (λ why' e. refused-room why n m ran (to .1 .ready .rep .used))
     can-settle (ended wt n m) ran to =
-        can-with (inserted-few n (t .inserted) (to .1 .inserted) (ended-fine wt n m ran (to .1 .ready .rep .points) .0))
+        can-with (inserted-few (n .insertions) (t .inserted) (ap (λ z. z .insertions) (to .1 .spent)) (ended-fine wt n m ran (to .1 .ready .rep .points) .0))
         (λ e. absurd (no-want wt (sort-of-want (t .end) wt (to .0)) 0 (ap sort-of e) (omega arith)))
         (λ why e. absurd (no-want wt (sort-of-want (t .end) wt (to .0)) 1 (sort-of-refusal (t .end) why e) (omega arith)))
       where
@@ -389,13 +389,13 @@ module _ (x : Setup) (w : List ℕ) (q : List Float) (quads : List ℕ) (g : Sta
     -- ---- what is left
 
     module _ (w'' quads'' : List ℕ) (r : Step) (set : SettleTo w' w'' quads'' (x .rules .slots) (x .rules .capacity) g t u v (k .ever) (st .blocked) (st .quads) (x .begun .old) r) where
-      ready-after : (n : ℕ) (m : Mesh) → Left w' q q' (x .rules) (g .counters) n m t → (c : Counters) → c ≡ t .counters → Ready w'' q' (x .rules) c m
+      ready-after : (n : Spent) (m : Mesh) → Left w' q q' (x .rules) (g .counters) n m t → (c : Counters) → c ≡ t .counters → Ready w'' q' (x .rules) c m
       ready-after n m l c e =
           subst (λ (z : Counters). Ready w'' q' (x .rules) z m) (sym e)
           (ready-under w' w'' q' (x .rules) (t .counters) m (kept-under w' w'' (x .rules .slots) (x .rules .capacity) (set .kept)) (l .ready))
 
-      counts-after : (n : ℕ) (d : Counts) (s' : Standing) → counts-of s' ≡ d → d ≡ counts-of g ⊞ insertions (t .inserted) → t .inserted ≡ n → counts-of s' ≡ st .counts ⊞ one-attempt ⊞ insertions n
-      counts-after n d s' e f i = e ∙ f ∙ ap (λ z. z ⊞ insertions (t .inserted)) counts-before ∙ ap (λ (z : ℕ). st .counts ⊞ one-attempt ⊞ insertions z) i
+      counts-after : (n : Spent) (d : Counts) (s' : Standing) → counts-of s' ≡ d → d ≡ counts-of g ⊞ spending (spent-of t) → spent-of t ≡ n → counts-of s' ≡ st .counts ⊞ one-attempt ⊞ spending n
+      counts-after n d s' e f i = e ∙ f ∙ ap (λ z. z ⊞ spending (spent-of t)) counts-before ∙ ap (λ (z : Spent). st .counts ⊞ one-attempt ⊞ spending z) i
 
       pub stepped : (a : Attempt) → attempt (settings-of (x .rules)) (x .rules .given) st (u, v) ≡ after (counting st one-attempt) (u, v) a
           → AttemptTo w' q q' (x .rules) (g .counters) a t → Stepped w'' q' quads'' x es (after (counting st one-attempt) (u, v) a) r
@@ -408,7 +408,7 @@ module _ (x : Setup) (w : List ℕ) (q : List Float) (quads : List ℕ) (g : Sta
               ever = k .ever;
               holds = record {
                 ready = ready-after n m l (r .standing .counters) (p .counted .counters);
-                counts = counts-after n _ (r .standing) (p .counted .counts (l .attempts)) refl (l .inserted);
+                counts = counts-after n _ (r .standing) (p .counted .counts (l .attempts)) refl (l .spent);
                 behind = behind-trans (x .begun .floats) q q' (length (st .mesh .points)) (length (m .points)) (placed-fine n m h ran (l .ready .rep .points) .1) behind-before (l .behind);
                 so-far = subst (λ (z : Quad). Kept-so-far w'' quads'' (x .rules .slots) (x .rules .capacity) (r .standing) (k .ever) (freed z (st .blocked)) (st .quads ++ z ∷ []) (x .begun .old)) (to .1) (p .so-far);
               };
@@ -423,7 +423,7 @@ module _ (x : Setup) (w : List ℕ) (q : List Float) (quads : List ℕ) (g : Sta
               ever = with-edge (u, v) (k .ever);
               holds = record {
                 ready = ready-after n m l (r .standing .counters) (p .counted .counters);
-                counts = p .counted .counts (l .attempts) ∙ ap (λ z. z ⊞ insertions (t .inserted) ⊞ refused-by why) counts-before ∙ ap (λ (z : ℕ). st .counts ⊞ one-attempt ⊞ insertions z ⊞ refused-by why) (l .inserted);
+                counts = p .counted .counts (l .attempts) ∙ ap (λ z. z ⊞ spending (spent-of t) ⊞ refused-by why) counts-before ∙ ap (λ (z : Spent). st .counts ⊞ one-attempt ⊞ spending z ⊞ refused-by why) (l .spent);
                 behind = behind-trans (x .begun .floats) q q' (length (st .mesh .points)) (length (m .points)) (refused-fine why n m ran (l .ready .rep .points) .1) behind-before (l .behind);
                 so-far = p .so-far;
               };
@@ -436,7 +436,7 @@ module _ (x : Setup) (w : List ℕ) (q : List Float) (quads : List ℕ) (g : Sta
             p .kind,
             record {
               ready = ready-after n m l (r .standing .counters) (p .counted .counters);
-              counts = counts-after n _ (r .standing) (p .counted .counts (l .attempts)) refl (l .inserted);
+              counts = counts-after n _ (r .standing) (p .counted .counts (l .attempts)) refl (l .spent);
               number = p .so-far .number;
               text = p .so-far .text;
               behind = behind-trans (x .begun .floats) q q' (length (st .mesh .points)) (length (m .points)) (ended-fine wt n m ran (l .ready .rep .points) .1) behind-before (l .behind);
@@ -456,13 +456,13 @@ module _ (x : Setup) (w : List ℕ) (q : List Float) (quads : List ℕ) (g : Sta
   was-front b h e = sym (front-as b h) ∙ not-false b e
 
   -- off the front nothing is tried
-  pub off-to : (t : Tried) → Plain ends.Placement (g .counters) 0 t → AttemptTo w q q (x .rules) (g .counters) (refused Placement 0 (st .mesh)) t
-  unfolding end-of
+  pub off-to : (t : Tried) → Plain ends.Placement (g .counters) 0 t → AttemptTo w q q (x .rules) (g .counters) (refused Placement nothing-spent (st .mesh)) t
+  unfolding end-of nothing-spent
   off-to t h = (
     h .end,
     record {
       ready = subst (λ (z : Counters). Ready w q (x .rules) z (st .mesh)) (sym (h .counters)) (ready x w q quads g st u v es k);
-      inserted = h .inserted;
+      spent = ap only-inserted (h .inserted);
       attempts = ap (λ c. c .attempts) (h .counters);
       behind = record { len = refl; rest = refl };
     },
@@ -508,25 +508,23 @@ module _ (x : Setup) (w : List ℕ) (q : List Float) (quads : List ℕ) (g₀ : 
       }
 
   -- the limits' test is the definition's
-  pub past-is : (b : Bool) → b ≡ (ltb (x .rules .attempts) (g .counters .attempts) || ltb (max-triangles base (x .rules .given)) (g .counters .live)) → past-limit base (x .rules .given) (counting st one-attempt) ≡ b
-  unfolding past-limit counting
+  pub past-is : (b : Bool) → b ≡ (ltb (x .rules .attempts) (g .counters .attempts) || ltb (max-triangles (x .rules .given)) (g .counters .live)) → past-limit (settings-of (x .rules)) (x .rules .given) (counting st one-attempt) ≡ b
+  unfolding past-limit counting settings-of
   past-is b h =
       let c = counted-holds in
       let tries : g .counters .attempts ≡ (st .counts ⊞ one-attempt) .attempts = ap (λ z. z .attempts) (c .counts) in
       let live : g .counters .live ≡ live-tris (st .mesh) = c .ready .counted .live in
-      let most = k .reaches .fixed .attempts in
-      sym (h ∙ ap (λ (n : ℕ). ltb n (g .counters .attempts) || ltb (max-triangles base (x .rules .given)) (g .counters .live)) most
-      ∙ ap (λ (n : ℕ). ltb (max-attempts base (x .rules .given)) n || ltb (max-triangles base (x .rules .given)) (g .counters .live)) tries
-      ∙ ap (λ (n : ℕ). ltb (max-attempts base (x .rules .given)) ((st .counts ⊞ one-attempt) .attempts) || ltb (max-triangles base (x .rules .given)) n) live)
+      sym (h ∙ ap (λ (n : ℕ). ltb (x .rules .attempts) n || ltb (max-triangles (x .rules .given)) (g .counters .live)) tries
+      ∙ ap (λ (n : ℕ). ltb (x .rules .attempts) ((st .counts ⊞ one-attempt) .attempts) || ltb (max-triangles (x .rules .given)) n) live)
 
-  pub makes : past-limit base (x .rules .given) (counting st one-attempt) ≡ false → Makes w q quads x g st e es
+  pub makes : past-limit (settings-of (x .rules)) (x .rules .given) (counting st one-attempt) ≡ false → Makes w q quads x g st e es
   makes b = record { ever = k .ever; holds = counted-holds; reaches = k .reaches; below = b }
 
   pub few-now : FewTally (g .tally)
   few-now = few-counted x st (k .reaches .old) (e ∷ es) (k .reaches .fixed) (k .holds .ready .small .points) (k .reaches .reach) g (counted-holds .counts)
 
   -- past a limit the attempt is not made
-  pub limited-step : past-limit base (x .rules .given) (counting st one-attempt) ≡ true → (h : Standing) → CountsMore g at-limit h
+  pub limited-step : past-limit (settings-of (x .rules)) (x .rules .given) (counting st one-attempt) ≡ true → (h : Standing) → CountsMore g at-limit h
       → StepTo w w q quads x es (attempt (settings-of (x .rules)) (x .rules .given) st e) (record { kind = goings.Limited; standing = h })
   unfolding attempt counting settings-of
   limited-step b h more =

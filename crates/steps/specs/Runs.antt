@@ -7,7 +7,7 @@ use lib.ListN.{length, getD}
 use lib.Ieee.{Float, eq}
 use Rattle.definition.specs.Lists.{flat-map}
 use Rattle.definition.specs.Floats.{_≼_, 0·0}
-use Rattle.definition.specs.Numbers.{base, max-attempts}
+use Rattle.definition.specs.Numbers.{max-attempts}
 use Rattle.definition.specs.Counts.{one-attempt}
 use Rattle.definition.specs.Plane.{Node, Edge}
 use Rattle.definition.specs.Cells.{Tri, quad-nodes}
@@ -53,7 +53,7 @@ pub record Fixed (x : Setup) : Type 0 where
   pub proper : Proper (x .begun .ps) (x .begun .ts)
   pub given : x .rules .given ≡ length (x .begun .ts)
   pub few : x .rules .given ≤ 4096
-  pub attempts : x .rules .attempts ≡ max-attempts base (x .rules .given)
+  pub attempts : x .rules .attempts ≤ max-attempts (x .rules .given)
   pub points : length (x .begun .ps) ≤ x .rules .capacity
   pub slots : length (x .begun .ts) ≤ x .rules .slots
   pub within : All Within (x .begun .ps)
@@ -105,7 +105,7 @@ pub record Makes (w : List ℕ) (q : List Float) (quads : List ℕ) (x : Setup) 
   pub ever : List Edge
   pub holds : Holds w q quads x g (counting st one-attempt) ever
   pub reaches : Reaches x st ever (e ∷ es)
-  pub below : past-limit base (x .rules .given) (counting st one-attempt) ≡ false
+  pub below : past-limit (settings-of (x .rules)) (x .rules .given) (counting st one-attempt) ≡ false
 
 -- what an attempt leaves, and that the front's areas are as they were
 pub record StepTo (w w' : List ℕ) (q' : List Float) (quads' : List ℕ) (x : Setup) (es : List Edge) (p : Progress) (r : Step) : Type 0 where

@@ -16,7 +16,7 @@ ghost use mathlib.Core.Bool.{_||_};
 ghost use mathlib.Core.List.{List, _∷_};
 ghost use Prim.Native.Nat.{ℕ, _≤_};
 ghost use lib.Dec.{ltb};
-ghost use Rattle.definition.specs.Numbers.{base, max-triangles};
+ghost use Rattle.definition.specs.Numbers.{max-triangles};
 ghost use Rattle.definition.specs.Plane.{Edge};
 ghost use Rattle.definition.specs.Front.{State, attempt};
 ghost use Rattle.rules.specs.Settings.{settings-of};
@@ -30,7 +30,7 @@ pub const LIVE_MORE: usize = 100;
 // A limit is passed, the attempt in hand counted.
 fn past_limit(most: usize, given: usize, c: Counters) -> bool
     requires { ⌜ given ≤ 4096 ⌝ }
-    ensures { λ r. ⌜ r ≡ (ltb most (c .attempts) || ltb (max-triangles base given) (c .live)) ⌝ }
+    ensures { λ r. ⌜ r ≡ (ltb most (c .attempts) || ltb (max-triangles given) (c .live)) ⌝ }
 {
     if c.attempts > most {
         return true;

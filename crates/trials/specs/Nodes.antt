@@ -12,7 +12,7 @@ use lib.Ieee.{Float}
 use Rattle.definition.specs.Cells.{Mesh, new-quad}
 use Rattle.definition.specs.Lists.{insert, sort, flat-map, any, contains}
 use Rattle.definition.specs.Metrics.{passes, score}
-use Rattle.definition.specs.Numbers.{Numbers, base}
+use Rattle.definition.specs.Numbers.{Quality, base}
 use Rattle.definition.specs.Trials.{Trial, rated, metrics-of, trial, trial-before, trials}
 use Rattle.trials.specs.Kept.{Stands}
 use Rattle.trials.specs.Ranked.{Named, part, part-below}
@@ -104,11 +104,11 @@ made-sound n a b c d score hc hd e =
       fourth-not-b = eqb-false c b (left _ _ (right (eqb c a) _ p));
     }
 
-pair-sound : (num : Numbers) (m : Mesh) (n a b c d : ℕ) → c < n → d < n → All (Sound n a b) (trial num m a b c d)
+pair-sound : (y : Quality) (m : Mesh) (n a b c d : ℕ) → c < n → d < n → All (Sound n a b) (trial y m a b c d)
 unfolding trial rated
-pair-sound num m n a b c d hc hd =
-    let k = metrics-of num m (new-quad a b d c) in
-    unless (Sound n a b) _ _ (λ e. either (Sound n a b) (passes num k) (record { score = score k; nodes = new-quad a b d c } ∷ []) [] (made-sound n a b c d (score k) hc hd e, tt) tt)
+pair-sound y m n a b c d hc hd =
+    let k = metrics-of m (new-quad a b d c) in
+    unless (Sound n a b) _ _ (λ e. either (Sound n a b) (passes y k) (record { score = score k; nodes = new-quad a b d c } ∷ []) [] (made-sound n a b c d (score k) hc hd e, tt) tt)
 
 -- ---- all pairs
 

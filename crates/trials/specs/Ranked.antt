@@ -32,7 +32,7 @@ part-below w at k n f h i u = let l : i < k = omega (arith, length-part w at k f
 
 -- the metrics of the quad of four nodes of the slice
 unfoldable pub metrics-at : List Float → ℕ → ℕ → ℕ → ℕ → Metrics
-metrics-at q a b c d = quad-metrics base (point-at q a) (point-at q b) (point-at q c) (point-at q d)
+metrics-at q a b c d = quad-metrics (point-at q a) (point-at q b) (point-at q c) (point-at q d)
 
 -- the definition's `trial`, over the slice's points
 unfoldable pub trial-at : List Float → ℕ → ℕ → ℕ → ℕ → List Trial

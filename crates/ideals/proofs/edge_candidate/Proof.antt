@@ -3,7 +3,7 @@ use mathlib.Core.Bool.{true, false}
 use native.Mathlib.Omega.{arith}
 use lib.Ieee.{Float}
 use Rattle.definition.specs.Floats.{_≼_, 1e-12, f64}
-use Rattle.definition.specs.Numbers.{base}
+use Rattle.definition.specs.Numbers.{tiny-length}
 use Rattle.definition.specs.Plane.{Edge, Vec, norm, over}
 use Rattle.definition.specs.Cells.{tri, new-live, key, tri-owner}
 use Rattle.definition.specs.Candidates.{toward}
@@ -84,7 +84,7 @@ from-to-requires-2 c κs =
     (y (a .a) (t .pre .3 .node), y (a .other) (t .pre .3 .end))
 
 returns-5 : tie.Need-returns-5
-unfolding base _≼_ 1e-12 f64
+unfolding tiny-length _≼_ 1e-12 f64
 returns-5 c =
     let nm2 = c .before in
     let ft2 = nm2 .before in
@@ -94,7 +94,7 @@ returns-5 c =
     λ m r k y z.
     let d2 : vec (ft2 .from-to2 .result) ≡ toward m (a .a) (a .other) = toward-read (a .q .now) (a .p) m k (a .a) (a .other) y (vec (ft2 .from-to2 .result)) (ft2 .from-to2 .ensures) in
     let n2 : nm2 .norm2 .result ≡ norm (toward m (a .a) (a .other)) = nm2 .norm2 .ensures ∙ ap norm d2 in
-    edge-tiny (turn (a .left)) m (a .a) (a .other) (a .target) (a .v) (subst (λ (x : Float). (x ≼ base .tiny-length) ≡ true) n2 (c .if5 .taken))
+    edge-tiny (turn (a .left)) m (a .a) (a .other) (a .target) (a .v) (subst (λ (x : Float). (x ≼ tiny-length) ≡ true) n2 (c .if5 .taken))
 
 near-ideal-requires : tie.Need-near-ideal-requires
 near-ideal-requires c κs =
@@ -104,7 +104,7 @@ near-ideal-requires c κs =
     (t .pre .0, t .pre .1, t .pre .2, t .pre .3)
 
 returns-6 : tie.Need-returns-6
-unfolding base _≼_ 1e-12 f64
+unfolding tiny-length _≼_ 1e-12 f64
 returns-6 c =
     let ov2 = c .before in
     let ov = ov2 .before in
@@ -131,7 +131,7 @@ returns-6 c =
     let f = owner-found (a .w .now) (a .s) (a .p) m r (key (a .a) (a .v)) (to .tri-owner .result) (to .tri-owner .ensures m r ∙ ap (λ (x : Edge). slot-or (a .s) (tri-owner m x)) (key-swap (a .v) (a .a))) (e4 .if4 .left) in
     edge-near (turn (a .left)) m (a .a) (a .other) (a .target) (a .v) (c .near-ideal .result) (new-live (to .tri-owner .result) (tri (f .t))) (e1 .if1 .left) (e2 .if2 .left)
     (was (er .edge-reach .result) (e3 .if3 .left) ∙ er .edge-reach .ensures ∙ ap (λ (x : Float). edge-reach x (a .target)) n) (f .is)
-    (subst (λ (x : Float). (x ≼ base .tiny-length) ≡ false) n2 (e5 .if5 .left))
+    (subst (λ (x : Float). (x ≼ tiny-length) ≡ false) n2 (e5 .if5 .left))
     (c .near-ideal .ensures m r k y ∙ ap (λ (x : Vec). near-ideal (turn (a .left)) m (a .a) (a .other) x (vec (ov2 .over2 .result))) o
     ∙ ap (near-ideal (turn (a .left)) m (a .a) (a .other) (over (toward m (a .a) (a .other)) (norm (toward m (a .a) (a .other))))) o2)
 

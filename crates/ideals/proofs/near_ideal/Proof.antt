@@ -1,6 +1,6 @@
 use mathlib.Core.Path.{sym, _∙_}
 use Rattle.definition.specs.Floats.{_≼_, 0·866, f64}
-use Rattle.definition.specs.Numbers.{base}
+use Rattle.definition.specs.Numbers.{edge-dot}
 use Rattle.plane.specs.Vectors.{vec}
 use Rattle.ideals.specs.Wanted.{turn}
 use Rattle.ideals.proofs.Closes.{near-some, near-other, near-turned}
@@ -35,7 +35,7 @@ returns-2 c =
     λ m r k y. near-other (turn (a .left)) m (a .a) (a .other) (vec (a .u)) (vec (a .e)) (sym (e1 .if1 .left) ∙ sw .some-wanted .ensures m r k y) (sym (c .if2 .taken) ∙ sw2 .some-wanted2 .ensures m r k y)
 
 returns-3 : tie.Need-returns-3
-unfolding base _≼_ 0·866 f64
+unfolding edge-dot _≼_ 0·866 f64
 returns-3 c =
     let tu = c .before in
     let e2 = tu .before in

@@ -4,7 +4,7 @@ use native.Mathlib.Omega.{arith}
 use lib.Ieee.{Float}
 use Rattle.definition.specs.Floats.{_≼_, 1e-12, f64}
 use Rattle.definition.specs.Lists.{any}
-use Rattle.definition.specs.Numbers.{base}
+use Rattle.definition.specs.Numbers.{tiny-length}
 use Rattle.definition.specs.Plane.{Vec, norm, over}
 use Rattle.definition.specs.Cells.{is-front}
 use Rattle.definition.specs.Candidates.{toward, halfway}
@@ -46,7 +46,7 @@ from-to-requires c κs =
     (y (a .a) (t .pre .3 .node), y (a .v) (t .pre .3 .end))
 
 returns-3 : tie.Need-returns-3
-unfolding base _≼_ 1e-12 f64
+unfolding tiny-length _≼_ 1e-12 f64
 returns-3 c =
     let nm = c .before in
     let ft = nm .before in
@@ -59,10 +59,10 @@ returns-3 c =
     λ m r k y.
     let d : vec (ft .from-to .result) ≡ toward m (a .a) (a .v) = toward-read (a .q .now) (a .p) m k (a .a) (a .v) y (vec (ft .from-to .result)) (ft .from-to .ensures) in
     let n : nm .norm .result ≡ norm (toward m (a .a) (a .v)) = nm .norm .ensures ∙ ap norm d in
-    by-tiny m (a .a) (a .other) (vec (a .u)) (a .every) (vec (a .e)) (a .v) (e1 .if1 .left) (e2 .if2 .left) (ap (is-front m) (key-swap (a .a) (a .v)) ∙ sym (is .is-front .ensures m r) ∙ t3 .if3 .taken) (subst (λ (x : Float). (x ≼ base .tiny-length) ≡ true) n (c .if4 .taken))
+    by-tiny m (a .a) (a .other) (vec (a .u)) (a .every) (vec (a .e)) (a .v) (e1 .if1 .left) (e2 .if2 .left) (ap (is-front m) (key-swap (a .a) (a .v)) ∙ sym (is .is-front .ensures m r) ∙ t3 .if3 .taken) (subst (λ (x : Float). (x ≼ tiny-length) ≡ true) n (c .if4 .taken))
 
 returns-4 : tie.Need-returns-4
-unfolding base _≼_ 1e-12 f64
+unfolding tiny-length _≼_ 1e-12 f64
 returns-4 c =
     let ov = c .before in
     let e4 = ov .before in
@@ -78,8 +78,8 @@ returns-4 c =
     let d : vec (ft .from-to .result) ≡ toward m (a .a) (a .v) = toward-read (a .q .now) (a .p) m k (a .a) (a .v) y (vec (ft .from-to .result)) (ft .from-to .ensures) in
     let n : nm .norm .result ≡ norm (toward m (a .a) (a .v)) = nm .norm .ensures ∙ ap norm d in
     let o : vec (ov .over .result) ≡ over (toward m (a .a) (a .v)) (norm (toward m (a .a) (a .v))) = ov .over .ensures ∙ ap (λ (x : Vec). over x (nm .norm .result)) d ∙ ap (over (toward m (a .a) (a .v))) n in
-    by-half m (a .a) (a .other) (vec (a .u)) (a .every) (vec (a .e)) (a .v) (c .half-close .result) (e1 .if1 .left) (e2 .if2 .left) (ap (is-front m) (key-swap (a .a) (a .v)) ∙ sym (is .is-front .ensures m r) ∙ t3 .if3 .taken) (subst (λ (x : Float). (x ≼ base .tiny-length) ≡ false) n (e4 .if4 .left))
-    (c .half-close .ensures ∙ ap (λ (x : Vec). any (close (a .every) (vec (a .e))) (halfway base (vec (a .u)) x)) o)
+    by-half m (a .a) (a .other) (vec (a .u)) (a .every) (vec (a .e)) (a .v) (c .half-close .result) (e1 .if1 .left) (e2 .if2 .left) (ap (is-front m) (key-swap (a .a) (a .v)) ∙ sym (is .is-front .ensures m r) ∙ t3 .if3 .taken) (subst (λ (x : Float). (x ≼ tiny-length) ≡ false) n (e4 .if4 .left))
+    (c .half-close .ensures ∙ ap (λ (x : Vec). any (close (a .every) (vec (a .e))) (halfway (vec (a .u)) x)) o)
 
 returns-5 : tie.Need-returns-5
 returns-5 c =

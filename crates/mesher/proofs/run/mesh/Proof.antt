@@ -2,10 +2,11 @@
 use Prim.Native.Nat.{_≤_}
 use native.Mathlib.Omega.{arith}
 use borrow.Author.Needs.{needs}
+use Rattle.definition.specs.Numbers.{max-attempts}
 use Rattle.definition.specs.Call.{Asked, Lent, given-tris, given-points}
 use Rattle.checks.specs.Refusals.{passed}
+use Rattle.checks.specs.Stated.{asked}
 use Rattle.rounds.specs.Loop.{CanRun}
-use Rattle.mesher.specs.Promise.{asked-of}
 use Rattle.mesher.specs.Parts.{rules-with, CanMesh}
 use Rattle.mesher.proofs.Starts.{mesh-build, mesh-run, mesh-ran}
 use Rattle.mesher.proofs.run.mesh.Statement.{statement}
@@ -13,7 +14,7 @@ use Rattle.mesher.proofs.run.mesh.Tie as tie
 
 -- what the call states
 abbrev stated : tie.Start → Asked
-stated t = asked-of (t .args .given) (t .args .capacity) (t .args .count) (t .args .slots) (t .args .size) (t .args .stop)
+stated t = asked (t .args .stated)
 
 abbrev built : tie.After-bucket-of → tie.After-build
 built b = b .before .before .before .before
@@ -37,26 +38,28 @@ build-requires c κs =
     mesh-build (a .points .now) (a .triangles .now) (a .quads .now) (a .work .now) (a .float-work .now) (stated t) (t .pre .0) (t .pre .1)
 
 -- no more triangles than a call may have
-few : (t : tie.Start) → t .args .count ≤ 4096
+few : (t : tie.Start) → t .args .stated .count ≤ 4096
 few t = passed (stated t) (t .pre .0) (t .pre .1 .passed) .limited .count
 
 mul-attempts : tie.Need-mul-attempts
-mul-attempts c = omega (arith, few (start c))
+mul-attempts c = omega (arith, few (start (c .before .before)))
 
 add-attempts : tie.Need-add-attempts
-add-attempts c = omega (arith, few (start c))
+add-attempts c = omega (arith, few (start (c .before .before)))
 
 front-loop-requires : tie.Need-front-loop-requires
+unfolding max-attempts
 front-loop-requires c κs =
-    let b = c .before .before .before .before in
+    let b = c .before .before .before .before .before .before in
     let t = start b in
     let l = t .pre .0 in
     (given-tris (stated t) l, given-points (stated t) l, can-run b l (t .pre .1))
 
 returns : tie.Need-returns
+unfolding max-attempts
 returns c =
     let f = c .before .before .before .before .before .before .before .before in
-    let b = f .before .before .before .before .before in
+    let b = f .before .before .before .before .before .before .before in
     let t = start b in
     let a = t .args in
     λ l m.

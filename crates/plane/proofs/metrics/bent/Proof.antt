@@ -8,14 +8,13 @@ use Rattle.plane.proofs.metrics.bent.Tie as tie
 returns : tie.Need-returns
 unfolding any corners
 returns c =
-    λ num fixed.
     let k = c .before in
     c .any-of .ensures
     ∙ rw (
-      k .before .before .before .not-convex .ensures num fixed,
-      k .before .before .not-convex2 .ensures num fixed,
-      k .before .not-convex3 .ensures num fixed,
-      k .not-convex4 .ensures num fixed,
+      k .before .before .before .not-convex .ensures,
+      k .before .before .not-convex2 .ensures,
+      k .before .not-convex3 .ensures,
+      k .not-convex4 .ensures,
     )
 
 pub bent-spec : {M : Type 1} → statement M

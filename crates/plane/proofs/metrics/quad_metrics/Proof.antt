@@ -6,9 +6,8 @@ use Rattle.plane.proofs.metrics.quad_metrics.Tie as tie
 
 returns : tie.Need-returns
 returns c =
-    λ num fixed.
     let k = c .before in
-    c .quad-metrics-of .ensures num fixed ∙ quad-metrics-ground _ _ (k .before .before .before .at .ensures) (k .before .before .at2 .ensures) _ (k .before .at3 .ensures) _ (k .at4 .ensures) num
+    c .quad-metrics-of .ensures ∙ quad-metrics-ground _ _ (k .before .before .before .at .ensures) (k .before .before .at2 .ensures) _ (k .before .at3 .ensures) _ (k .at4 .ensures)
 
 pub quad-metrics-spec : {M : Type 1} → statement M
 quad-metrics-spec =

@@ -4,7 +4,7 @@ use Rattle.plane.proofs.sides.all_negative.Statement.{statement}
 use Rattle.plane.proofs.sides.all_negative.Tie as tie
 
 returns : tie.Need-returns
-returns c = λ num fixed. c .all-of .ensures ∙ rw (c .before .before .before .negative .ensures num fixed, c .before .before .negative2 .ensures num fixed, c .before .negative3 .ensures num fixed)
+returns c = c .all-of .ensures ∙ rw (c .before .before .before .negative .ensures, c .before .before .negative2 .ensures, c .before .negative3 .ensures)
 
 pub all-negative-spec : {M : Type 1} → statement M
 all-negative-spec = tie.close (tie.spec (λ c κs. search needs) (λ c κs. search needs) (λ c κs. search needs) (λ c κs. search needs) returns)

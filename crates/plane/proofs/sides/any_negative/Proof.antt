@@ -7,13 +7,12 @@ use Rattle.plane.proofs.sides.any_negative.Tie as tie
 returns : tie.Need-returns
 unfolding any
 returns c =
-    λ num fixed.
     c .any-of .ensures
     ∙ rw (
-      c .before .before .before .before .negative .ensures num fixed,
-      c .before .before .before .negative2 .ensures num fixed,
-      c .before .before .negative3 .ensures num fixed,
-      c .before .negative4 .ensures num fixed,
+      c .before .before .before .before .negative .ensures,
+      c .before .before .before .negative2 .ensures,
+      c .before .before .negative3 .ensures,
+      c .before .negative4 .ensures,
     )
 
 pub any-negative-spec : {M : Type 1} → statement M

@@ -7,13 +7,12 @@ use Rattle.plane.proofs.sides.any_positive.Tie as tie
 returns : tie.Need-returns
 unfolding any
 returns c =
-    λ num fixed.
     c .any-of .ensures
     ∙ rw (
-      c .before .before .before .before .positive .ensures num fixed,
-      c .before .before .before .positive2 .ensures num fixed,
-      c .before .before .positive3 .ensures num fixed,
-      c .before .positive4 .ensures num fixed,
+      c .before .before .before .before .positive .ensures,
+      c .before .before .before .positive2 .ensures,
+      c .before .before .positive3 .ensures,
+      c .before .positive4 .ensures,
     )
 
 pub any-positive-spec : {M : Type 1} → statement M

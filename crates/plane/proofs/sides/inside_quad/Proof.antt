@@ -5,23 +5,21 @@ use Rattle.plane.proofs.sides.inside_quad.Tie as tie
 
 returns : tie.Need-returns
 returns c =
-    λ num fixed.
     let k = c .before .before in
     let x = k .before .before .before .before .cross .ensures in
     let y = k .before .before .before .cross2 .ensures in
     let z = k .before .before .cross3 .ensures in
     let w = k .before .cross4 .ensures in
-    rw (inside-by num _ _ _ _ _ x y z w, ← k .any-positive .ensures num fixed, c .before .if1 .taken, ← c .any-negative .ensures num fixed)
+    rw (inside-by _ _ _ _ _ x y z w, ← k .any-positive .ensures, c .before .if1 .taken, ← c .any-negative .ensures)
 
 returns-2 : tie.Need-returns-2
 returns-2 c =
-    λ num fixed.
     let k = c .before in
     let x = k .before .before .before .before .cross .ensures in
     let y = k .before .before .before .cross2 .ensures in
     let z = k .before .before .cross3 .ensures in
     let w = k .before .cross4 .ensures in
-    rw (inside-by num _ _ _ _ _ x y z w, ← k .any-positive .ensures num fixed, c .if1 .left)
+    rw (inside-by _ _ _ _ _ x y z w, ← k .any-positive .ensures, c .if1 .left)
 
 pub inside-quad-spec : {M : Type 1} → statement M
 inside-quad-spec =

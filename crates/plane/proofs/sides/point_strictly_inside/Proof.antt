@@ -8,7 +8,6 @@ use Rattle.plane.proofs.sides.point_strictly_inside.Tie as tie
 
 returns : tie.Need-returns
 returns c =
-    λ num fixed.
     let k = c .before .before in
     let args = k .before .before .before .before .before .before .before .args in
     let p = flat (args .x) (args .y) in
@@ -19,11 +18,10 @@ returns c =
     let x = k .before .before .cross-of .ensures ∙ cross-ground _ _ sa sb p g in
     let y = k .before .cross-of2 .ensures ∙ cross-ground _ _ sb sc p g in
     let z = k .cross-of3 .ensures ∙ cross-ground _ _ sc sa p g in
-    rw (strictly-by num _ _ _ p x y z, ← c .before .all-positive .ensures num fixed, c .if1 .taken)
+    rw (strictly-by _ _ _ p x y z, ← c .before .all-positive .ensures, c .if1 .taken)
 
 returns-2 : tie.Need-returns-2
 returns-2 c =
-    λ num fixed.
     let k = c .before .before .before in
     let args = k .before .before .before .before .before .before .before .args in
     let p = flat (args .x) (args .y) in
@@ -34,7 +32,7 @@ returns-2 c =
     let x = k .before .before .cross-of .ensures ∙ cross-ground _ _ sa sb p g in
     let y = k .before .cross-of2 .ensures ∙ cross-ground _ _ sb sc p g in
     let z = k .cross-of3 .ensures ∙ cross-ground _ _ sc sa p g in
-    rw (strictly-by num _ _ _ p x y z, ← c .before .before .all-positive .ensures num fixed, c .before .if1 .left, ← c .all-negative .ensures num fixed)
+    rw (strictly-by _ _ _ p x y z, ← c .before .before .all-positive .ensures, c .before .if1 .left, ← c .all-negative .ensures)
 
 pub point-strictly-inside-spec : {M : Type 1} → statement M
 point-strictly-inside-spec =

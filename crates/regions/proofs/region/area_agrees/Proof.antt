@@ -24,10 +24,10 @@ returns c =
     let qa = x1 .before in
     let t = qa .before .before .before in
     let a = t .args in
-    λ m xs h k num usual.
+    λ m xs h k.
     let fo = four (a .q .now) (a .p) m (h .pts) (a .a) (a .b) (a .c) (a .d) k in
-    agrees-is (a .q .now) m num (a .a) (a .b) (a .c) (a .d) fo xs (qa .quad-area .result) (qa .quad-area .ensures) (x1 .abs .result) (x1 .abs .ensures)
-    (ra .region-area .result) (ra .region-area .ensures m xs h) (x2 .abs2 .result) (x2 .abs2 .ensures) (g .greater .result) (g .greater .ensures) (usual .slack)
+    agrees-is (a .q .now) m (a .a) (a .b) (a .c) (a .d) fo xs (qa .quad-area .result) (qa .quad-area .ensures) (x1 .abs .result) (x1 .abs .ensures)
+    (ra .region-area .result) (ra .region-area .ensures m xs h) (x2 .abs2 .result) (x2 .abs2 .ensures) (g .greater .result) (g .greater .ensures)
 
 pub area-agrees-spec : {M : Type 1} → statement M
 area-agrees-spec =

@@ -1,4 +1,3 @@
-use Rattle.definition.specs.Numbers.{base}
 use Rattle.regions.proofs.Fills.{cells, region-none, region-outside, region-off, region-found, was, was-not}
 use Rattle.regions.specs.Fill.{Shown}
 use borrow.Author.Needs.{needs}
@@ -15,7 +14,7 @@ returns c =
     let fl = c .before .before .before in
     let t = fl .before .before .before .before in
     let a = t .args in
-    λ m dr k num usual. region-none (a .w .now) (fl .flood .last .0) (a .s) (a .p) (fl .flood .result) (a .seed) num m (a .a) (a .b) (a .c) (a .d) (dr .rep) (dr .tri) (fl .flood .ensures m (dr .rep) (dr .tri)) (c .if1 .taken)
+    λ m dr k. region-none (a .w .now) (fl .flood .last .0) (a .s) (a .p) (fl .flood .result) (a .seed) m (a .a) (a .b) (a .c) (a .d) (dr .rep) (dr .tri) (fl .flood .ensures m (dr .rep) (dr .tri)) (c .if1 .taken)
 
 all-inside-requires : tie.Need-all-inside-requires
 all-inside-requires c κs =
@@ -25,7 +24,7 @@ all-inside-requires c κs =
     let a = t .args in
     let m = t .pre .0 in
     let dr = t .pre .1 in
-    let ce = cells (a .w .now) (fl .flood .last .0) (a .s) (a .p) (fl .flood .result) (a .seed) base m (a .a) (a .b) (a .c) (a .d) (dr .rep) (dr .tri) (fl .flood .ensures m (dr .rep) (dr .tri)) (e1 .if1 .left) in
+    let ce = cells (a .w .now) (fl .flood .last .0) (a .s) (a .p) (fl .flood .result) (a .seed) m (a .a) (a .b) (a .c) (a .d) (dr .rep) (dr .tri) (fl .flood .ensures m (dr .rep) (dr .tri)) (e1 .if1 .left) in
     (m, ce .xs, record { list = ce .grown .state .list; pts = dr .pts }, t .pre .2)
 
 returns-2 : tie.Need-returns-2
@@ -35,10 +34,10 @@ returns-2 c =
     let fl = e1 .before .before .before in
     let t = fl .before .before .before .before in
     let a = t .args in
-    λ m dr k num usual.
-    let ce = cells (a .w .now) (fl .flood .last .0) (a .s) (a .p) (fl .flood .result) (a .seed) num m (a .a) (a .b) (a .c) (a .d) (dr .rep) (dr .tri) (fl .flood .ensures m (dr .rep) (dr .tri)) (e1 .if1 .left) in
+    λ m dr k.
+    let ce = cells (a .w .now) (fl .flood .last .0) (a .s) (a .p) (fl .flood .result) (a .seed) m (a .a) (a .b) (a .c) (a .d) (dr .rep) (dr .tri) (fl .flood .ensures m (dr .rep) (dr .tri)) (e1 .if1 .left) in
     let sh : Shown (fl .flood .last .0) (a .q .now) (a .s) (a .p) (fl .flood .result) m (ce .xs) = record { list = ce .grown .state .list; pts = dr .pts } in
-    region-outside (a .w .now) (fl .flood .last .0) (a .s) (a .p) (fl .flood .result) (a .seed) num m (a .a) (a .b) (a .c) (a .d) (dr .rep) (dr .tri) (fl .flood .ensures m (dr .rep) (dr .tri)) ce (ai .all-inside .result) (ai .all-inside .ensures m (ce .xs) sh k num (usual .fixed)) (was-not (ai .all-inside .result) (c .if2 .taken))
+    region-outside (a .w .now) (fl .flood .last .0) (a .s) (a .p) (fl .flood .result) (a .seed) m (a .a) (a .b) (a .c) (a .d) (dr .rep) (dr .tri) (fl .flood .ensures m (dr .rep) (dr .tri)) ce (ai .all-inside .result) (ai .all-inside .ensures m (ce .xs) sh k) (was-not (ai .all-inside .result) (c .if2 .taken))
 
 area-agrees-requires : tie.Need-area-agrees-requires
 area-agrees-requires c κs =
@@ -50,7 +49,7 @@ area-agrees-requires c κs =
     let a = t .args in
     let m = t .pre .0 in
     let dr = t .pre .1 in
-    let ce = cells (a .w .now) (fl .flood .last .0) (a .s) (a .p) (fl .flood .result) (a .seed) base m (a .a) (a .b) (a .c) (a .d) (dr .rep) (dr .tri) (fl .flood .ensures m (dr .rep) (dr .tri)) (e1 .if1 .left) in
+    let ce = cells (a .w .now) (fl .flood .last .0) (a .s) (a .p) (fl .flood .result) (a .seed) m (a .a) (a .b) (a .c) (a .d) (dr .rep) (dr .tri) (fl .flood .ensures m (dr .rep) (dr .tri)) (e1 .if1 .left) in
     (m, ce .xs, record { list = ce .grown .state .list; pts = dr .pts }, t .pre .2)
 
 returns-3 : tie.Need-returns-3
@@ -62,11 +61,11 @@ returns-3 c =
     let fl = e1 .before .before .before in
     let t = fl .before .before .before .before in
     let a = t .args in
-    λ m dr k num usual.
-    let ce = cells (a .w .now) (fl .flood .last .0) (a .s) (a .p) (fl .flood .result) (a .seed) num m (a .a) (a .b) (a .c) (a .d) (dr .rep) (dr .tri) (fl .flood .ensures m (dr .rep) (dr .tri)) (e1 .if1 .left) in
+    λ m dr k.
+    let ce = cells (a .w .now) (fl .flood .last .0) (a .s) (a .p) (fl .flood .result) (a .seed) m (a .a) (a .b) (a .c) (a .d) (dr .rep) (dr .tri) (fl .flood .ensures m (dr .rep) (dr .tri)) (e1 .if1 .left) in
     let sh : Shown (fl .flood .last .0) (a .q .now) (a .s) (a .p) (fl .flood .result) m (ce .xs) = record { list = ce .grown .state .list; pts = dr .pts } in
-    region-off (a .w .now) (fl .flood .last .0) (a .s) (a .p) (fl .flood .result) (a .seed) num m (a .a) (a .b) (a .c) (a .d) (dr .rep) (dr .tri) (fl .flood .ensures m (dr .rep) (dr .tri)) ce (ai .all-inside .result) (ai .all-inside .ensures m (ce .xs) sh k num (usual .fixed))
-    (ag .area-agrees .result) (ag .area-agrees .ensures m (ce .xs) sh k num usual) (was (ai .all-inside .result) (e2 .if2 .left)) (was-not (ag .area-agrees .result) (c .if3 .taken))
+    region-off (a .w .now) (fl .flood .last .0) (a .s) (a .p) (fl .flood .result) (a .seed) m (a .a) (a .b) (a .c) (a .d) (dr .rep) (dr .tri) (fl .flood .ensures m (dr .rep) (dr .tri)) ce (ai .all-inside .result) (ai .all-inside .ensures m (ce .xs) sh k)
+    (ag .area-agrees .result) (ag .area-agrees .ensures m (ce .xs) sh k) (was (ai .all-inside .result) (e2 .if2 .left)) (was-not (ag .area-agrees .result) (c .if3 .taken))
 
 returns-4 : tie.Need-returns-4
 returns-4 c =
@@ -77,11 +76,11 @@ returns-4 c =
     let fl = e1 .before .before .before in
     let t = fl .before .before .before .before in
     let a = t .args in
-    λ m dr k num usual.
-    let ce = cells (a .w .now) (fl .flood .last .0) (a .s) (a .p) (fl .flood .result) (a .seed) num m (a .a) (a .b) (a .c) (a .d) (dr .rep) (dr .tri) (fl .flood .ensures m (dr .rep) (dr .tri)) (e1 .if1 .left) in
+    λ m dr k.
+    let ce = cells (a .w .now) (fl .flood .last .0) (a .s) (a .p) (fl .flood .result) (a .seed) m (a .a) (a .b) (a .c) (a .d) (dr .rep) (dr .tri) (fl .flood .ensures m (dr .rep) (dr .tri)) (e1 .if1 .left) in
     let sh : Shown (fl .flood .last .0) (a .q .now) (a .s) (a .p) (fl .flood .result) m (ce .xs) = record { list = ce .grown .state .list; pts = dr .pts } in
-    region-found (a .w .now) (fl .flood .last .0) (a .s) (a .p) (fl .flood .result) (a .seed) num m (a .a) (a .b) (a .c) (a .d) (dr .rep) (dr .tri) (fl .flood .ensures m (dr .rep) (dr .tri)) ce (ai .all-inside .result) (ai .all-inside .ensures m (ce .xs) sh k num (usual .fixed))
-    (ag .area-agrees .result) (ag .area-agrees .ensures m (ce .xs) sh k num usual) (was (ai .all-inside .result) (e2 .if2 .left)) (was (ag .area-agrees .result) (c .if3 .left))
+    region-found (a .w .now) (fl .flood .last .0) (a .s) (a .p) (fl .flood .result) (a .seed) m (a .a) (a .b) (a .c) (a .d) (dr .rep) (dr .tri) (fl .flood .ensures m (dr .rep) (dr .tri)) ce (ai .all-inside .result) (ai .all-inside .ensures m (ce .xs) sh k)
+    (ag .area-agrees .result) (ag .area-agrees .ensures m (ce .xs) sh k) (was (ai .all-inside .result) (e2 .if2 .left)) (was (ag .area-agrees .result) (c .if3 .left))
 
 pub region-spec : {M : Type 1} → statement M
 region-spec =

@@ -41,10 +41,10 @@ returns c =
     let n1 = n2 .before in
     let t = n1 .before .before .before in
     let a = t .args in
-    λ m h k num fixed.
+    λ m h k.
     let th = three (a .w .now) (a .q .now) (a .s) (a .p) (a .j) m h (n1 .node .result) (n2 .node2 .result) (n3 .node3 .result) (n1 .node .ensures) (n2 .node2 .ensures) (n3 .node3 .ensures) in
     let fo = four (a .q .now) (a .p) m (h .pts) (a .a) (a .b) (a .c) (a .d) k in
-    first-out (a .q .now) m num (a .a) (a .b) (a .c) (a .d) fo (a .j) (h .tri .t) (n1 .node .result) (n2 .node2 .result) (n3 .node3 .result) th (i1 .inside-quad .result) (i1 .inside-quad .ensures num fixed) (was-not (i1 .inside-quad .result) (c .if1 .taken))
+    first-out (a .q .now) m (a .a) (a .b) (a .c) (a .d) fo (a .j) (h .tri .t) (n1 .node .result) (n2 .node2 .result) (n3 .node3 .result) th (i1 .inside-quad .result) (i1 .inside-quad .ensures) (was-not (i1 .inside-quad .result) (c .if1 .taken))
 
 inside-quad-requires-2 : tie.Need-inside-quad-requires-2
 inside-quad-requires-2 c κs =
@@ -67,10 +67,10 @@ returns-2 c =
     let n1 = n2 .before in
     let t = n1 .before .before .before in
     let a = t .args in
-    λ m h k num fixed.
+    λ m h k.
     let th = three (a .w .now) (a .q .now) (a .s) (a .p) (a .j) m h (n1 .node .result) (n2 .node2 .result) (n3 .node3 .result) (n1 .node .ensures) (n2 .node2 .ensures) (n3 .node3 .ensures) in
     let fo = four (a .q .now) (a .p) m (h .pts) (a .a) (a .b) (a .c) (a .d) k in
-    second-out (a .q .now) m num (a .a) (a .b) (a .c) (a .d) fo (a .j) (h .tri .t) (n1 .node .result) (n2 .node2 .result) (n3 .node3 .result) th (i1 .inside-quad .result) (i1 .inside-quad .ensures num fixed) (was (i1 .inside-quad .result) (e1 .if1 .left)) (i2 .inside-quad2 .result) (i2 .inside-quad2 .ensures num fixed) (was-not (i2 .inside-quad2 .result) (c .if2 .taken))
+    second-out (a .q .now) m (a .a) (a .b) (a .c) (a .d) fo (a .j) (h .tri .t) (n1 .node .result) (n2 .node2 .result) (n3 .node3 .result) th (i1 .inside-quad .result) (i1 .inside-quad .ensures) (was (i1 .inside-quad .result) (e1 .if1 .left)) (i2 .inside-quad2 .result) (i2 .inside-quad2 .ensures) (was-not (i2 .inside-quad2 .result) (c .if2 .taken))
 
 inside-quad-requires-3 : tie.Need-inside-quad-requires-3
 inside-quad-requires-3 c κs =
@@ -94,10 +94,10 @@ returns-3 c =
     let n1 = n2 .before in
     let t = n1 .before .before .before in
     let a = t .args in
-    λ m h k num fixed.
+    λ m h k.
     let th = three (a .w .now) (a .q .now) (a .s) (a .p) (a .j) m h (n1 .node .result) (n2 .node2 .result) (n3 .node3 .result) (n1 .node .ensures) (n2 .node2 .ensures) (n3 .node3 .ensures) in
     let fo = four (a .q .now) (a .p) m (h .pts) (a .a) (a .b) (a .c) (a .d) k in
-    third-test (a .q .now) m num (a .a) (a .b) (a .c) (a .d) fo (a .j) (h .tri .t) (n1 .node .result) (n2 .node2 .result) (n3 .node3 .result) th (i1 .inside-quad .result) (i1 .inside-quad .ensures num fixed) (was (i1 .inside-quad .result) (e1 .if1 .left)) (i2 .inside-quad2 .result) (i2 .inside-quad2 .ensures num fixed) (was (i2 .inside-quad2 .result) (e2 .if2 .left)) (c .inside-quad3 .result) (c .inside-quad3 .ensures num fixed)
+    third-test (a .q .now) m (a .a) (a .b) (a .c) (a .d) fo (a .j) (h .tri .t) (n1 .node .result) (n2 .node2 .result) (n3 .node3 .result) th (i1 .inside-quad .result) (i1 .inside-quad .ensures) (was (i1 .inside-quad .result) (e1 .if1 .left)) (i2 .inside-quad2 .result) (i2 .inside-quad2 .ensures) (was (i2 .inside-quad2 .result) (e2 .if2 .left)) (c .inside-quad3 .result) (c .inside-quad3 .ensures)
 
 pub tri-inside-spec : {M : Type 1} → statement M
 tri-inside-spec =
