@@ -149,7 +149,7 @@ fn wide(v: u32) -> usize
 }
 
 // 5: a triangle names a node that is not among the given points.
-fn unknown_node(triangles: &[u32], a: Stated) -> bool
+pub fn unknown_node(triangles: &[u32], a: Stated) -> bool
     requires { ⌜ 3 * a .count ≤ length (now triangles) ⌝ }
     ensures { λ r. ⌜ ((l : Lent) → l .triangles ≡ now (triangles .entry) → r ≡ unknown-node (asked a) l) ⌝ }
 {
@@ -179,7 +179,7 @@ fn twice(n0: u32, n1: u32, n2: u32) -> bool
 }
 
 // 6: a triangle names a node twice.
-fn repeated_node(triangles: &[u32], a: Stated) -> bool
+pub fn repeated_node(triangles: &[u32], a: Stated) -> bool
     requires { ⌜ 3 * a .count ≤ length (now triangles) ⌝ }
     ensures { λ r. ⌜ ((l : Lent) → l .triangles ≡ now (triangles .entry) → r ≡ repeated-node (asked a) l) ⌝ }
 {
@@ -215,7 +215,7 @@ fn outside(x: f64, y: f64) -> bool
 }
 
 // 7: a given point is outside.
-fn far_point(points: &[f64], a: Stated) -> bool
+pub fn far_point(points: &[f64], a: Stated) -> bool
     requires { ⌜ 3 * a .given ≤ length (now points) ⌝ }
     ensures { λ r. ⌜ ((l : Lent) → l .points ≡ now (points .entry) → r ≡ far-point (asked a) l) ⌝ }
 {
