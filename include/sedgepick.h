@@ -1,8 +1,8 @@
-/* Sedgepick: quads from the triangles of a plane mesh, by an advancing front.
+/* Sedgepick: quads from the triangles of a plane mesh, by an advancing front; and an order in which an archive can keep meshes.
  *
- * The function is proved: it ends on every input, a finished mesh is the one that a short definition fixes, bit for bit, and each of its quads is, in
- * exact arithmetic, convex, counterclockwise and without a corner under 24.99 degrees. It allocates nothing, keeps nothing between calls, and may be
- * called from several threads at once on memory of their own.
+ * The functions are proved. They end on every input; a finished mesh is the one that a short definition fixes, bit for bit, and each of its quads is, in
+ * exact arithmetic, convex, counterclockwise and without a corner under 24.99 degrees; the order is total on the meshes that it accepts. They allocate
+ * nothing, keep nothing between calls, and may be called from several threads at once on memory of their own.
  *
  * Link target/staticlib/liblibrary.a (x86-64, written by `rt staticlib library`).
  */
@@ -103,6 +103,42 @@ size_t sedgepick_run_front(
     double *float_work, size_t float_work_len,
     size_t given, size_t capacity, size_t count, size_t slots, double size, uint32_t stop,
     size_t *answer, size_t answer_len);
+
+/* Numbers of work for a mesh of so many triangles that is filed. */
+#define SEDGEPICK_FILING_WORK(count) (4 * (size_t)(count))
+
+/* What the filing order answers: how the first mesh stands to the second. No refusal has one of these numbers. */
+enum sedgepick_order {
+    SEDGEPICK_BEFORE = 100,
+    SEDGEPICK_SAME = 101,
+    SEDGEPICK_AFTER = 102
+};
+
+/* Compares two meshes: by point count, then by each point's x and y in turn as numbers (zeros of either sign are equal, z is not read), then by triangle
+ * count, then by the triangles, each from its smallest node on and the list in ascending order. The first difference decides. The answer is
+ * SEDGEPICK_SAME exactly when the points agree and the triangles agree up to rotation and list order, repeats counted; a triangle turned over is another.
+ * It is a total order: comparing the other way round gives the other answer, and meshes that are the same stand alike to every third.
+ *
+ * For each mesh, the first's parameters before the second's:
+ * points         3 numbers a point: x, y, z; only read.
+ * triangles      3 node numbers a triangle; only read.
+ * work           4 numbers a triangle; zeros after an answer, the whole slice, also where the points decided.
+ * given          points, at most 4,096.
+ * count          triangles, at most 4,096.
+ *
+ * Slices are as above, but that points and triangles of the two meshes may share memory. Returned is the answer, or a refusal: SEDGEPICK_OVER_LIMIT (1),
+ * SEDGEPICK_TOO_SHORT (4: points, triangles or work), SEDGEPICK_UNKNOWN_NODE (5), SEDGEPICK_REPEATED_NODE (6) or SEDGEPICK_FAR_POINT (7), the first
+ * that holds of the first mesh, and where none does of the second. A refusal touches nothing.
+ */
+size_t sedgepick_filing_order(
+    const double *first_points, size_t first_points_len,
+    const uint32_t *first_triangles, size_t first_triangles_len,
+    uint32_t *first_work, size_t first_work_len,
+    size_t first_given, size_t first_count,
+    const double *second_points, size_t second_points_len,
+    const uint32_t *second_triangles, size_t second_triangles_len,
+    uint32_t *second_work, size_t second_work_len,
+    size_t second_given, size_t second_count);
 
 #ifdef __cplusplus
 }

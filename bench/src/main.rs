@@ -1,4 +1,7 @@
-//! Times of the port, linked from its static library, and of the patched Rust on the same meshes, in one run.
+//! Times of the port, linked from its static library, and of the patched Rust on the same meshes, in one run; with the word `filing`, those of the filing
+//! order.
+
+mod filing;
 
 use reference::generators::large::SHAPES;
 use reference::input::{Input, LARGEST};
@@ -199,6 +202,10 @@ impl Row {
 }
 
 fn main() {
+    if std::env::args().nth(1).is_some_and(|w| w == "filing") {
+        filing::run();
+        return;
+    }
     let mut rows = Vec::new();
     for steps in STEPS {
         for stop in [0, 1] {

@@ -1,6 +1,8 @@
-//! The port, linked from its static library, against the patched Rust on generated meshes: answers and every lent slice, bit for bit.
+//! The port, linked from its static library, against the patched Rust on generated meshes: answers and every lent slice, bit for bit. `filing` compares the
+//! filing order with a plain one.
 
 mod cases;
+mod filing;
 mod memory;
 
 use std::collections::BTreeMap;
@@ -11,7 +13,9 @@ use std::time::{Duration, Instant};
 use cases::{Case, Parting, Tally};
 
 const USAGE: &str = "usage: compare SEED COUNT [JOBS]
-  runs COUNT generated meshes of the seed under both stop rules, JOBS at a time (1 without it)";
+  runs COUNT generated meshes of the seed under both stop rules, JOBS at a time (1 without it)
+compare filing SEED COUNT
+  runs the filing order on COUNT generated pairs of meshes";
 
 /// Partings that are printed whole.
 const SHOWN: usize = 3;
@@ -128,23 +132,44 @@ fn show(partings: &mut [(u64, Parting)]) {
     }
 }
 
-fn numbers() -> Option<(u64, u64, u64)> {
-    let words: Vec<u64> = std::env::args()
-        .skip(1)
+/// What to run: meshes of a seed in so many jobs, or pairs of them.
+enum Asked {
+    Runs(u64, u64, u64),
+    Filing(u64, u64),
+}
+
+fn asked() -> Option<Asked> {
+    let mut words: Vec<String> = std::env::args().skip(1).collect();
+    let filing = words.first().is_some_and(|w| w == "filing");
+    words.drain(..filing as usize);
+    let numbers: Vec<u64> = words
+        .iter()
         .map(|w| w.parse().ok())
         .collect::<Option<_>>()?;
-    match words[..] {
-        [seed, count] => Some((seed, count, 1)),
-        [seed, count, jobs] => Some((seed, count, jobs.max(1))),
+    match (filing, &numbers[..]) {
+        (true, &[seed, count]) => Some(Asked::Filing(seed, count)),
+        (false, &[seed, count]) => Some(Asked::Runs(seed, count, 1)),
+        (false, &[seed, count, jobs]) => Some(Asked::Runs(seed, count, jobs.max(1))),
         _ => None,
     }
 }
 
 fn main() {
-    let Some((seed, count, jobs)) = numbers() else {
-        eprintln!("{USAGE}");
-        std::process::exit(2);
+    let good = match asked() {
+        Some(Asked::Filing(seed, count)) => filing::run(seed, count),
+        Some(Asked::Runs(seed, count, jobs)) => runs(seed, count, jobs),
+        None => {
+            eprintln!("{USAGE}");
+            std::process::exit(2);
+        }
     };
+    if !good {
+        std::process::exit(1);
+    }
+}
+
+/// Compares the meshes of the seed; true where no run differs.
+fn runs(seed: u64, count: u64, jobs: u64) -> bool {
     let work = Work {
         seed,
         count,
@@ -162,7 +187,5 @@ fn main() {
     let all = print(&found.kinds);
     show(&mut found.partings);
     println!("{} of {} runs agree", all.runs - all.differ, all.runs);
-    if all.differ > 0 {
-        std::process::exit(1);
-    }
+    all.differ == 0
 }

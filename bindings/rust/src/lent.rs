@@ -1,9 +1,14 @@
 //! The call over memory that the caller lends: nothing is allocated, and every number is tested before any slice is touched.
 
+use std::cmp::Ordering;
+
 use crate::{Counts, Refusal};
 
 /// Numbers that a finished run writes: nine counts and four lengths.
 const ANSWER: usize = 13;
+
+/// u32 of work for a triangle whose mesh is filed.
+pub const FILING_WORK: usize = 4;
 
 extern "C" {
     /// include/sedgepick.h says what it takes and gives.
@@ -30,6 +35,25 @@ extern "C" {
         stop: u32,
         answer: *mut usize,
         answer_len: usize,
+    ) -> usize;
+
+    fn sedgepick_filing_order(
+        first_points: *const f64,
+        first_points_len: usize,
+        first_triangles: *const u32,
+        first_triangles_len: usize,
+        first_work: *mut u32,
+        first_work_len: usize,
+        first_given: usize,
+        first_count: usize,
+        second_points: *const f64,
+        second_points_len: usize,
+        second_triangles: *const u32,
+        second_triangles_len: usize,
+        second_work: *mut u32,
+        second_work_len: usize,
+        second_given: usize,
+        second_count: usize,
     ) -> usize;
 }
 
@@ -143,4 +167,51 @@ pub fn run_front(triangles: &[u32], memory: Memory<'_>, call: Call) -> Result<An
         points: a[11],
         components: a[12],
     })
+}
+
+/// A mesh that is filed. Any numbers are safe: those that do not fit are refused. Each slice may be longer than they need, and what the work holds does not
+/// matter.
+#[derive(Debug)]
+pub struct Lent<'a> {
+    /// Three f64 a point.
+    pub points: &'a [f64],
+    /// Three node numbers a triangle.
+    pub triangles: &'a [u32],
+    /// Four u32 a triangle. Zeros after an answer, the whole slice.
+    pub work: &'a mut [u32],
+    /// Points, at most 4,096.
+    pub given: usize,
+    /// Triangles, at most 4,096.
+    pub count: usize,
+}
+
+/// How the first mesh stands to the second. A refusal, 1, 4, 5, 6 or 7, touches nothing; all tests of the first mesh come before those of the second.
+pub fn filing_order(first: Lent<'_>, second: Lent<'_>) -> Result<Ordering, Refusal> {
+    // As above; points and triangles are only read.
+    let number = unsafe {
+        sedgepick_filing_order(
+            first.points.as_ptr(),
+            first.points.len(),
+            first.triangles.as_ptr(),
+            first.triangles.len(),
+            first.work.as_mut_ptr(),
+            first.work.len(),
+            first.given,
+            first.count,
+            second.points.as_ptr(),
+            second.points.len(),
+            second.triangles.as_ptr(),
+            second.triangles.len(),
+            second.work.as_mut_ptr(),
+            second.work.len(),
+            second.given,
+            second.count,
+        )
+    };
+    match number {
+        100 => Ok(Ordering::Less),
+        101 => Ok(Ordering::Equal),
+        102 => Ok(Ordering::Greater),
+        number => Err(Refusal::of_number(number).expect("a refusal's number")),
+    }
 }

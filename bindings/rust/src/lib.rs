@@ -18,11 +18,25 @@
 //! # Ok::<(), Refusal>(())
 //! ```
 //!
+//! Meshes have an order of their own, in which an archive can keep them:
+//!
+//! ```
+//! use sedgepick::{Filed, Refusal};
+//!
+//! let points = [[0.0, 0.0, 0.0], [1.0, 0.0, 0.0], [1.0, 1.0, 0.0], [0.0, 1.0, 0.0]];
+//! let square = Filed::new(&points, &[[0, 1, 2], [0, 2, 3]])?;
+//! assert_eq!(square, Filed::new(&points, &[[2, 3, 0], [1, 2, 0]])?);
+//! assert!(square < Filed::new(&points, &[[0, 1, 3], [1, 2, 3]])?);
+//! # Ok::<(), Refusal>(())
+//! ```
+//!
 //! A mesh must lie within 8 of zero in x and y; z is carried and never read. Larger meshes are scaled by their user, with the size.
 
+mod filing;
 pub mod lent;
 mod refusal;
 
+pub use filing::{filing_order, Filed};
 pub use refusal::Refusal;
 
 use lent::{Call, Memory};

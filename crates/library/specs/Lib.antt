@@ -1,2 +1,3 @@
--- What the exported function promises.
+-- What the exported functions promise.
 pub mod Exported
+pub mod Filed

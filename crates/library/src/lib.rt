@@ -1,4 +1,6 @@
-// run_front for programs in C and Rust: numbers and slices only. include/sedgepick.h says the same to their authors.
+// The mesher and the filing order for programs in C and Rust: numbers and slices only. include/sedgepick.h says the same to their authors.
+mod orders;
+
 use checks::Room;
 use checks::Stated;
 use checks::refusal;
