@@ -1,12 +1,13 @@
 // A larger mesh under some settings, against stored hashes of the Rust's answers: `grids` of the reference prints them.
+use hashing::BASIS;
+use hashing::mixed;
+use hashing::mixed_floats;
+use hashing::mixed_words;
 use mesher::Answer;
 use mesher::run_front;
-use std::num::wrapping_add_u64;
 ghost use mathlib.Core.Path.{_≡_};
-ghost use Prim.Native.Nat.{_*_, _%_, _^_, _≤_, _<_};
-ghost use lib.Ieee.{binary64, toBits};
-ghost use lib.ListN.{length, take};
-ghost use Rattle.replay.specs.Hash.{step, hash, word};
+ghost use Prim.Native.Nat.{_≤_, _<_};
+ghost use lib.ListN.{length};
 
 // Squares on a side of the grid, in all, and the nodes on a side and in all.
 const SIDE: usize = 14;
@@ -21,9 +22,6 @@ const NODES: usize = 225;
 const CAPACITY: usize = 512;
 
 const SLOTS: usize = 1024;
-
-// What the hash starts from.
-const BASIS: u64 = 0xcbf29ce484222325;
 
 // ---- the grid
 
@@ -108,73 +106,7 @@ fn put_triangles(triangles: &mut [u32])
     }
 }
 
-// ---- the hash: FNV-1a with a step for each number instead of each byte
-
-// x times the prime 2^40 + 435, modulo 2^64.
-fn times_prime(x: u64) -> u64
-    ensures { λ r. ⌜ r ≡ (x * 1099511628211) % 2 ^ 64 ⌝ }
-{
-    let low = x % 4294967296 * 435;
-    let high = x / 4294967296 * 435 % 4294967296 * 4294967296;
-    let top = x % 16777216 * 1099511627776;
-    wrapping_add_u64(wrapping_add_u64(top, low), high)
-}
-
-// One step.
-fn mixed(h: u64, n: u64) -> u64
-    ensures { λ r. ⌜ r ≡ step h n ⌝ }
-{
-    times_prime(h ^ n)
-}
-
-// A word as a number of 64 bits.
-fn wide(v: u32) -> u64
-    ensures { λ r. ⌜ r ≡ v ⌝ }
-{
-    v as u64
-}
-
-// The first n words, or all where there are fewer.
-fn mixed_words(start: u64, words: &[u32], n: usize) -> u64
-    ensures { λ r. ⌜ r ≡ hash word start (take n (now (words .entry))) ⌝ }
-{
-    let mut h = start;
-    let mut i = 0;
-    while i < words.len() {
-        if i >= n {
-            return h;
-        }
-        h = mixed(h, wide(words[i]));
-        i += 1;
-    }
-    h
-}
-
-// A float's bits; a NaN has those of the logic's one pattern.
-fn bits_of(x: f64) -> u64
-    ensures { λ r. ⌜ r ≡ toBits binary64 x ⌝ }
-{
-    if x != x {
-        return 0x7ff8000000000000;
-    }
-    f64::to_bits(x)
-}
-
-// The first n floats, or all where there are fewer.
-fn mixed_floats(start: u64, floats: &[f64], n: usize) -> u64
-    ensures { λ r. ⌜ r ≡ hash (toBits binary64) start (take n (now (floats .entry))) ⌝ }
-{
-    let mut h = start;
-    let mut i = 0;
-    while i < floats.len() {
-        if i >= n {
-            return h;
-        }
-        h = mixed(h, bits_of(floats[i]));
-        i += 1;
-    }
-    h
-}
+// ---- the hash of an answer
 
 // The counts and the lengths of an answer.
 fn mixed_counts(a: Answer) -> u64 {

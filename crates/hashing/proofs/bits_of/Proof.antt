@@ -1,8 +1,8 @@
--- `large::bits_of`: a NaN differs from itself, and is given its pattern; any other float has its bits.
+-- `hashing::bits_of`: a NaN differs from itself, and is given its pattern; any other float has its bits.
 use borrow.Author.Needs.{needs}
 use Rattle.writing.proofs.Shows.{of-nan, no-nan}
-use Rattle.replay.proofs.large.bits_of.Statement.{statement}
-use Rattle.replay.proofs.large.bits_of.Tie as tie
+use Rattle.hashing.proofs.bits_of.Statement.{statement}
+use Rattle.hashing.proofs.bits_of.Tie as tie
 
 returns : tie.Need-returns
 returns c = of-nan (c .before .args .x) (c .if1 .taken)

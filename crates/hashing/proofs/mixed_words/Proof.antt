@@ -1,13 +1,13 @@
--- `large::mixed_words`. Invariant: h is the hash of the first i words.
+-- `hashing::mixed_words`. Invariant: h is the hash of the first i words.
 use borrow.Author.Needs.{needs}
 use mathlib.Core.Path.{_≡_, ap, _∙_}
 use Prim.Native.Nat.{_-_, _≤_}
 use native.Mathlib.Omega.{arith}
 use lib.ListN.{length, take}
-use Rattle.replay.specs.Hash.{step, hash, word}
-use Rattle.replay.proofs.Hashes.{hash-none, hash-more, hash-done, hash-out}
-use Rattle.replay.proofs.large.mixed_words.Statement.{statement}
-use Rattle.replay.proofs.large.mixed_words.Tie as tie
+use Rattle.hashing.specs.Hash.{step, hash, word}
+use Rattle.hashing.proofs.Hashes.{hash-none, hash-more, hash-done, hash-out}
+use Rattle.hashing.proofs.mixed_words.Statement.{statement}
+use Rattle.hashing.proofs.mixed_words.Tie as tie
 
 abbrev Inv-loop : tie.InvT-loop
 Inv-loop start words n h₀ i₀ h i = (i ≤ length words) × (i ≤ n) × (h ≡ hash word start (take i words))
@@ -54,5 +54,10 @@ pub mixed-words-spec : {M : Type 1} → statement M
 mixed-words-spec =
     tie.close
     (tie.spec
-    Inv-loop μ-loop loop-holds returns (λ c. search needs) (λ c. search needs) (λ c κs. search needs) (λ c κs. search needs) (λ c. search needs)
-    (λ c. search needs) loop-again returns-2)
+    Inv-loop
+    μ-loop
+    loop-holds
+    returns
+    (λ c. search needs) (λ c. search needs) (λ c κs. search needs) (λ c κs. search needs) (λ c. search needs) (λ c. search needs)
+    loop-again
+    returns-2)

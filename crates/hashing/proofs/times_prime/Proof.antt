@@ -1,11 +1,11 @@
--- `large::times_prime`: the product in three parts, each below 2^64 once its multiples of 2^64 are taken off.
+-- `hashing::times_prime`: the product in three parts, each below 2^64 once its multiples of 2^64 are taken off.
 use borrow.Author.Needs.{needs}
 use mathlib.Core.Path.{_≡_, ap, sym, _∙_}
 use Prim.Native.Nat.{ℕ, _+_, _*_, _/_, _%_, _^_}
 use native.Mathlib.Nat.{div-add-mod', mod-add-mod, add-mul-mod-self-right}
 use native.Mathlib.Omega.{arith}
-use Rattle.replay.proofs.large.times_prime.Statement.{statement}
-use Rattle.replay.proofs.large.times_prime.Tie as tie
+use Rattle.hashing.proofs.times_prime.Statement.{statement}
+use Rattle.hashing.proofs.times_prime.Tie as tie
 
 -- the product, of the quotients and remainders of x by 2^24 and by 2^32, and of the greater part's product by 2^32
 split : (x a b q l e f : ℕ) → a * 16777216 + b ≡ x → q * 4294967296 + l ≡ x → e * 4294967296 + f ≡ q * 435 →
@@ -32,5 +32,4 @@ returns c = parts (c .before .before .args .x) (c .wrapping-add-u642 .result) (c
 pub times-prime-spec : {M : Type 1} → statement M
 times-prime-spec =
     tie.close
-    (tie.spec
-    (λ c. search needs) (λ c. search needs) (λ c. search needs) (λ c. search needs) (λ c κs. search needs) (λ c κs. search needs) returns)
+    (tie.spec (λ c. search needs) (λ c. search needs) (λ c. search needs) (λ c. search needs) (λ c κs. search needs) (λ c κs. search needs) returns)

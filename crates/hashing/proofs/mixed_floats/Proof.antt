@@ -1,14 +1,14 @@
--- `large::mixed_floats`. Invariant: h is the hash of the first i floats.
+-- `hashing::mixed_floats`. Invariant: h is the hash of the first i floats.
 use borrow.Author.Needs.{needs}
 use mathlib.Core.Path.{_≡_, ap, _∙_}
 use Prim.Native.Nat.{_-_, _≤_}
 use native.Mathlib.Omega.{arith}
 use lib.ListN.{length, take}
 use lib.Ieee.{binary64, toBits, nan}
-use Rattle.replay.specs.Hash.{step, hash}
-use Rattle.replay.proofs.Hashes.{hash-none, hash-more, hash-done, hash-out}
-use Rattle.replay.proofs.large.mixed_floats.Statement.{statement}
-use Rattle.replay.proofs.large.mixed_floats.Tie as tie
+use Rattle.hashing.specs.Hash.{step, hash}
+use Rattle.hashing.proofs.Hashes.{hash-none, hash-more, hash-done, hash-out}
+use Rattle.hashing.proofs.mixed_floats.Statement.{statement}
+use Rattle.hashing.proofs.mixed_floats.Tie as tie
 
 abbrev Inv-loop : tie.InvT-loop
 Inv-loop start floats n h₀ i₀ h i = (i ≤ length floats) × (i ≤ n) × (h ≡ hash (toBits binary64) start (take i floats))
@@ -55,5 +55,10 @@ pub mixed-floats-spec : {M : Type 1} → statement M
 mixed-floats-spec =
     tie.close
     (tie.spec
-    Inv-loop μ-loop loop-holds returns (λ c. search needs) (λ c. search needs) (λ c κs. search needs) (λ c κs. search needs) (λ c. search needs)
-    (λ c. search needs) loop-again returns-2)
+    Inv-loop
+    μ-loop
+    loop-holds
+    returns
+    (λ c. search needs) (λ c. search needs) (λ c κs. search needs) (λ c κs. search needs) (λ c. search needs) (λ c. search needs)
+    loop-again
+    returns-2)

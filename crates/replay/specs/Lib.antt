@@ -1,2 +1,0 @@
--- What the hash of a larger mesh is.
-pub mod Hash
