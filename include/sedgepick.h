@@ -140,6 +140,21 @@ size_t sedgepick_filing_order(
     uint32_t *second_work, size_t second_work_len,
     size_t second_given, size_t second_count);
 
+/* Numbers of the longest list of a small mesh: how many triangles it has, and three nodes each. */
+#define SEDGEPICK_SMALL_MESH 10
+
+/* Every small mesh: the lists of one to three different triangles on 3, 4 or 5 points, each triangle with its nodes ascending, each list ascending,
+ * shorter lists first and then by node numbers. On 3 points there is 1 list, on 4 there are 14, on 5 there are 175.
+ *
+ * points  3, 4 or 5; any other number is refused as 1.
+ * place   place in the order, from 0.
+ * list    10 numbers (SEDGEPICK_SMALL_MESH); fewer are refused as 4, where 1 does not refuse. How many triangles the list has comes first, then their
+ *         nodes; entries past them are as they were. From the end of the order on, that first number is 0. What is asked of a slice above holds here too.
+ *
+ * 0 is returned, or the refusal's number; a refusal leaves the slice as it was. That the order has each list exactly once is proved.
+ */
+size_t sedgepick_small_mesh(uint32_t points, size_t place, uint32_t *list, size_t list_len);
+
 #ifdef __cplusplus
 }
 #endif

@@ -35,9 +35,11 @@
 mod filing;
 pub mod lent;
 mod refusal;
+mod small;
 
 pub use filing::{filing_order, Filed};
 pub use refusal::Refusal;
+pub use small::small_mesh;
 
 use lent::{Call, Memory};
 

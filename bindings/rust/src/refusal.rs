@@ -6,7 +6,7 @@ use std::fmt;
 #[derive(Clone, Copy, Debug, PartialEq, Eq, Hash)]
 #[repr(u8)]
 pub enum Refusal {
-    /// Over 4,096 triangles or given points, or over a capacity limit (8,192 points, 16,384 slots).
+    /// Over 4,096 triangles or given points, or over a capacity limit (8,192 points, 16,384 slots). Of a small mesh: points other than 3, 4 or 5.
     OverLimit = 1,
     /// The size is neither zero nor from 1/64 to 8.
     BadSize = 2,

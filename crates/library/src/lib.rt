@@ -1,5 +1,6 @@
-// The mesher and the filing order for programs in C and Rust: numbers and slices only. include/sedgepick.h says the same to their authors.
+// The mesher, the filing order and every small mesh for programs in C and Rust: numbers and slices only. include/sedgepick.h says the same to their authors.
 mod orders;
+mod small_meshes;
 
 use checks::Room;
 use checks::Stated;
