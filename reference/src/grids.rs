@@ -47,10 +47,10 @@ fn grid(size: f64, stop: u32) -> Input {
     }
 }
 
-/// An answer as numbers: the counts, the lengths, the lists.
-fn numbers(r: &FrontResult) -> Vec<u64> {
+/// The counts and the lengths of a finished run.
+pub fn counts(r: &FrontResult) -> [usize; 13] {
     let c = &r.refusals;
-    let counts = [
+    [
         c.front_empty,
         c.attempts,
         c.placement,
@@ -64,12 +64,16 @@ fn numbers(r: &FrontResult) -> Vec<u64> {
         r.triangles.len(),
         r.points.len(),
         r.region_components.len(),
-    ];
+    ]
+}
+
+/// An answer as numbers: the counts, the lengths, the lists.
+fn numbers(r: &FrontResult) -> Vec<u64> {
     let quads = r.quads.iter().flatten();
     let triangles = r.triangles.iter().flatten();
     let mut out: Vec<u64> = Vec::new();
     out.extend(
-        counts
+        counts(r)
             .iter()
             .chain(quads)
             .chain(triangles)
@@ -80,10 +84,13 @@ fn numbers(r: &FrontResult) -> Vec<u64> {
     out
 }
 
-/// FNV-1a with a step for each number instead of each byte.
-fn hash(numbers: &[u64]) -> u64 {
+/// Where a hash starts.
+pub const BASIS: u64 = 0xcbf29ce484222325;
+
+/// FNV-1a with a step for each number instead of each byte, from a hash on.
+pub fn hash_on(from: u64, numbers: &[u64]) -> u64 {
     let step = |h: u64, n: &u64| (h ^ n).wrapping_mul(0x100000001b3);
-    numbers.iter().fold(0xcbf29ce484222325, step)
+    numbers.iter().fold(from, step)
 }
 
 /// A line `SIZE STOP QUADS TRIANGLES POINTS HASH` for each setting.
@@ -92,7 +99,7 @@ fn lines() -> Result<Vec<String>, u32> {
     for (size, stop) in [(0.125, 0), (0.125, 1), (0.25, 0), (0.25, 1)] {
         let r = grid(size, stop).run(LENT)?;
         let lengths = (r.quads.len(), r.triangles.len(), r.points.len());
-        let hash = hash(&numbers(&r));
+        let hash = hash_on(BASIS, &numbers(&r));
         out.push(format!(
             "{size} {stop} {} {} {} {hash:016x}",
             lengths.0, lengths.1, lengths.2

@@ -16,6 +16,7 @@ mod patched;
 #[allow(dead_code)]
 mod published;
 mod random;
+mod small;
 #[cfg(test)]
 mod table;
 mod text;
@@ -43,6 +44,7 @@ const USAGE: &str = "usage:
   calls SEED COUNT DIR                     write calls of the library with their answers
   meshes SEED TRIANGLES [DIR]              make large meshes, print their hashes
   grids                                    the hashes that the crate `replay` holds
+  small                                    the hashes that the crate `acceptance` holds
   compare SEED COUNT [--kind KIND] [--save DIR]
                                            run patched against published
   parts                                    both runs of the text on standard input, in short
@@ -114,6 +116,7 @@ fn command(words: &[&str]) -> Result<()> {
         ["call"] => call(),
         ["parts"] => parts(),
         ["grids"] => grids::print(),
+        ["small"] => small::print(),
         ["cases", seed, count, folder] => {
             files::cases(number(seed)?, number(count)?, Path::new(folder), None)
         }
