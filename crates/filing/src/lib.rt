@@ -2,10 +2,10 @@
 mod meshes;
 mod orders;
 mod places;
-mod refusals;
+mod conditions;
 
 use crate::meshes::order_meshes;
-use crate::refusals::refusal;
+use crate::conditions::refusal;
 use cells::clear::clear_words;
 ghost use mathlib.Core.Path.{_≡_};
 ghost use Rattle.filing.specs.Filing.{call};

@@ -8,8 +8,8 @@ use Rattle.filing.specs.Filing.{Mesh, asked, lent, over-limit, too-short
 use Rattle.filing.specs.Promise.{mesh}
 use Rattle.filing.specs.Refusals.{in-turn}
 use borrow.Author.Needs.{needs}
-use Rattle.filing.proofs.refusals.refusal.Statement.{statement}
-use Rattle.filing.proofs.refusals.refusal.Tie as tie
+use Rattle.filing.proofs.conditions.refusal.Statement.{statement}
+use Rattle.filing.proofs.conditions.refusal.Tie as tie
 
 abbrev mesh-of : tie.Else5 → Mesh
 mesh-of c = let a = c .before .before .before .before .before .before .before .before .args in mesh (a .given) (a .count) (a .points .now) (a .triangles .now) (a .work .now)
