@@ -55,7 +55,7 @@ enum sedgepick_refusal {
 enum sedgepick_answer {
     SEDGEPICK_FRONT_EMPTY,         /* 1 when no front edge was left */
     SEDGEPICK_ATTEMPTS,            /* the quads, the five counts that follow, and `limit` add up to it */
-    SEDGEPICK_PLACEMENT,           /* attempts refused: no side nodes */
+    SEDGEPICK_PLACEMENT,           /* attempts refused: no side nodes; an edge without length; an edge that flips took off the front */
     SEDGEPICK_INVALID_QUAD,        /* no pair of side nodes with a good quad */
     SEDGEPICK_RECOVERY,            /* a side that flips could not bring into the mesh */
     SEDGEPICK_REGION,              /* the triangles inside the quad do not fill it */

@@ -483,14 +483,36 @@ class Examples(Case):
     """examples/: the inputs are those of the meshes, the picture is that of the answer."""
 
     def test_inputs(self):
-        for name, size in (('slab', 0.6), ('plate', 0.4)):
-            path = os.path.join(ROOT, 'examples', name)
-            self.assertEqual(self.run_tool(CONVERT, path + '.msh', '--to', 'text', '--size', size), (0, content(path + '.in').decode(), ''))
+        for name, mesh, size in (('slab', 'slab', 0.6), ('leftovers', 'slab', 0.5), ('plate', 'plate', 0.4)):
+            path = os.path.join(ROOT, 'examples', '%s')
+            self.assertEqual(self.run_tool(CONVERT, path % mesh + '.msh', '--to', 'text', '--size', size), (0, content(path % name + '.in').decode(), ''))
 
-    def test_picture(self):
-        path = os.path.join(ROOT, 'examples/slab')
-        words = ['--input', path + '.in', '--title', 'slab.msh, size 0.6']
-        self.assertEqual(self.run_tool(DRAW, path + '.out', *words), (0, content(path + '.svg').decode(), ''))
+    def test_pictures(self):
+        for name, size in (('slab', 0.6), ('leftovers', 0.5)):
+            path = os.path.join(ROOT, 'examples', name)
+            words = ['--input', path + '.in', '--title', 'slab.msh, size %s' % size]
+            self.assertEqual(self.run_tool(DRAW, path + '.out', *words), (0, content(path + '.svg').decode(), ''))
+
+
+class Programs(Case):
+    """What the gate runs: one text of `main` in both programs, on the square and on a long text."""
+
+    def file(self, crate, name):
+        return content(os.path.join(ROOT, 'crates', crate, name)).decode()
+
+    def test_one_main(self):
+        for name in ('src/main.rt', 'proofs/main/Proof.antt'):
+            self.assertEqual(self.file('sedgepick', name), self.file('sedgepick_long', name).replace('sedgepick_long', 'sedgepick'))
+
+    def test_square(self):
+        self.assertEqual(self.file('sedgepick', 'stdin'), S_TEXT)
+
+    def test_long(self):
+        self.assertGreater(len(self.file('sedgepick_long', 'stdin')), 3800)
+        mesh = texts.read(Source('stdout', self.file('sedgepick_long', 'stdout').encode()))
+        self.assertGreater(mesh.counts['mismatch_insertions'], 0)
+        self.assertGreater(len(mesh.triangles), 0)
+        self.assertGreater(len(mesh.quads), 0)
 
 
 def lightness(colour):

@@ -64,7 +64,7 @@ pub struct Counts {
     /// 1 when no front edge was left.
     pub front_empty: usize,
     pub attempts: usize,
-    /// Attempts refused: no side nodes.
+    /// Attempts refused: no side nodes, an edge without length, or an edge that flips took off the front.
     pub placement: usize,
     /// No pair of side nodes with a good quad.
     pub invalid_quad: usize,
