@@ -1,0 +1,171 @@
+"""One call of `sedgepick_run_front`, with the memory that it needs."""
+import ctypes
+from array import array
+from dataclasses import dataclass
+from . import library
+
+try:
+    import numpy
+except ImportError:
+    numpy = None
+
+# what a call takes
+MOST_GIVEN = 4096      # points, and triangles
+MOST_CAPACITY = 8192
+MOST_SLOTS = 16384
+FAR = 8.0              # x and y are within it
+LEAST_SIZE = 1 / 64
+LARGEST_SIZE = 8.0
+EXHAUST, EVEN_COMPONENTS = 0, 1
+
+NO_POINT, NO_SLOTS = 8, 9
+NO_NODE = 2 ** 32 - 1  # stands for every number that the library's words cannot hold; it names no point and no rule
+
+REFUSALS = {
+    1: 'over 4,096 triangles or points, or over a capacity limit',
+    2: 'the size is neither zero nor from 1/64 to 8',
+    3: 'the stop rule is neither 0 nor 1',
+    4: 'a lent slice is too short, or a capacity is below what is given',
+    5: 'a triangle names a node that is not there',
+    6: 'a triangle has a node twice',
+    7: 'x or y is not finite or is beyond 8 in magnitude',
+    8: 'the run inserts a point, and the point capacity is used up',
+    9: 'the run needs a slot, and none is free',
+}
+
+
+class Refused(Exception):
+    """The library refused the call: `number`, from 1 to 9, and its `words`."""
+
+    def __init__(self, number):
+        self.number = number
+        self.words = REFUSALS.get(number, 'a number that is not known')
+        super().__init__('refused with %d: %s' % (number, self.words))
+
+
+@dataclass
+class Counts:
+    """What a run counted: the attempts are the quads, the five refusals and `limit`."""
+    front_empty: int          # 1 when no front edge was left
+    attempts: int
+    placement: int            # attempts refused: no side nodes
+    invalid_quad: int         # no pair of side nodes with a good quad
+    recovery: int             # a side that flips could not bring into the mesh
+    region: int               # the triangles inside the quad do not fill it
+    odd_region: int           # they do, and without them some component would be odd
+    mismatch_insertions: int  # points added
+    limit: int                # 1 when a limit ended the run
+
+
+@dataclass
+class Mesh:
+    """A finished mesh. Points: the given ones, then the added ones. Triangles: those left over; components: the sizes of theirs, descending."""
+    points: object
+    quads: object
+    triangles: object
+    components: object
+    counts: Counts
+
+
+@dataclass
+class Call:
+    """The numbers of a call."""
+    given: int
+    capacity: int
+    count: int
+    slots: int
+    size: float
+    stop: int
+
+
+def run_front(points, triangles, size, stop=EXHAUST, capacity=None, slots=None):
+    """Pairs the triangles over the points into quads.
+
+    points     x and y, or x, y and z, of each; x and y within 8 of zero, z is carried and never read
+    triangles  three node numbers each, from 0
+    size       target length of an edge: 0 for none, otherwise from 1/64 to 8
+    stop       0: go on while an edge of the front is open; 1: and keep components even
+    capacity, slots  what is lent at first; where it runs out (8, 9) the run is made again with twice as much, up to the limits
+
+    The result does not depend on what is lent. Raises Refused, ValueError for lists of another shape, NoLibrary."""
+    run = library.load().sedgepick_run_front
+    given, count = len(points), len(triangles)
+    flat_points, flat_triangles = doubles(points), node_numbers(triangles)
+    call = Call(given, first(capacity, given + given // 4 + 32, given, MOST_CAPACITY), count, first(slots, 2 * count + 64, count, MOST_SLOTS),
+                float(size), stop if isinstance(stop, int) and 0 <= stop < NO_NODE else NO_NODE)
+    while True:
+        refusal, mesh = attempt(run, flat_points, flat_triangles, call)
+        if refusal == NO_POINT and call.capacity < MOST_CAPACITY:
+            call.capacity = min(2 * call.capacity, MOST_CAPACITY)
+        elif refusal == NO_SLOTS and call.slots < MOST_SLOTS:
+            call.slots = min(2 * call.slots, MOST_SLOTS)
+        elif refusal:
+            raise Refused(refusal)
+        else:
+            return mesh
+
+
+def first(asked, usual, least, most):
+    """What is lent at first: what was asked for, else the usual, not below what is given."""
+    return max(least, min(usual if asked is None else asked, most), 1)
+
+
+def attempt(run, points, triangles, call):
+    """(refusal, mesh) of one run with as much memory as the call states. A call over the limits is refused before any memory is looked at."""
+    over = call.given > MOST_GIVEN or call.count > MOST_GIVEN
+    capacity, slots = (1, 1) if over else (call.capacity, call.slots)
+    xyz = (ctypes.c_double * max(3 * capacity, len(points), 1))()
+    ctypes.memmove(xyz, points.buffer_info()[0], 8 * len(points))
+    given = (ctypes.c_uint32 * max(len(triangles), 1))()
+    ctypes.memmove(given, triangles.buffer_info()[0], 4 * len(triangles))
+    quads, left, components, work = ((ctypes.c_uint32 * n)() for n in (4 * slots, 3 * slots, slots, 64 * slots + 8 * capacity))
+    float_work = (ctypes.c_double * (4 * slots))()
+    answer = (ctypes.c_size_t * 13)()
+    refusal = run(xyz, len(xyz), given, len(triangles), quads, len(quads), left, len(left), components, len(components), work, len(work),
+                  float_work, len(float_work), call.given, call.capacity, call.count, call.slots, call.size, call.stop, answer, len(answer))
+    if refusal:
+        return refusal, None
+    lengths = answer[9:]
+    return 0, Mesh(rows(xyz, lengths[2], 3), rows(quads, lengths[0], 4), rows(left, lengths[1], 3), rows(components, lengths[3], 1), Counts(*answer[:9]))
+
+
+def rows(numbers, count, width):
+    """The first rows of a slice, as an array of their own, or as tuples where there is no numpy."""
+    if numpy is not None:
+        taken = numpy.frombuffer(numbers, dtype=numbers._type_)
+        return taken[:width * count].reshape(count, width).copy() if width > 1 else taken[:count].copy()
+    return [tuple(numbers[width * i:width * i + width]) for i in range(count)] if width > 1 else list(numbers[:count])
+
+
+def doubles(points):
+    """x, y, z of each point in a row; z is 0 where it is left out."""
+    if numpy is not None and isinstance(points, numpy.ndarray) and len(points):
+        if points.dtype.kind not in 'iuf' or points.ndim != 2 or points.shape[1] not in (2, 3):
+            raise ValueError('points have 2 or 3 coordinates each')
+        table = numpy.zeros((len(points), 3))
+        table[:, :points.shape[1]] = points
+        return array('d', table.tobytes())
+    flat = array('d')
+    for point in points:
+        if len(point) not in (2, 3):
+            raise ValueError('points have 2 or 3 coordinates, not %d' % len(point))
+        flat.extend(map(float, tuple(point) + (0.0,) * (3 - len(point))))
+    return flat
+
+
+def node_numbers(triangles):
+    """Three numbers a triangle; one that 32 bits cannot hold becomes one that names no point."""
+    if numpy is not None and isinstance(triangles, numpy.ndarray):
+        if len(triangles) and (triangles.dtype.kind not in 'iu' or triangles.ndim != 2 or triangles.shape[1] != 3):
+            raise ValueError('triangles have three whole numbers each')
+        held = numpy.where((triangles < 0) | (triangles > NO_NODE), NO_NODE, triangles).astype(numpy.uint32)
+        return array('I', numpy.ascontiguousarray(held).tobytes())
+    flat = array('I')
+    for cell in triangles:
+        if len(cell) != 3:
+            raise ValueError('triangles have three nodes, not %d' % len(cell))
+        for node in cell:
+            if int(node) != node:
+                raise ValueError('node numbers are whole, not %r' % (node,))
+            flat.append(int(node) if 0 <= node <= NO_NODE else NO_NODE)
+    return flat

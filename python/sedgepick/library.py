@@ -1,0 +1,78 @@
+"""The shared library: where it is, and its functions.
+
+Looked for, in this order: the file that the environment variable SEDGEPICK_LIBRARY names; beside this package; in the lib folder that this package is
+installed under; target/shared of a checkout, where tools/shared writes it."""
+import ctypes, os, subprocess, threading
+
+VERSION = '0.1.0'
+SONAME = 'libsedgepick.so.1'
+VARIABLE = 'SEDGEPICK_LIBRARY'
+HERE = os.path.dirname(os.path.abspath(__file__))
+CHECKOUT = os.path.dirname(os.path.dirname(HERE))
+
+DOUBLES = ctypes.POINTER(ctypes.c_double)
+NUMBERS = ctypes.POINTER(ctypes.c_uint32)
+SIZES = ctypes.POINTER(ctypes.c_size_t)
+LENGTH = ctypes.c_size_t
+RUN_FRONT = [DOUBLES, LENGTH, NUMBERS, LENGTH, NUMBERS, LENGTH, NUMBERS, LENGTH, NUMBERS, LENGTH, NUMBERS, LENGTH, DOUBLES, LENGTH,
+             LENGTH, LENGTH, LENGTH, LENGTH, ctypes.c_double, ctypes.c_uint32, SIZES, LENGTH]
+
+loaded = None
+loading = threading.Lock()
+
+
+class NoLibrary(Exception):
+    """The shared library is not where it is looked for, or does not load."""
+
+
+def places():
+    """Where the library may be, the first that exists taken."""
+    named = os.environ.get(VARIABLE)
+    if named:
+        return [named]
+    found = [os.path.join(HERE, SONAME)]
+    folder = HERE
+    while os.path.dirname(folder) != folder:
+        folder = os.path.dirname(folder)
+        if os.path.basename(folder) == 'lib':
+            found.append(os.path.join(folder, SONAME))
+    return found + [os.path.join(CHECKOUT, 'target', 'shared', SONAME)]
+
+
+def load():
+    """The library, loaded once."""
+    global loaded
+    with loading:
+        if loaded is None:
+            loaded = opened()
+    return loaded
+
+
+def opened():
+    path = next((place for place in places() if os.path.exists(place)), None)
+    if path is None:
+        raise NoLibrary('%s is not there; looked for: %s. In a checkout `rt staticlib library && tools/shared` makes it; %s names another place'
+                        % (SONAME, ', '.join(places()), VARIABLE))
+    try:
+        library = ctypes.CDLL(path)
+        library.sedgepick_run_front.argtypes = RUN_FRONT
+        library.sedgepick_run_front.restype = LENGTH
+    except (OSError, AttributeError) as error:
+        raise NoLibrary('%s does not load: %s' % (path, error))
+    return library
+
+
+def commit():
+    """The commit that the library was proved at: as installed, or that of the checkout; 'unknown' where neither says."""
+    try:
+        with open(os.path.join(HERE, 'COMMIT')) as file:
+            return file.read().strip()
+    except OSError:
+        pass
+    if not os.path.isdir(os.path.join(CHECKOUT, '.git')):
+        return 'unknown'
+    try:
+        found = subprocess.run(['git', '-C', CHECKOUT, 'rev-parse', 'HEAD'], capture_output=True, text=True)
+    except OSError:
+        return 'unknown'
+    return found.stdout.strip() if found.returncode == 0 else 'unknown'

@@ -1,0 +1,162 @@
+"""Tests of the Python package: run_front, its memory, refusals, threads."""
+import math, os, random, subprocess, sys, threading, time, unittest
+from common import PACKAGES, ROOT, grid, make_library
+import sedgepick
+from sedgepick import front, library
+
+SQUARE = [(0.0, 0.0, 0.0), (1.0, 0.0, 0.0), (1.0, 1.0, 0.0), (0.0, 1.0, 0.0)]
+HALVES = [(0, 1, 2), (0, 2, 3)]
+
+
+def setUpModule():
+    make_library()
+
+
+def plain(rows):
+    return [tuple(int(value) for value in row) for row in rows]
+
+
+def shaken(seed, columns=12, rows=12):
+    """A grid whose inner points are moved."""
+    draw = random.Random(seed)
+    points, triangles = grid(columns, rows, 0.5)
+    inner = lambda x, y: 0 < x < 0.5 * columns and 0 < y < 0.5 * rows
+    return [(x + 0.2 * (draw.random() - 0.5), y + 0.2 * (draw.random() - 0.5), z) if inner(x, y) else (x, y, z) for x, y, z in points], triangles
+
+
+def content(mesh):
+    return [tuple(map(float, p)) for p in mesh.points], plain(mesh.quads), plain(mesh.triangles), [int(n) for n in mesh.components], mesh.counts
+
+
+class Runs(unittest.TestCase):
+    def test_square(self):
+        mesh = sedgepick.run_front(SQUARE, HALVES, 1.0, 0)
+        self.assertEqual(plain(mesh.quads), [(0, 1, 2, 3)])
+        self.assertEqual((len(mesh.triangles), len(mesh.points), len(mesh.components), mesh.counts.attempts), (0, 4, 0, 1))
+
+    def test_nothing(self):
+        mesh = sedgepick.run_front([], [], 0.0, 0)
+        self.assertEqual((len(mesh.points), len(mesh.quads), mesh.counts.front_empty), (0, 0, 1))
+
+    def test_two_coordinates_and_z_carried(self):
+        mesh = sedgepick.run_front([p[:2] for p in SQUARE], HALVES, 1.0)
+        self.assertEqual([float(p[2]) for p in mesh.points], [0.0] * 4)
+        mesh = sedgepick.run_front([(x, y, 7.5) for x, y, _ in SQUARE], HALVES, 1.0)
+        self.assertEqual([float(p[2]) for p in mesh.points], [7.5] * 4)
+
+    def test_account(self):
+        points, triangles = shaken(3)
+        mesh = sedgepick.run_front(points, triangles, 0.5)
+        c = mesh.counts
+        self.assertEqual(c.attempts, len(mesh.quads) + c.placement + c.invalid_quad + c.recovery + c.region + c.odd_region + c.limit)
+        self.assertEqual(len(mesh.points), len(points) + c.mismatch_insertions)
+        self.assertEqual([tuple(map(float, p)) for p in mesh.points[:len(points)]], points)
+        self.assertEqual(sum(int(n) for n in mesh.components), len(mesh.triangles))
+
+    def test_memory_grows_and_changes_nothing(self):
+        for seed in range(4):
+            points, triangles = shaken(seed)
+            ample = sedgepick.run_front(points, triangles, 0.45, 0, capacity=8192, slots=16384)
+            scarce = sedgepick.run_front(points, triangles, 0.45, 0, capacity=len(points), slots=len(triangles))
+            self.assertEqual(content(ample), content(scarce))
+
+    def test_without_numpy(self):
+        points, triangles = shaken(1)
+        usual = content(sedgepick.run_front(points, triangles, 0.5))
+        kept, front.numpy = front.numpy, None
+        try:
+            mesh = sedgepick.run_front(points, triangles, 0.5)
+        finally:
+            front.numpy = kept
+        self.assertIsInstance(mesh.points, list)
+        self.assertEqual(content(mesh), usual)
+
+    @unittest.skipIf(front.numpy is None, 'numpy is not installed')
+    def test_arrays(self):
+        points, triangles = shaken(1)
+        mesh = sedgepick.run_front(front.numpy.array(points), front.numpy.array(triangles), 0.5)
+        self.assertEqual(str(mesh.points.dtype), 'float64')
+        self.assertEqual(content(mesh), content(sedgepick.run_front(points, triangles, 0.5)))
+
+
+class Refusals(unittest.TestCase):
+    def refused(self, number, *call):
+        with self.assertRaises(sedgepick.Refused) as caught:
+            sedgepick.run_front(*call)
+        self.assertEqual(caught.exception.number, number)
+        self.assertIn(sedgepick.REFUSALS[number], str(caught.exception))
+
+    def test_each(self):
+        self.refused(1, [(0.0, 0.0)] * 4097, HALVES, 1.0, 0)
+        self.refused(1, SQUARE, HALVES * 2049, 1.0, 0)
+        for size in (1 / 128, 9.0, -1.0, math.nan, math.inf):
+            self.refused(2, SQUARE, HALVES, size, 0)
+        for stop in (2, -1, 2 ** 40, '0'):
+            self.refused(3, SQUARE, HALVES, 1.0, stop)
+        for node in (4, -1, 2 ** 32, 2 ** 40, 2 ** 70):
+            self.refused(5, SQUARE, [(0, 1, node)], 1.0, 0)
+        self.refused(6, SQUARE, [(0, 1, 1)], 1.0, 0)
+        for x in (8.5, math.nan, -math.inf):
+            self.refused(7, [(x, 0.0)] + SQUARE[1:], HALVES, 1.0, 0)
+
+    @unittest.skipIf(front.numpy is None, 'numpy is not installed')
+    def test_node_of_an_array(self):
+        for node in (4, -1, 2 ** 40):
+            self.refused(5, SQUARE, front.numpy.array([(0, 1, node)]), 1.0, 0)
+
+    def test_shapes(self):
+        for points, triangles in (([(0.0,)], []), (SQUARE, [(0, 1)]), (SQUARE, [(0, 1, 0.5)]), ([(0.0, 1.0, 2.0, 3.0)], [])):
+            with self.assertRaises(ValueError):
+                sedgepick.run_front(points, triangles, 1.0)
+
+    def test_no_library(self):
+        code = 'import sedgepick\ntry: sedgepick.run_front([], [], 0.0)\nexcept sedgepick.NoLibrary as fault: print(fault)'
+        run = subprocess.run([sys.executable, '-c', code], capture_output=True, text=True,
+                             env=dict(os.environ, PYTHONPATH=PACKAGES, SEDGEPICK_LIBRARY='/nowhere/lib.so'))
+        self.assertIn('is not there; looked for: /nowhere/lib.so', run.stdout)
+
+
+class Threads(unittest.TestCase):
+    def test_two_at_once(self):
+        meshes = [shaken(seed, 20, 20) for seed in (5, 6)]
+        meshes = [([(x / 2, y / 2, z) for x, y, z in points], triangles) for points, triangles in meshes]
+        alone = [content(sedgepick.run_front(*mesh, 0.25)) for mesh in meshes]
+        together = [[], []]
+
+        def work(which):
+            for _ in range(5):
+                together[which].append(content(sedgepick.run_front(*meshes[which], 0.25)))
+
+        threads = [threading.Thread(target=work, args=(which,)) for which in (0, 1)]
+        for thread in threads:
+            thread.start()
+        for thread in threads:
+            thread.join()
+        for which in (0, 1):
+            self.assertEqual(together[which], [alone[which]] * 5)
+
+    def test_lock_is_free_during_a_call(self):
+        """The other thread goes on while the library runs."""
+        points, triangles = shaken(7, 30, 30)
+        points = [(x / 2, y / 2, z) for x, y, z in points]
+        ticks, done = [], threading.Event()
+
+        def tick():
+            while not done.is_set():
+                ticks.append(time.perf_counter())
+                time.sleep(0.001)
+
+        ticker = threading.Thread(target=tick)
+        ticker.start()
+        begin = time.perf_counter()
+        front.attempt(library.load().sedgepick_run_front, front.doubles(points), front.node_numbers(triangles),
+                      front.Call(len(points), 8192, len(triangles), 16384, 0.25, 0))
+        end = time.perf_counter()
+        done.set()
+        ticker.join()
+        if end - begin > 0.1:
+            self.assertGreater(sum(begin < t < end for t in ticks), 5)
+
+
+if __name__ == '__main__':
+    unittest.main()
