@@ -4,7 +4,8 @@
  * exact arithmetic, convex, counterclockwise and without a corner under 24.99 degrees; the order is total on the meshes that it accepts. They allocate
  * nothing, keep nothing between calls, and may be called from several threads at once on memory of their own.
  *
- * Link target/staticlib/liblibrary.a (x86-64, written by `rt staticlib library`).
+ * Link target/staticlib/liblibrary.a (x86-64, written by `rt staticlib library`), or libsedgepick, which tools/install makes of it; sedgepick_mesh.h has a
+ * call that lends the memory itself.
  */
 #ifndef SEDGEPICK_H
 #define SEDGEPICK_H
@@ -15,6 +16,12 @@
 #ifdef __cplusplus
 extern "C" {
 #endif
+
+/* The version of this header. */
+#define SEDGEPICK_VERSION_MAJOR 0
+#define SEDGEPICK_VERSION_MINOR 1
+#define SEDGEPICK_VERSION_PATCH 0
+#define SEDGEPICK_VERSION "0.1.0"
 
 /* Limits on the numbers of a call. */
 #define SEDGEPICK_MOST_GIVEN 4096     /* given points, and given triangles */

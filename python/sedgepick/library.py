@@ -2,7 +2,7 @@
 
 Looked for, in this order: the file that the environment variable SEDGEPICK_LIBRARY names; beside this package; in the lib folder that this package is
 installed under; target/shared of a checkout, where tools/shared writes it."""
-import ctypes, os, subprocess, threading
+import ctypes, os, threading
 
 VERSION = '0.1.0'
 SONAME = 'libsedgepick.so.1'
@@ -63,16 +63,9 @@ def opened():
 
 
 def commit():
-    """The commit that the library was proved at: as installed, or that of the checkout; 'unknown' where neither says."""
-    try:
-        with open(os.path.join(HERE, 'COMMIT')) as file:
-            return file.read().strip()
-    except OSError:
-        pass
-    if not os.path.isdir(os.path.join(CHECKOUT, '.git')):
+    """The commit that the library was packed at; 'unknown' where it does not say."""
+    function = getattr(load(), 'sedgepick_commit', None)
+    if function is None:
         return 'unknown'
-    try:
-        found = subprocess.run(['git', '-C', CHECKOUT, 'rev-parse', 'HEAD'], capture_output=True, text=True)
-    except OSError:
-        return 'unknown'
-    return found.stdout.strip() if found.returncode == 0 else 'unknown'
+    function.restype = ctypes.c_char_p
+    return function().decode('ascii', 'replace')

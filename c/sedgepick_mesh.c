@@ -1,0 +1,108 @@
+/* The call that lends memory: see include/sedgepick_mesh.h. */
+#include <sedgepick_mesh.h>
+#include <stdlib.h>
+#include <string.h>
+
+#ifndef SEDGEPICK_COMMIT
+#define SEDGEPICK_COMMIT "unknown"
+#endif
+
+static size_t within(size_t value, size_t least, size_t most) {
+    value = value < most ? value : most;
+    return value > least ? value : least;
+}
+
+/* calloc of at least one number, so that no pointer is null but where there is no memory. */
+static void *zeros(size_t count, size_t width) {
+    return calloc(count ? count : 1, width);
+}
+
+/* One run, with as much memory as is stated. */
+static size_t attempt(
+    const double *points, size_t given, const uint32_t *triangles, size_t count, double size, uint32_t stop,
+    size_t capacity, size_t slots, sedgepick_mesh *mesh) {
+    static const uint32_t none[1];
+    uint32_t *work = zeros(SEDGEPICK_WORK(slots, capacity), sizeof *work);
+    double *float_work = zeros(SEDGEPICK_FLOAT_WORK(slots), sizeof *float_work);
+    size_t refusal = SEDGEPICK_NO_MEMORY;
+    mesh->points = zeros(SEDGEPICK_POINTS(capacity), sizeof *mesh->points);
+    mesh->quads = zeros(SEDGEPICK_QUADS(slots), sizeof *mesh->quads);
+    mesh->triangles = zeros(SEDGEPICK_TRIANGLES_OUT(slots), sizeof *mesh->triangles);
+    mesh->components = zeros(SEDGEPICK_COMPONENTS(slots), sizeof *mesh->components);
+    if (work && float_work && mesh->points && mesh->quads && mesh->triangles && mesh->components) {
+        if (given)
+            memcpy(mesh->points, points, SEDGEPICK_POINTS(given) * sizeof *points);
+        refusal = sedgepick_run_front(
+            mesh->points, SEDGEPICK_POINTS(capacity),
+            count ? triangles : none, 3 * count,
+            mesh->quads, SEDGEPICK_QUADS(slots),
+            mesh->triangles, SEDGEPICK_TRIANGLES_OUT(slots),
+            mesh->components, SEDGEPICK_COMPONENTS(slots),
+            work, SEDGEPICK_WORK(slots, capacity),
+            float_work, SEDGEPICK_FLOAT_WORK(slots),
+            given, capacity, count, slots, size, stop,
+            mesh->answer, SEDGEPICK_ANSWER);
+    }
+    free(work);
+    free(float_work);
+    if (refusal)
+        sedgepick_mesh_free(mesh);
+    return refusal;
+}
+
+size_t sedgepick_mesh_run_from(
+    const double *points, size_t given, const uint32_t *triangles, size_t count, double size, uint32_t stop,
+    size_t capacity, size_t slots, sedgepick_mesh *mesh) {
+    memset(mesh, 0, sizeof *mesh);
+    if (given > SEDGEPICK_MOST_GIVEN || count > SEDGEPICK_MOST_GIVEN)
+        return SEDGEPICK_OVER_LIMIT;
+    capacity = within(capacity, given ? given : 1, SEDGEPICK_MOST_CAPACITY);
+    slots = within(slots, count ? count : 1, SEDGEPICK_MOST_SLOTS);
+    for (;;) {
+        size_t refusal = attempt(points, given, triangles, count, size, stop, capacity, slots, mesh);
+        if (refusal == SEDGEPICK_NO_POINT && capacity < SEDGEPICK_MOST_CAPACITY)
+            capacity = within(2 * capacity, 0, SEDGEPICK_MOST_CAPACITY);
+        else if (refusal == SEDGEPICK_NO_SLOTS && slots < SEDGEPICK_MOST_SLOTS)
+            slots = within(2 * slots, 0, SEDGEPICK_MOST_SLOTS);
+        else
+            return refusal;
+    }
+}
+
+size_t sedgepick_mesh_run(
+    const double *points, size_t given, const uint32_t *triangles, size_t count, double size, uint32_t stop, sedgepick_mesh *mesh) {
+    return sedgepick_mesh_run_from(points, given, triangles, count, size, stop, given + given / 4 + 32, 2 * count + 64, mesh);
+}
+
+void sedgepick_mesh_free(sedgepick_mesh *mesh) {
+    free(mesh->points);
+    free(mesh->quads);
+    free(mesh->triangles);
+    free(mesh->components);
+    memset(mesh, 0, sizeof *mesh);
+}
+
+const char *sedgepick_refusal_words(size_t refusal) {
+    switch (refusal) {
+    case SEDGEPICK_FINISHED: return "finished";
+    case SEDGEPICK_OVER_LIMIT: return "over 4,096 triangles or points, or over a capacity limit";
+    case SEDGEPICK_BAD_SIZE: return "the size is neither zero nor from 1/64 to 8";
+    case SEDGEPICK_BAD_STOP: return "the stop rule is neither 0 nor 1";
+    case SEDGEPICK_TOO_SHORT: return "a lent slice is too short, or a capacity is below what is given";
+    case SEDGEPICK_UNKNOWN_NODE: return "a triangle names a node that is not there";
+    case SEDGEPICK_REPEATED_NODE: return "a triangle has a node twice";
+    case SEDGEPICK_FAR_POINT: return "x or y is not finite or is beyond 8 in magnitude";
+    case SEDGEPICK_NO_POINT: return "the run inserts a point, and the point capacity is used up";
+    case SEDGEPICK_NO_SLOTS: return "the run needs a slot, and none is free";
+    case SEDGEPICK_NO_MEMORY: return "no memory could be had";
+    default: return "a number that is not known";
+    }
+}
+
+const char *sedgepick_version(void) {
+    return SEDGEPICK_VERSION;
+}
+
+const char *sedgepick_commit(void) {
+    return SEDGEPICK_COMMIT;
+}

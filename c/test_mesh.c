@@ -1,0 +1,112 @@
+/* Tests of sedgepick_mesh.h: results, growth of what is lent, refusals, two threads. Prints what failed; exit status 1 then. */
+#include <sedgepick_mesh.h>
+#include <math.h>
+#include <pthread.h>
+#include <stdio.h>
+#include <string.h>
+
+enum { SIDE = 24, POINTS = (SIDE + 1) * (SIDE + 1), TRIANGLES = 2 * SIDE * SIDE, RUNS = 8 };
+
+static int failures;
+
+#define CHECK(condition) do { if (!(condition)) { printf("%s:%d: %s\n", __FILE__, __LINE__, #condition); failures++; } } while (0)
+
+/* A grid whose inner points are moved, by a number that depends on the seed. */
+static void grid(unsigned seed, double *points, uint32_t *triangles) {
+    for (uint32_t j = 0; j <= SIDE; j++)
+        for (uint32_t i = 0; i <= SIDE; i++) {
+            double *p = points + 3 * (j * (SIDE + 1) + i);
+            int inner = 0 < i && i < SIDE && 0 < j && j < SIDE;
+            p[0] = 0.25 * i + (inner ? 0.08 * sin(seed + 7.0 * i + 3.0 * j) : 0);
+            p[1] = 0.25 * j + (inner ? 0.08 * cos(seed + 5.0 * i + 11.0 * j) : 0);
+            p[2] = 0;
+        }
+    for (uint32_t j = 0; j < SIDE; j++)
+        for (uint32_t i = 0; i < SIDE; i++, triangles += 6) {
+            uint32_t a = j * (SIDE + 1) + i, b = a + SIDE + 1;
+            const uint32_t both[] = {a, a + 1, b + 1, a, b + 1, b};
+            memcpy(triangles, both, sizeof both);
+        }
+}
+
+static int same(const sedgepick_mesh *a, const sedgepick_mesh *b) {
+    return !memcmp(a->answer, b->answer, sizeof a->answer)
+        && !memcmp(a->points, b->points, 3 * a->answer[SEDGEPICK_POINT_COUNT] * sizeof *a->points)
+        && !memcmp(a->quads, b->quads, 4 * a->answer[SEDGEPICK_QUAD_COUNT] * sizeof *a->quads)
+        && !memcmp(a->triangles, b->triangles, 3 * a->answer[SEDGEPICK_TRIANGLE_COUNT] * sizeof *a->triangles)
+        && !memcmp(a->components, b->components, a->answer[SEDGEPICK_COMPONENT_COUNT] * sizeof *a->components);
+}
+
+static double points[2][3 * POINTS];
+static uint32_t triangles[2][3 * TRIANGLES];
+static sedgepick_mesh alone[2];
+static int parted[2];
+
+static void *work(void *which) {
+    int i = *(int *)which;
+    for (int run = 0; run < RUNS; run++) {
+        sedgepick_mesh mesh;
+        if (sedgepick_mesh_run(points[i], POINTS, triangles[i], TRIANGLES, 0.25, 0, &mesh) || !same(&mesh, &alone[i]))
+            parted[i]++;
+        sedgepick_mesh_free(&mesh);
+    }
+    return NULL;
+}
+
+static void test_threads(void) {
+    pthread_t threads[2];
+    int which[2] = {0, 1};
+    for (int i = 0; i < 2; i++) {
+        grid(i, points[i], triangles[i]);
+        CHECK(sedgepick_mesh_run(points[i], POINTS, triangles[i], TRIANGLES, 0.25, 0, &alone[i]) == SEDGEPICK_FINISHED);
+        CHECK(alone[i].answer[SEDGEPICK_QUAD_COUNT] > 0);
+    }
+    for (int i = 0; i < 2; i++)
+        CHECK(pthread_create(&threads[i], NULL, work, &which[i]) == 0);
+    for (int i = 0; i < 2; i++)
+        CHECK(pthread_join(threads[i], NULL) == 0 && parted[i] == 0);
+}
+
+static void test_growth(void) {
+    sedgepick_mesh mesh;
+    CHECK(sedgepick_mesh_run_from(points[0], POINTS, triangles[0], TRIANGLES, 0.25, 0, 0, 0, &mesh) == SEDGEPICK_FINISHED);
+    CHECK(same(&mesh, &alone[0]));
+    sedgepick_mesh_free(&mesh);
+    CHECK(sedgepick_mesh_run_from(points[0], POINTS, triangles[0], TRIANGLES, 0.25, 0, (size_t)-1, (size_t)-1, &mesh) == SEDGEPICK_FINISHED);
+    CHECK(same(&mesh, &alone[0]));
+    sedgepick_mesh_free(&mesh);
+}
+
+static size_t refusal_of(size_t given, size_t count, double size, uint32_t stop, const uint32_t *cell) {
+    static const double square[] = {0, 0, 0, 1, 0, 0, 1, 1, 0, 9, 1, 0};
+    sedgepick_mesh mesh;
+    size_t refusal = sedgepick_mesh_run(square, given, cell, count, size, stop, &mesh);
+    CHECK(refusal == 0 || (!mesh.points && !mesh.quads && !mesh.triangles && !mesh.components));
+    sedgepick_mesh_free(&mesh);
+    return refusal;
+}
+
+static void test_refusals(void) {
+    const uint32_t good[] = {0, 1, 2}, unknown[] = {0, 1, 7}, twice[] = {0, 1, 1};
+    CHECK(refusal_of(0, 0, 0, 0, NULL) == SEDGEPICK_FINISHED);
+    CHECK(refusal_of(3, 1, 1, 0, good) == SEDGEPICK_FINISHED);
+    CHECK(refusal_of(4097, 1, 1, 0, good) == SEDGEPICK_OVER_LIMIT);
+    CHECK(refusal_of(3, (size_t)-1, 1, 0, good) == SEDGEPICK_OVER_LIMIT);
+    CHECK(refusal_of(3, 1, NAN, 0, good) == SEDGEPICK_BAD_SIZE);
+    CHECK(refusal_of(3, 1, 1, 2, good) == SEDGEPICK_BAD_STOP);
+    CHECK(refusal_of(3, 1, 1, 0, unknown) == SEDGEPICK_UNKNOWN_NODE);
+    CHECK(refusal_of(3, 1, 1, 0, twice) == SEDGEPICK_REPEATED_NODE);
+    CHECK(refusal_of(4, 1, 1, 0, good) == SEDGEPICK_FAR_POINT);
+    for (size_t i = 0; i <= SEDGEPICK_NO_SLOTS; i++)
+        CHECK(strcmp(sedgepick_refusal_words(i), sedgepick_refusal_words(77)) != 0);
+}
+
+int main(void) {
+    test_threads();
+    test_growth();
+    test_refusals();
+    CHECK(!strcmp(sedgepick_version(), SEDGEPICK_VERSION));
+    CHECK(strlen(sedgepick_commit()) > 0);
+    printf("%s\n", failures ? "failed" : "ok");
+    return failures != 0;
+}

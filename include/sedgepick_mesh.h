@@ -1,0 +1,56 @@
+/* Sedgepick with memory of its own: a call that lends what the proved `sedgepick_run_front` needs and lends more where it runs out, the refusals in
+ * words, and the version. These functions are not proved; what they hand back is what the proved one wrote. They keep nothing between calls and may be
+ * called from several threads at once.
+ *
+ * Link libsedgepick.a or libsedgepick.so, which tools/install writes: cc mesh.c $(pkg-config --cflags --libs sedgepick)
+ */
+#ifndef SEDGEPICK_MESH_H
+#define SEDGEPICK_MESH_H
+
+#include <sedgepick.h>
+
+#ifdef __cplusplus
+extern "C" {
+#endif
+
+/* No memory could be had. Not a refusal of the library, whose numbers are below it. */
+#define SEDGEPICK_NO_MEMORY 1000
+
+/* A finished mesh. Its counts and lengths are in `answer` (enum sedgepick_answer); the lists are as sedgepick_run_front leaves them. */
+typedef struct sedgepick_mesh {
+    double *points;        /* x, y, z: the given points, then the added ones */
+    uint32_t *quads;       /* four nodes each, counterclockwise */
+    uint32_t *triangles;   /* three nodes each: those left over */
+    uint32_t *components;  /* the sizes of their components, descending */
+    size_t answer[SEDGEPICK_ANSWER];
+} sedgepick_mesh;
+
+/* Meshes `count` triangles (three node numbers each) over `given` points (x, y, z each); both are only read, and may be null where there are none. Where
+ * points or slots run out (8, 9) the run is made again with twice as many, up to the limits, so that 8 and 9 come back only from a run that needs more
+ * than those. The result does not depend on how much was lent.
+ *
+ * Returns 0 and fills *mesh, which sedgepick_mesh_free gives back; or a refusal, or SEDGEPICK_NO_MEMORY, and *mesh is all zeros.
+ */
+size_t sedgepick_mesh_run(
+    const double *points, size_t given, const uint32_t *triangles, size_t count, double size, uint32_t stop, sedgepick_mesh *mesh);
+
+/* The same with so many points of capacity and slots at first; what is below the mesh's own numbers, or above the limits, is brought to them. */
+size_t sedgepick_mesh_run_from(
+    const double *points, size_t given, const uint32_t *triangles, size_t count, double size, uint32_t stop,
+    size_t capacity, size_t slots, sedgepick_mesh *mesh);
+
+/* Gives the lists back and sets *mesh to zeros. */
+void sedgepick_mesh_free(sedgepick_mesh *mesh);
+
+/* What a returned number means, 0 and SEDGEPICK_NO_MEMORY too; never null. */
+const char *sedgepick_refusal_words(size_t refusal);
+
+/* The version of the library that is linked (SEDGEPICK_VERSION is that of the header), and the commit that it was built at. */
+const char *sedgepick_version(void);
+const char *sedgepick_commit(void);
+
+#ifdef __cplusplus
+}
+#endif
+
+#endif

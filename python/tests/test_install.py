@@ -1,0 +1,80 @@
+"""Tests of tools/install, from C by pkg-config and CMake, and of the installed Python package."""
+import os, shutil, subprocess, sys, tempfile, unittest
+from common import ARCHIVE, ROOT, make_library
+from sedgepick import VERSION
+
+
+def setUpModule():
+    make_library()
+
+
+def run(*words, **options):
+    return subprocess.run(words, capture_output=True, text=True, **options)
+
+
+class Install(unittest.TestCase):
+    @classmethod
+    def setUpClass(cls):
+        cls.folder = tempfile.mkdtemp()
+        cls.addClassCleanup(shutil.rmtree, cls.folder)
+        first = os.path.join(cls.folder, 'first')
+        made = run(os.path.join(ROOT, 'tools', 'install'), first, ARCHIVE)
+        assert made.returncode == 0, made.stderr
+        cls.prefix = os.path.join(cls.folder, 'moved')  # what is installed does not name its folder
+        os.rename(first, cls.prefix)
+        cls.lib = os.path.join(cls.prefix, 'lib')
+        cls.environment = dict(os.environ, PKG_CONFIG_PATH=os.path.join(cls.lib, 'pkgconfig'), LD_LIBRARY_PATH=cls.lib)
+
+    def built(self, source, *words):
+        out = os.path.join(self.folder, 'program')
+        made = run('cc', os.path.join(ROOT, source), '-o', out, *words)
+        self.assertEqual(made.returncode, 0, made.stderr)
+        ran = run(out, env=self.environment)
+        self.assertEqual(ran.returncode, 0, ran.stdout + ran.stderr)
+        return ran.stdout
+
+    def flags(self):
+        return run('pkg-config', '--cflags', '--libs', 'sedgepick', env=self.environment).stdout.split()
+
+    def test_static(self):
+        words = ['-I' + os.path.join(self.prefix, 'include'), os.path.join(self.lib, 'libsedgepick.a'), '-lm', '-lpthread']
+        self.assertEqual(self.built('examples/c/mesh.c', *words), 'sedgepick %s\n0 1 2 3\n' % VERSION)
+        self.assertEqual(self.built('c/test_mesh.c', *words), 'ok\n')
+        self.assertIn('1 quads', self.built('examples/c/square.c', *words))
+
+    @unittest.skipUnless(shutil.which('pkg-config'), 'pkg-config is not installed')
+    def test_pkg_config(self):
+        self.assertEqual(run('pkg-config', '--modversion', 'sedgepick', env=self.environment).stdout.strip(), VERSION)
+        self.assertEqual(self.built('examples/c/mesh.c', *self.flags()), 'sedgepick %s\n0 1 2 3\n' % VERSION)
+        self.assertEqual(self.built('c/test_mesh.c', *self.flags(), '-lm', '-lpthread'), 'ok\n')
+
+    @unittest.skipUnless(shutil.which('cmake'), 'cmake is not installed')
+    def test_cmake(self):
+        build = os.path.join(self.folder, 'build')
+        made = run('cmake', '-S', os.path.join(ROOT, 'examples', 'c'), '-B', build, '-DCMAKE_PREFIX_PATH=' + self.prefix)
+        self.assertEqual(made.returncode, 0, made.stderr)
+        made = run('cmake', '--build', build)
+        self.assertEqual(made.returncode, 0, made.stderr + made.stdout)
+        for program in ('mesh', 'mesh-static'):
+            self.assertEqual(run(os.path.join(build, program)).stdout, 'sedgepick %s\n0 1 2 3\n' % VERSION)
+
+    def test_soname(self):
+        if not shutil.which('readelf'):
+            self.skipTest('readelf is not installed')
+        self.assertIn('[libsedgepick.so.1]', run('readelf', '-d', os.path.join(self.lib, 'libsedgepick.so')).stdout)
+
+    def test_python(self):
+        packages = os.path.join(self.lib, 'python3', 'dist-packages')
+        code = 'import sedgepick; print(sedgepick.__file__, len(sedgepick.run_front([(0,0),(1,0),(1,1),(0,1)], [(0,1,2),(0,2,3)], 1.0).quads), sedgepick.commit())'
+        ran = run(sys.executable, '-c', code, env=dict(os.environ, PYTHONPATH=packages), cwd=self.folder)
+        self.assertEqual(ran.returncode, 0, ran.stderr)
+        self.assertEqual(ran.stdout.split()[:2], [os.path.join(packages, 'sedgepick', '__init__.py'), '1'])
+
+    def test_words_where_the_archive_is_missing(self):
+        made = run(os.path.join(ROOT, 'tools', 'install'), os.path.join(self.folder, 'none'), '/nowhere/liblibrary.a')
+        self.assertEqual(made.returncode, 1)
+        self.assertIn('/nowhere/liblibrary.a is not there', made.stderr)
+
+
+if __name__ == '__main__':
+    unittest.main()
