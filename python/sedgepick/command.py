@@ -1,0 +1,167 @@
+"""sedgepick-mesh: a mesh file of triangles in, a mesh file of quads out.
+
+  sedgepick-mesh slab.msh -o quads.msh
+  sedgepick-mesh slab.msh -o quads.inp --report report.html
+
+Files are read and written by meshio: Gmsh, VTK, VTU, Abaqus .inp, STL, OFF, OBJ, MED, XDMF and others, by their suffix. The triangles are paired into
+quads by the proved library; those that find no partner stay triangles. More than 4,096 triangles are cut into parts, which are run on all cores.
+
+Exit status: 0 the mesh is written; 1 refused, nothing is written; 2 wrong options; 3 the mesh is written, and something that was a line, a point or a
+surface's border in the file is lost, or a warning was given: standard error says what."""
+import argparse, math, os, sys, time
+from dataclasses import dataclass, field
+
+
+@dataclass
+class Job:
+    """Everything that the report speaks of."""
+    options: object
+    surface: object = None
+    points: object = None        # of the file, then the added ones, in the file's units
+    result: object = None
+    number: object = None        # of each point in the output, -1 where it is left out
+    losses: list = field(default_factory=list)
+    areas: tuple = ()
+    cuts: int = 0
+    odd: int = 0                 # components of the file with an odd number of triangles
+    given_components: int = 0
+    warnings: list = field(default_factory=list)
+    seconds: float = 0.0
+
+
+def size_of(word):
+    if word == 'auto':
+        return None
+    value = float(word)
+    if not 0.0 <= value < math.inf:
+        raise ValueError(word)
+    return value
+
+
+def arguments(words):
+    from .library import VERSION
+    parser = argparse.ArgumentParser(prog='sedgepick-mesh', description=__doc__.split('\n', 2)[2], formatter_class=argparse.RawDescriptionHelpFormatter)
+    add = parser.add_argument
+    add('input', metavar='IN', help='a mesh file with triangles')
+    add('-o', '--output', metavar='OUT', required=True, help='the mesh file to write')
+    add('--size', type=size_of, default='auto', metavar='S', help='the length of an edge that the quads should have, in the units of the file; 0: each edge sets '
+        'its own; auto, the default: the best of six runs, with 0.55 to 0.75 of the mean edge and 0 (docs/SIZE.md)')
+    add('--stop', type=int, choices=(0, 1), default=0, help='0, the default: go on while an edge is open; 1: and leave only even components of triangles')
+    add('--report', metavar='FILE', action='append', default=[], help='a report: .html with the picture, otherwise text; may be given twice')
+    add('--keep-nodes', action='store_true', help='write nodes that no cell has, too')
+    add('--node-map', metavar='FILE', help='a table: each node of OUT and its number in IN, both from 1 in the order of the file; none for added nodes')
+    add('--flatten', action='store_true', help='set every z to 0')
+    add('--from', dest='form', metavar='FORMAT', help="meshio's name of IN's format, where the suffix does not say it")
+    add('--to', metavar='FORMAT', help="meshio's name of OUT's format")
+    add('--jobs', type=int, metavar='N', help='parts run at once; all cores if left out')
+    add('-q', '--quiet', action='store_true', help='no summary on standard output')
+    add('--version', action='version', version='sedgepick-mesh ' + VERSION)
+    return parser.parse_args(words)
+
+
+def main(words=None):
+    options = arguments(words)
+    try:
+        return worked(options)
+    except KeyboardInterrupt:
+        return say('stopped')
+    except BrokenPipeError:
+        return 1
+    except Exception as fault:
+        if os.environ.get('SEDGEPICK_TRACEBACK'):
+            raise
+        return say('%s: %s' % (options.input, fault) if known(fault) else
+                   '%s: a fault of the command itself, %s: %s. Please report it; SEDGEPICK_TRACEBACK=1 shows where' % (options.input, type(fault).__name__, fault))
+
+
+def known(fault):
+    from . import NoLibrary, Refused
+    from .surfaces import Fault
+    return isinstance(fault, (Fault, NoLibrary, Refused, OSError, MemoryError))
+
+
+def say(words):
+    print('sedgepick-mesh: %s' % words, file=sys.stderr)
+    return 1
+
+
+def worked(options):
+    from . import files, library, report
+    library.load()
+    files.writing_form(options.output, options.to)
+    begin = time.perf_counter()
+    job = Job(options, files.read(options.input, options.form))
+    meshed(job)
+    written(job)
+    job.seconds = time.perf_counter() - begin
+    for path in options.report:
+        with open(path, 'w', encoding='utf-8') as file:
+            file.write(report.page(job) if path.lower().endswith(('.html', '.htm')) else report.text(job))
+    for note in job.surface.notes:
+        print('sedgepick-mesh: note: %s' % note, file=sys.stderr)
+    for warning in job.warnings:
+        print('sedgepick-mesh: warning: %s' % warning, file=sys.stderr)
+    if not options.quiet:
+        print(report.summary(job))
+    return 3 if job.warnings else 0
+
+
+def meshed(job):
+    """Checks, fits, runs, verifies."""
+    import numpy
+    from . import losses, parts, quality, surfaces
+    surface = surfaces.checked(job.surface, job.options.flatten)
+    cells = surface.triangles.cells
+    counts = numpy.bincount(quality.components(cells))
+    job.given_components, job.odd = len(counts), int((counts % 2).sum())
+    job.result = parts.run(surface.points, cells, job.options.size, job.options.stop, progress, job.options.jobs)
+    added, z = job.result.added, surface.points[cells[0, 0], 2]
+    job.points = numpy.concatenate([surface.points, numpy.column_stack([added, numpy.full(len(added), z)])])
+    *job.areas, job.cuts = losses.verify(surface, job.points, job.result)
+    job.losses = losses.losses(surface, job.result)
+    warn(job)
+
+
+def progress(done, count):
+    if sys.stderr.isatty():
+        print('\rpart %d of %d' % (done, count), end='\n' if done == count else '', file=sys.stderr, flush=True)
+
+
+def warn(job):
+    if job.options.stop == 1 and job.odd:
+        job.warnings.append('%d of %d components have an odd number of triangles; under --stop 1 a quad that leaves one odd is refused, and few quads or none come '
+                            'out (%d here): use --stop 0, or split one triangle of each' % (job.odd, job.given_components, len(job.result.quads)))
+    for loss in job.losses:
+        if len(loss.lost):
+            job.warnings.append('%s; the first is %s' % (loss.words(), places(job.points, loss.lost[0])))
+    if any(counts.limit for counts in job.result.counts):
+        job.warnings.append('a limit on attempts ended the run early; a larger --size may help')
+
+
+def places(points, nodes):
+    """Where a node, or an edge, is."""
+    ends = ['(%.6g, %.6g)' % tuple(points[node, :2]) for node in ([nodes] if getattr(nodes, 'ndim', 0) == 0 else nodes)]
+    return ('from %s to %s' if len(ends) == 2 else 'at %s') % tuple(ends)
+
+
+def written(job):
+    """Numbers the nodes and writes the files."""
+    import numpy
+    from . import files, groups, quality
+    surface, result = job.surface, job.result
+    nodes = numpy.arange(len(job.points)) if job.options.keep_nodes else numpy.unique(numpy.concatenate([result.quads.ravel(), result.triangles.ravel()]))
+    job.number = numpy.full(len(job.points), -1)
+    job.number[nodes] = numpy.arange(len(nodes))
+    edges = quality.edge_keys(result.quads, result.triangles)
+    lines = groups.survivors(surface.lines, numpy.isin(quality.keys(surface.lines.cells), edges))
+    vertices = groups.survivors(surface.vertices, job.number[surface.vertices.cells[:, 0]] >= 0)
+    quads = groups.grouped(surface, job.points, result.quads, result.of_quads, result.parts)
+    left = groups.grouped(surface, job.points, result.triangles, result.of_triangles, result.parts)
+    blocks = [('quad', groups.renumbered(quads, job.number, surface.clockwise)), ('triangle', groups.renumbered(left, job.number, surface.clockwise)),
+              ('line', groups.renumbered(lines, job.number)), ('vertex', groups.renumbered(vertices, job.number))]
+    sets = {name.replace(' ', '_'): job.number[own][job.number[own] >= 0] for name, own in surface.hard.items() if name != 'point of the geometry'}
+    surface.notes += files.write(job.options.output, job.options.to, job.points[nodes], blocks, surface.field_data, sets)
+    if job.options.node_map:
+        with open(job.options.node_map, 'w') as file:
+            file.write('node,given\n')
+            file.writelines('%d,%s\n' % (i + 1, node + 1 if node < len(surface.points) else '') for i, node in enumerate(nodes))

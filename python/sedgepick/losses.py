@@ -1,0 +1,72 @@
+"""What a run lost of the file's lines, points and borders of surfaces; and the checks of its result."""
+from dataclasses import dataclass
+import numpy
+from . import quality
+from .surfaces import Fault
+
+SLACK = 1e-9  # of the area: what the sums of areas may differ by
+
+
+@dataclass
+class Loss:
+    """Edges or nodes of one kind and group: how many there were, and those lost."""
+    what: str
+    total: int
+    lost: object   # nodes, or pairs of nodes
+
+    def words(self):
+        return '%s: %d of %d lost' % (self.what, len(self.lost), self.total)
+
+
+def losses(surface, result):
+    """What there was, kind by kind; most have nothing lost."""
+    edges = numpy.unique(quality.edge_keys(result.quads, result.triangles))
+    nodes = numpy.unique(numpy.concatenate([result.quads.ravel(), result.triangles.ravel()]))
+    given = numpy.unique(surface.triangles.cells)
+    found = []
+    lines = surface.lines.cells
+    inside = numpy.isin(quality.keys(lines), quality.keys(quality.sides(surface.triangles.cells)))
+    labels = numpy.array([surface.lines.label(i) for i in range(len(lines))], dtype=object)
+    for label in sorted(set(labels[inside])):
+        own = lines[inside & (labels == label)]
+        found.append(Loss('line edges (%s)' % label, len(own), own[~numpy.isin(quality.keys(own), edges)]))
+    if (~inside).any():
+        surface.notes.append('%d line edges of the file are no edges of its triangles; they are left out' % (~inside).sum())
+    vertices = surface.vertices.cells[:, 0]
+    labels = numpy.array([surface.vertices.label(i) for i in range(len(vertices))], dtype=object)
+    for label in sorted(set(labels)):
+        own = numpy.intersect1d(vertices[labels == label], given)
+        found.append(Loss('points (%s)' % label, len(own), numpy.setdiff1d(own, nodes)))
+    for name, own in surface.hard.items():
+        found.append(Loss('points (%s)' % name, len(own), numpy.setdiff1d(own, nodes)))
+    borders = border_edges(surface)
+    own = numpy.column_stack([borders >> 32, borders & 0xffffffff])
+    found.append(Loss('edges of surface borders', len(own), own[~numpy.isin(borders, edges)]))
+    return [loss for loss in found if loss.total]
+
+
+def border_edges(surface):
+    """Keys of the edges between triangles of other tags or sets."""
+    region = surface.triangles.rows()
+    a, b, keys = quality.neighbours(surface.triangles.cells)
+    return keys[region[a] != region[b]]
+
+
+def verify(surface, points, result):
+    """That the result is one conforming mesh of the same surface: every edge of the boundary and of the cuts, every area. Returns both areas."""
+    given = surface.triangles.cells
+    before, owners_before = numpy.unique(quality.keys(quality.sides(given)), return_counts=True)
+    after, owners = numpy.unique(quality.edge_keys(result.quads, result.triangles), return_counts=True)
+    if owners.max() > 2:
+        raise Fault('the result is not conforming: %d edges have more than two cells' % (owners > 2).sum())
+    if not numpy.array_equal(before[owners_before == 1], after[owners == 1]):
+        raise Fault('the result has another boundary than the file')
+    a, b, keys = quality.neighbours(given)
+    cuts = keys[result.parts[a] != result.parts[b]]
+    if not numpy.isin(cuts, after[owners == 2]).all():
+        raise Fault('an edge between two parts is missing in the result')
+    whole = float(quality.areas(points, given).sum())
+    made = float(quality.areas(points, result.quads).sum() + quality.areas(points, result.triangles).sum())
+    if abs(whole - made) > SLACK * abs(whole):
+        raise Fault('the areas differ: %.17g before, %.17g after' % (whole, made))
+    return whole, made, len(cuts)

@@ -1,0 +1,128 @@
+"""Runs of a mesh in the file's units; one over the library's limits is cut into parts along edges, each run by itself, and merged.
+
+An edge with one triangle survives a run: a flip needs two triangles, an added point lies inside a triangle, and a quad takes away only the edges inside
+it, which have two. Where two parts meet, each has the cut edges with one triangle, so both results keep them and fit together."""
+import os, shutil, subprocess, tempfile
+from concurrent.futures import ThreadPoolExecutor, as_completed
+from dataclasses import dataclass
+import numpy
+from . import quality
+from .fitting import fit
+from .front import LARGEST_SIZE, LEAST_SIZE, MOST_GIVEN
+from .sizes import best_run
+from .surfaces import Fault
+
+FULL = 3600      # triangles of a part at most, where the cut is ours to make
+UNEVEN = 1.1     # METIS makes parts this much larger than the mean
+
+
+@dataclass
+class Result:
+    """The cells over the points: the given ones, then the added ones."""
+    added: object     # x and y
+    quads: object
+    triangles: object
+    sizes: list       # of each part
+    counts: list      # of each part
+    parts: object     # of each given triangle
+    of_quads: object  # the part of each quad
+    of_triangles: object
+    rounded: int      # coordinates that the fit of a part rounded
+    cutter: str
+
+
+def cut(points, triangles):
+    """The part of each triangle, and who cut."""
+    used = len(numpy.unique(triangles))
+    if len(triangles) <= MOST_GIVEN and used <= MOST_GIVEN:
+        return numpy.zeros(len(triangles), dtype=int), 'one part'
+    part, cutter = numpy.zeros(len(triangles), dtype=int), 'bisection'
+    if shutil.which('gpmetis'):
+        found = by_metis(triangles, int(numpy.ceil(len(triangles) * UNEVEN / FULL)))
+        if found is not None:
+            part, cutter = found, 'METIS'
+    return halved(points, triangles, part), cutter
+
+
+def by_metis(triangles, count):
+    """gpmetis on the graph of triangles that share an edge; None where it fails."""
+    a, b, _ = quality.neighbours(triangles)
+    ends, others = numpy.concatenate([a, b]), numpy.concatenate([b, a])
+    order = numpy.lexsort((others, ends))
+    ends, others = ends[order], others[order]
+    first = numpy.searchsorted(ends, numpy.arange(len(triangles) + 1))
+    with tempfile.TemporaryDirectory() as folder:
+        path = os.path.join(folder, 'graph')
+        with open(path, 'w') as file:
+            file.write('%d %d\n' % (len(triangles), len(a)))
+            file.writelines(' '.join(map(str, others[first[i]:first[i + 1]] + 1)) + '\n' for i in range(len(triangles)))
+        try:
+            run = subprocess.run(['gpmetis', path, str(count)], capture_output=True, cwd=folder)
+            part = numpy.loadtxt('%s.part.%d' % (path, count), dtype=int)
+        except (OSError, ValueError):
+            return None
+    return part if run.returncode == 0 and len(part) == len(triangles) else None
+
+
+def halved(points, triangles, part):
+    """The parts, those that are too large cut in halves across their longer side until none is."""
+    middles = points[triangles, :2].mean(axis=1)
+    part, waiting, ready = part.copy(), list(numpy.unique(part)), 0
+    following = int(part.max()) + 1
+    while waiting:
+        which = waiting.pop()
+        own = numpy.flatnonzero(part == which)
+        if len(own) <= FULL and len(numpy.unique(triangles[own])) <= MOST_GIVEN:
+            continue
+        spread = numpy.ptp(middles[own], axis=0)
+        order = own[numpy.lexsort((own, middles[own, int(spread[1] > spread[0])]))]
+        part[order[len(order) // 2:]] = following
+        waiting += [which, following]
+        following += 1
+    return numpy.unique(part, return_inverse=True)[1]
+
+
+def run(points, triangles, size, stop, progress=None, jobs=None):
+    """Meshes the triangles, in parts where there are too many, on all cores; each part is fitted into the library's range by itself."""
+    part, cutter = cut(points, triangles)
+    count = int(part.max()) + 1
+    answers = [None] * count
+
+    def one(which):
+        own = triangles[part == which]
+        nodes = numpy.unique(own)
+        placed = fit(points[nodes])
+        taken, mesh = best_run(placed.there(points[nodes]), numpy.searchsorted(nodes, own), scaled(size, placed), stop)
+        return nodes, taken / placed.scale, mesh, placed.back(mesh.points[len(nodes):]), placed.rounded(points[nodes])
+
+    with ThreadPoolExecutor(jobs or os.cpu_count() or 1) as pool:
+        waiting = {pool.submit(one, which): which for which in range(count)}
+        for done, future in enumerate(as_completed(waiting), 1):
+            answers[waiting[future]] = future.result()
+            if progress and count > 1:
+                progress(done, count)
+    return merged(len(points), answers, part, cutter)
+
+
+def scaled(size, placed):
+    """The size as the library takes it."""
+    if size is None or size == 0.0:
+        return size
+    if not LEAST_SIZE <= size * placed.scale <= LARGEST_SIZE:
+        raise Fault('--size %g is out of range: for this mesh it is 0, auto or from %g to %g' % (size, LEAST_SIZE / placed.scale, LARGEST_SIZE / placed.scale))
+    return size * placed.scale
+
+
+def merged(given, answers, part, cutter):
+    """One mesh: a part's given points go back to their numbers, added points come behind in the order of the parts."""
+    added, quads, left, following = [], [], [], given
+    for nodes, _, mesh, new, _ in answers:
+        number = numpy.concatenate([nodes, numpy.arange(following, following + len(new))])
+        following += len(new)
+        added.append(new)
+        quads.append(number[mesh.quads.astype(int)].reshape(-1, 4))
+        left.append(number[mesh.triangles.astype(int)].reshape(-1, 3))
+    owners = [numpy.repeat(numpy.arange(len(cells)), [len(own) for own in cells]) for cells in (quads, left)]
+    sizes, counts = [answer[1] for answer in answers], [answer[2].counts for answer in answers]
+    return Result(numpy.concatenate(added), numpy.concatenate(quads), numpy.concatenate(left), sizes, counts, part, *owners,
+                  sum(answer[4] for answer in answers), cutter)

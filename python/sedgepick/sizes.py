@@ -1,0 +1,36 @@
+"""The size of the quads' edges: docs/SIZE.md has the measurements behind the rule."""
+from . import quality
+from .front import LARGEST_SIZE, LEAST_SIZE, Refused, run_front
+
+SHARES = (0.65, 0.60, 0.70, 0.55, 0.75)  # of the mean edge
+THIN = 10.0                              # degrees: a leftover triangle under it is thin
+
+
+def candidates(points, triangles):
+    """The sizes that `auto` tries: shares of the mean edge, and 0, where each edge sets its own."""
+    mean = quality.mean_edge(points, triangles)
+    return [share * mean for share in SHARES if LEAST_SIZE <= share * mean <= LARGEST_SIZE] + [0.0]
+
+
+def worth(mesh):
+    """Less is better: thin leftover triangles, then the leftover triangles among all that the cells stand for."""
+    thin = int((quality.least_angles(mesh.points, mesh.triangles.astype(int)) < THIN).sum()) if len(mesh.triangles) else 0
+    return thin, len(mesh.triangles) / max(2 * len(mesh.quads) + len(mesh.triangles), 1)
+
+
+def best_run(points, triangles, size, stop):
+    """(size, mesh) of a run within the library's range: of the size that is given, or of the best candidate where it is None."""
+    if size is not None:
+        return size, run_front(points, triangles, size, stop)
+    runs, refused = [], None
+    for place, trial in enumerate(candidates(points, triangles)):
+        try:
+            mesh = run_front(points, triangles, trial, stop)
+        except Refused as fault:
+            refused = fault
+            continue
+        runs.append((*worth(mesh), place, trial, mesh))
+    if not runs:
+        raise refused
+    *_, trial, mesh = min(runs, key=lambda run: run[:3])
+    return trial, mesh

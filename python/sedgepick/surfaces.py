@@ -1,0 +1,100 @@
+"""A plane surface of triangles with what the file says of it, and the checks before a run."""
+from dataclasses import dataclass, field
+import numpy
+from . import quality
+
+PLANE = 1e-9  # of the mesh's extent: what z may differ by
+
+
+class Fault(Exception):
+    """What is wrong with the file, and what to do about it."""
+
+
+@dataclass
+class Marked:
+    """Cells of one kind with their tags and the sets that they are in."""
+    cells: object
+    tags: dict = field(default_factory=dict)   # name: a number for each cell
+    sets: dict = field(default_factory=dict)   # name: true or false for each cell
+
+    def rows(self):
+        """A number for each cell, the same where tags and sets are."""
+        columns = [*self.tags.values(), *self.sets.values()]
+        if not columns or not len(self.cells):
+            return numpy.zeros(len(self.cells), dtype=int)
+        return numpy.unique(numpy.column_stack(columns).astype(numpy.int64), axis=0, return_inverse=True)[1]
+
+    def picked(self, places, cells=None):
+        """The tags and sets of the cells at some places, on these cells or on others."""
+        return Marked(self.cells[places] if cells is None else cells, {name: values[places] for name, values in self.tags.items()},
+                      {name: values[places] for name, values in self.sets.items()})
+
+    def label(self, place):
+        return ', '.join(name for name, values in self.sets.items() if values[place]) or 'no group'
+
+
+@dataclass
+class Surface:
+    name: str
+    points: object                 # all nodes of the file
+    triangles: Marked
+    lines: Marked
+    vertices: Marked
+    hard: dict = field(default_factory=dict)      # name: nodes that must stay, beside the vertices
+    field_data: dict = field(default_factory=dict)
+    clockwise: bool = False        # every triangle was, and was turned
+    notes: list = field(default_factory=list)
+
+
+def point_words(points, node):
+    return 'node %d at (%.10g, %.10g)' % (node + 1, points[node, 0], points[node, 1])
+
+
+def checked(surface, flatten=False):
+    """The surface as it goes to the library: plane, each triangle once, counterclockwise, with an area; or a Fault."""
+    cells, points = surface.triangles.cells, surface.points
+    used = numpy.unique(cells)
+    wrong = numpy.flatnonzero(~numpy.isfinite(points[used]).all(axis=1))
+    if len(wrong):
+        raise Fault('%s of %d is not finite: mend the file' % ('node %d' % (used[wrong[0]] + 1), len(points)))
+    check_plane(surface, used, flatten)
+    keep = numpy.sort(numpy.unique(numpy.sort(cells, axis=1), axis=0, return_index=True)[1])
+    if len(keep) < len(cells):
+        surface.notes.append('%d triangles stand in the file more than once; each is taken once' % (len(cells) - len(keep)))
+        surface.triangles = surface.triangles.picked(keep)
+        cells = surface.triangles.cells
+    check_areas(surface)
+    owners, counts = numpy.unique(quality.keys(quality.sides(cells)), return_counts=True)
+    if counts.max() > 2:
+        edge = owners[counts.argmax()]
+        raise Fault('an edge has %d triangles, from %s to %s: not a plane mesh; take the surfaces apart, one file each'
+                    % (counts.max(), point_words(points, edge >> 32), point_words(points, edge & 0xffffffff)))
+    return surface
+
+
+def check_plane(surface, used, flatten):
+    z = surface.points[used, 2]
+    extent = numpy.ptp(surface.points[used, :2], axis=0).max()
+    if flatten:
+        surface.points[:, 2] = 0.0
+    elif numpy.ptp(z) > PLANE * extent:
+        far = used[abs(z - z[0]).argmax()]
+        raise Fault('not plane: z is %.10g at node %d and %.10g at node %d; turn the surface into the xy-plane, or --flatten sets every z to 0'
+                    % (z[0], used[0] + 1, surface.points[far, 2], far + 1))
+
+
+def check_areas(surface):
+    """No triangle without area or with a node twice; clockwise ones are turned."""
+    cells, points = surface.triangles.cells, surface.points
+    area = quality.areas(points, cells)
+    longest = numpy.max([(after ** 2).sum(axis=1) for after, _ in quality.corners(points, cells)], axis=0)
+    flat = numpy.flatnonzero(~(abs(area) > 1e-14 * longest))
+    if len(flat):
+        raise Fault('triangle %d has no area (%d such): nodes %s; its first is %s. Remove it or mesh the surface anew'
+                    % (flat[0] + 1, len(flat), ', '.join(str(n + 1) for n in cells[flat[0]]), point_words(points, cells[flat[0], 0])))
+    turned = area < 0
+    surface.clockwise = bool(turned.all())
+    if turned.any():
+        surface.triangles.cells = numpy.where(turned[:, None], cells[:, ::-1], cells)
+        surface.notes.append('every triangle is clockwise: meshed turned over, and written clockwise again' if surface.clockwise
+                             else '%d of %d triangles are clockwise and were turned over' % (turned.sum(), len(cells)))
