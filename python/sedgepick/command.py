@@ -23,7 +23,6 @@ class Job:
     losses: list = field(default_factory=list)
     areas: tuple = ()
     cuts: int = 0
-    odd: int = 0                 # components of the file with an odd number of triangles
     given_components: int = 0
     warnings: list = field(default_factory=list)
     seconds: float = 0.0
@@ -48,6 +47,7 @@ def arguments(words):
         'its own; auto, the default: the best of six runs, with 0.55 to 0.75 of the mean edge and 0 (docs/SIZE.md)')
     add('--stop', type=int, choices=(0, 1), default=0, help='0, the default: go on while an edge is open; 1: and leave only even components of triangles')
     add('--report', metavar='FILE', action='append', default=[], help='a report: .html with the picture, otherwise text; may be given twice')
+    add('--free', action='store_true', help="do not keep the file's lines, points and borders of surfaces; what is lost is listed")
     add('--keep-nodes', action='store_true', help='write nodes that no cell has, too')
     add('--node-map', metavar='FILE', help='a table: each node of OUT and its number in IN, both from 1 in the order of the file; none for added nodes')
     add('--flatten', action='store_true', help='set every z to 0')
@@ -109,12 +109,13 @@ def worked(options):
 def meshed(job):
     """Checks, fits, runs, verifies."""
     import numpy
-    from . import losses, parts, quality, surfaces
+    from . import losses, parts, quality, slits, surfaces
     surface = surfaces.checked(job.surface, job.options.flatten)
     cells = surface.triangles.cells
-    counts = numpy.bincount(quality.components(cells))
-    job.given_components, job.odd = len(counts), int((counts % 2).sum())
-    job.result = parts.run(surface.points, cells, job.options.size, job.options.stop, progress, job.options.jobs)
+    job.given_components = int(quality.components(cells).max()) + 1
+    edges, nodes = losses.hard(surface)
+    hard = slits.hard_edges(surface.points, cells, edges, nodes) if not job.options.free else []
+    job.result = parts.run(surface.points, cells, job.options.size, job.options.stop, hard, progress, job.options.jobs)
     added, z = job.result.added, surface.points[cells[0, 0], 2]
     job.points = numpy.concatenate([surface.points, numpy.column_stack([added, numpy.full(len(added), z)])])
     *job.areas, job.cuts = losses.verify(surface, job.points, job.result)
@@ -128,9 +129,9 @@ def progress(done, count):
 
 
 def warn(job):
-    if job.options.stop == 1 and job.odd:
-        job.warnings.append('%d of %d components have an odd number of triangles; under --stop 1 a quad that leaves one odd is refused, and few quads or none come '
-                            'out (%d here): use --stop 0, or split one triangle of each' % (job.odd, job.given_components, len(job.result.quads)))
+    if job.options.stop == 1 and job.result.odd:
+        job.warnings.append('%d components have an odd number of triangles; under --stop 1 a quad that leaves one odd is refused, and few quads or none come '
+                            'out (%d here): use --stop 0, or split one triangle of each' % (job.result.odd, len(job.result.quads)))
     for loss in job.losses:
         if len(loss.lost):
             job.warnings.append('%s; the first is %s' % (loss.words(), places(job.points, loss.lost[0])))

@@ -45,6 +45,13 @@ def losses(surface, result):
     return [loss for loss in found if loss.total]
 
 
+def hard(surface):
+    """(keys of edges, nodes) that should survive: lines, borders of surfaces, points."""
+    nodes = [surface.vertices.cells[:, 0], *surface.hard.values()]
+    given = numpy.unique(surface.triangles.cells)
+    return numpy.concatenate([quality.keys(surface.lines.cells), border_edges(surface)]), numpy.intersect1d(numpy.concatenate(nodes), given)
+
+
 def border_edges(surface):
     """Keys of the edges between triangles of other tags or sets."""
     region = surface.triangles.rows()

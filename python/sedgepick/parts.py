@@ -10,6 +10,7 @@ from . import quality
 from .fitting import fit
 from .front import LARGEST_SIZE, LEAST_SIZE, MOST_GIVEN
 from .sizes import best_run
+from .slits import opened
 from .surfaces import Fault
 
 FULL = 3600      # triangles of a part at most, where the cut is ours to make
@@ -29,6 +30,7 @@ class Result:
     of_triangles: object
     rounded: int      # coordinates that the fit of a part rounded
     cutter: str
+    odd: int = 0      # components, as they went to the library, with an odd number of triangles
 
 
 def cut(points, triangles):
@@ -82,8 +84,12 @@ def halved(points, triangles, part):
     return numpy.unique(part, return_inverse=True)[1]
 
 
-def run(points, triangles, size, stop, progress=None, jobs=None):
-    """Meshes the triangles, in parts where there are too many, on all cores; each part is fitted into the library's range by itself."""
+def run(points, triangles, size, stop, hard=(), progress=None, jobs=None):
+    """Meshes the triangles, slit along the hard edges, in parts where there are too many, on all cores; each part is fitted into the library's range by
+    itself."""
+    given = len(points)
+    origin, triangles = opened(triangles, hard)
+    points = points[origin]
     part, cutter = cut(points, triangles)
     count = int(part.max()) + 1
     answers = [None] * count
@@ -101,7 +107,15 @@ def run(points, triangles, size, stop, progress=None, jobs=None):
             answers[waiting[future]] = future.result()
             if progress and count > 1:
                 progress(done, count)
-    return merged(len(points), answers, part, cutter)
+    result = merged(len(points), answers, part, cutter)
+    number = numpy.concatenate([origin, numpy.arange(given, given + len(result.added))])
+    result.quads, result.triangles = number[result.quads], number[result.triangles]
+    result.odd = sum(odd_components(triangles[part == which]) for which in range(count))
+    return result
+
+
+def odd_components(triangles):
+    return int((numpy.bincount(quality.components(triangles)) % 2).sum())
 
 
 def scaled(size, placed):

@@ -76,8 +76,13 @@ def neighbours(triangles):
 
 def components(triangles):
     """The component of each triangle, from 0: triangles that share an edge belong together."""
-    label = numpy.arange(len(triangles))
     a, b, _ = neighbours(triangles)
+    return joined(len(triangles), a, b)
+
+
+def joined(count, a, b):
+    """A label for each of so many things, from 0: those that pairs join have the same."""
+    label = numpy.arange(count)
     while True:
         low = numpy.minimum(label[a], label[b])
         before = label.copy()

@@ -1,0 +1,170 @@
+"""A mesh as SVG: quads by scaled Jacobian, leftover triangles by least angle, the worst marked; axes and a scale in the file's units. A long mesh is
+shown in rows, or columns, one after the other."""
+import math
+from dataclasses import dataclass
+import numpy
+
+# quads: classes of a tenth from 0.3, the least that a run takes; the better the lighter
+QUADS = [(0.3, '#254f9c'), (0.4, '#2176b4'), (0.5, '#2f9ec2'), (0.6, '#5bbfc0'), (0.7, '#97d6b9'), (0.8, '#d3edb3'), (0.9, '#ffffd9')]
+# triangles: degrees; the thinner the redder
+TRIANGLES = [(0, '#b10026'), (5, '#e31a1c'), (10, '#fd8d3c'), (20, '#fdbe85'), (30, '#d9d9d9')]
+INK, GREY, LOST = '#1a1a1a', '#666666', '#9e0dd3'
+LONG = 6          # times as long as wide: a mesh beyond it is shown in pieces
+PLOT = 900        # the longer side of a piece
+LEFT, TOP, GAP, RIGHT, BOTTOM, LEGEND = 70, 16, 64, 24, 80, 240
+
+
+@dataclass
+class Piece:
+    """A window of the mesh and the place of its upper left corner in the picture."""
+    low: tuple
+    high: tuple
+    at: tuple
+    scale: float
+
+    def x(self, x):
+        return self.at[0] + (x - self.low[0]) * self.scale
+
+    def y(self, y):
+        return self.at[1] + (self.high[1] - y) * self.scale
+
+    def size(self):
+        return (self.high[0] - self.low[0]) * self.scale, (self.high[1] - self.low[1]) * self.scale
+
+
+def pieces(points):
+    """The windows, at one scale."""
+    low, high = points.min(axis=0), points.max(axis=0)
+    extent = numpy.maximum(high - low, max(high - low) * 1e-3)
+    pad = 0.02 * min(extent.max(), LONG * extent.min())
+    low, high = low - pad, low + extent + pad
+    axis = int(extent[1] > extent[0])
+    long, short = (high - low)[axis], (high - low)[1 - axis]
+    count = max(1, math.ceil(long / short / LONG - 1e-9)) if long / short > LONG * 1.5 else 1
+    step, scale = long / count, PLOT / (long / count)
+    found, place = [], [LEFT, TOP]
+    for i in range(count):
+        a, b = low.copy(), high.copy()
+        a[axis], b[axis] = low[axis] + i * step, low[axis] + (i + 1) * step
+        found.append(Piece(tuple(a), tuple(b), tuple(place), scale))
+        place[1 - axis] += short * scale + GAP
+    return found
+
+
+def colour(classes, value):
+    return max(0, sum(value >= least for least, _ in classes) - 1)
+
+
+def round_step(value):
+    """The least of 1, 2 and 5 times a power of ten that is not below the value."""
+    power = 10.0 ** math.floor(math.log10(value))
+    return next(power * factor for factor in (1, 2, 5, 10) if power * factor >= value * (1 - 1e-9))
+
+
+def ticks(low, high, step):
+    return [i * step for i in range(math.ceil(low / step - 1e-9), math.floor(high / step + 1e-9) + 1)]
+
+
+def outline(piece, points, cells):
+    """One path for the cells that meet the window."""
+    if not len(cells):
+        return ''
+    corners = points[cells]
+    near = ((corners.max(axis=1) >= piece.low) & (corners.min(axis=1) <= piece.high)).all(axis=1)
+    corners = corners[near]
+    x, y = piece.x(corners[..., 0]), piece.y(corners[..., 1])
+    return ''.join('M' + 'L'.join('%.1f %.1f' % pair for pair in zip(xs, ys)) + 'Z' for xs, ys in zip(x.tolist(), y.tolist()))
+
+
+def cells_of(mesh, piece, lines):
+    """The cells of a window, a path for each class, and its lines."""
+    room = math.sqrt(numpy.prod(piece.size()) / max(len(mesh.quads) + len(mesh.triangles), 1))
+    lines.append('<g stroke="#333333" stroke-linejoin="round" stroke-width="%.2f">' % min(1.0, max(0.15, room / 40)))
+    for cells, values, classes in ((mesh.quads, mesh.jacobians, QUADS), (mesh.triangles, mesh.angles, TRIANGLES)):
+        places = numpy.array([colour(classes, value) for value in values], dtype=int)
+        for i, (_, fill) in enumerate(classes):
+            path = outline(piece, mesh.points, cells[places == i])
+            if path:
+                lines.append('<path fill="%s" d="%s"/>' % (fill, path))
+    lines.append('</g>')
+
+
+def marks_of(mesh, piece, lines):
+    """Lost edges and points, and the worst cells with their numbers in the report."""
+    inside = lambda p: piece.low[0] <= p[0] <= piece.high[0] and piece.low[1] <= p[1] <= piece.high[1]
+    for a, b in mesh.lost_edges:
+        lines.append('<line x1="%.1f" y1="%.1f" x2="%.1f" y2="%.1f" stroke="%s" stroke-width="3"/>' % (piece.x(a[0]), piece.y(a[1]), piece.x(b[0]), piece.y(b[1]), LOST))
+    for p in mesh.lost_points:
+        lines.append('<circle cx="%.1f" cy="%.1f" r="5" fill="none" stroke="%s" stroke-width="3"/>' % (piece.x(p[0]), piece.y(p[1]), LOST))
+    for label, p in mesh.marks:
+        if inside(p):
+            x, y = piece.x(p[0]), piece.y(p[1])
+            lines.append('<circle cx="%.1f" cy="%.1f" r="9" fill="none" stroke="%s" stroke-width="1.6"/>' % (x, y, INK))
+            lines.append('<text x="%.1f" y="%.1f" font-size="12" font-weight="bold" stroke="#ffffff" stroke-width="3" paint-order="stroke" fill="%s">%s</text>'
+                         % (x + 10, y - 6, INK, label))
+
+
+def axes_of(piece, step, lines):
+    width, height = piece.size()
+    left, top = piece.at
+    lines.append('<rect x="%.1f" y="%.1f" width="%.1f" height="%.1f" fill="none" stroke="%s"/>' % (left, top, width, height, GREY))
+    for tick in ticks(piece.low[0], piece.high[0], step):
+        x = piece.x(tick)
+        lines.append('<path d="M%.1f %.1fv6" stroke="%s"/><text x="%.1f" y="%.1f" text-anchor="middle" fill="%s">%.10g</text>'
+                     % (x, top + height, GREY, x, top + height + 20, GREY, tick))
+    for tick in ticks(piece.low[1], piece.high[1], step):
+        y = piece.y(tick)
+        lines.append('<path d="M%.1f %.1fh-6" stroke="%s"/><text x="%.1f" y="%.1f" text-anchor="end" fill="%s">%.10g</text>'
+                     % (left, y, GREY, left - 9, y + 4, GREY, tick))
+
+
+def legend(mesh, left, step, scale, lines):
+    y = TOP + 12
+    rows = [('Quads by scaled Jacobian', None, None)]
+    counts = numpy.bincount([colour(QUADS, v) for v in mesh.jacobians], minlength=len(QUADS))
+    rows += [('%.1f to %.1f' % (least, least + 0.1), fill, counts[i]) for i, (least, fill) in reversed(list(enumerate(QUADS)))]
+    rows += [('', None, None), ('Triangles by least angle', None, None)]
+    counts = numpy.bincount([colour(TRIANGLES, v) for v in mesh.angles], minlength=len(TRIANGLES))
+    ends = [least for least, _ in TRIANGLES[1:]] + [60]
+    rows += [('%d to %d degrees' % (least, ends[i]), fill, counts[i]) for i, (least, fill) in reversed(list(enumerate(TRIANGLES)))]
+    for label, fill, count in rows:
+        if fill:
+            lines.append('<rect x="%d" y="%d" width="24" height="14" fill="%s" stroke="#333333"/>' % (left, y - 12, fill))
+            lines.append('<text x="%d" y="%d" fill="%s">%s</text><text x="%d" y="%d" text-anchor="end" fill="%s">%d</text>'
+                         % (left + 32, y, INK, label, left + LEGEND - 10, y, GREY, count))
+        else:
+            lines.append('<text x="%d" y="%d" font-weight="bold" fill="%s">%s</text>' % (left, y, INK, label))
+        y += 21
+    entries = [('q, t: the worst, listed below', '<circle cx="%d" cy="%d" r="8" fill="none" stroke="%s" stroke-width="1.6"/>' % (left + 12, y + 10, INK))]
+    if len(mesh.lost_edges) or len(mesh.lost_points):
+        entries.append(('lost line, border or point', '<path d="M%d %dh20" stroke="%s" stroke-width="3"/>' % (left + 2, y + 31, LOST)))
+    for label, shape in entries:
+        y += 21
+        lines.append(shape + '<text x="%d" y="%d" font-size="12" fill="%s">%s</text>' % (left + 32, y - 6, INK, label))
+    y += 28
+    lines.append('<path d="M%d %dv6h%.1fv-6" fill="none" stroke="%s" stroke-width="2"/><text x="%d" y="%d" fill="%s">%.10g, in the units of the file</text>'
+                 % (left, y, step * scale, INK, left, y + 24, INK, step))
+    return y + 40
+
+
+def draw(mesh):
+    """The SVG of a mesh with points, quads, triangles, jacobians, angles, marks, lost_edges and lost_points."""
+    used = numpy.unique(numpy.concatenate([mesh.quads.ravel(), mesh.triangles.ravel()]))
+    windows = pieces(mesh.points[used])
+    step = round_step(max(70 / windows[0].scale, 1e-300))
+    right = max(piece.at[0] + piece.size()[0] for piece in windows)
+    lines = []
+    for i, piece in enumerate(windows):
+        width, height = piece.size()
+        lines.append('<clipPath id="window%d"><rect x="%.1f" y="%.1f" width="%.1f" height="%.1f"/></clipPath><g clip-path="url(#window%d)">'
+                     % (i, *piece.at, width, height, i))
+        cells_of(mesh, piece, lines)
+        marks_of(mesh, piece, lines)
+        lines.append('</g>')
+        axes_of(piece, step, lines)
+    foot = legend(mesh, right + RIGHT, step, windows[0].scale, lines)
+    bottom = max(foot, max(piece.at[1] + piece.size()[1] for piece in windows) + 36)
+    size = (right + RIGHT + LEGEND, bottom)
+    head = ('<svg xmlns="http://www.w3.org/2000/svg" viewBox="0 0 %.0f %.0f" width="%.0f" height="%.0f" font-size="13" '
+            'font-family="DejaVu Sans, Verdana, Arial, sans-serif"><rect width="100%%" height="100%%" fill="#ffffff"/>' % (*size, *size))
+    return '\n'.join([head, *lines, '</svg>']) + '\n'
