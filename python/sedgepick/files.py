@@ -122,6 +122,9 @@ def write(path, form, points, blocks, field_data, point_sets):
         raise Fault('cannot write %s as %s: %s. Formats that take quads: %s' % (path, form, fault, GOOD))
     if len(kept) < len(blocks):
         notes.append('%s does not take cells of type %s; they are left out of the file' % (form, ' and '.join(k for k, _ in blocks if k in left_out)))
+    longer = sum(float(short(value)) != value for value in points.ravel().tolist()) if form == 'abaqus' else 0
+    if longer:
+        notes.append('%d coordinates are written with 14 digits, as CalculiX reads no more than 20 characters' % longer)
     return notes
 
 
@@ -134,9 +137,9 @@ def written(path, form, points, blocks, field_data, point_sets):
     """None, or why the file does not hold the mesh."""
     tags = {name: [marked.tags.get(name, numpy.zeros(len(marked.cells), dtype=numpy.int64)) for _, marked in blocks]
             for name in {name for _, marked in blocks for name in marked.tags}}
-    if 'gmsh22' == form:
-        for name in TAGS[:2]:
-            tags.setdefault(name, [numpy.ones(len(marked.cells), dtype=numpy.int64) for _, marked in blocks])
+    if form == 'gmsh22':  # an element has these two and no other
+        other = next(iter(tags.values()), [numpy.ones(len(marked.cells), dtype=numpy.int64) for _, marked in blocks])
+        tags = {name: tags.get(name, other) for name in TAGS[:2]}
     sets = {re.sub(r'\s+', '_', name): [numpy.flatnonzero(marked.sets.get(name, [])) for _, marked in blocks]
             for name in {name for _, marked in blocks for name in marked.sets}}
     try:
@@ -145,7 +148,7 @@ def written(path, form, points, blocks, field_data, point_sets):
         with quiet() as said:
             meshio.write(path, mesh, file_format=form, **({'binary': False} if form == 'gmsh22' else {}))
         if form == 'abaqus':
-            name_types(path)
+            for_calculix(path, points)
     except ModuleNotFoundError as error:
         return 'meshio needs %s for it: install python3-%s' % (error.name, error.name.lower())
     except OSError as error:
@@ -174,11 +177,18 @@ def parted(path, form, points, blocks):
     return None
 
 
-def name_types(path):
-    """Element types of shells and beams in place of meshio's choice, which CalculiX does not know."""
+def for_calculix(path, points):
+    """What CalculiX takes in place of what meshio writes: element types of shells and beams, and coordinates of at most 20 characters, the shortest that
+    give the double back where there are such."""
     with open(path) as file:
-        text = file.read()
+        head, rest = file.read().split('*NODE\n', 1)
+    elements = rest[rest.index('*ELEMENT'):]
     kinds = {'CAX4P': 'quad', 'R3D3': 'triangle', 'B31H': 'line'}
     change = lambda found: '*ELEMENT, TYPE=' + INP.get(kinds.get(found[1], ''), found[1])
+    nodes = ''.join('%d, %s\n' % (i, ', '.join(map(short, point))) for i, point in enumerate(points.tolist(), 1))
     with open(path, 'w') as file:
-        file.write(re.sub(r'\*ELEMENT, TYPE=(\w+)', change, text))
+        file.write(head + '*NODE\n' + nodes + re.sub(r'\*ELEMENT, TYPE=(\w+)', change, elements))
+
+
+def short(value):
+    return repr(value) if len(repr(value)) <= 20 else '%.13e' % value

@@ -1,0 +1,297 @@
+"""Tests of sedgepick-mesh with files that Gmsh and meshio wrote (examples/files), and of what it says of bad ones."""
+import glob, os, re, shutil, subprocess, sys, tempfile, unittest
+import xml.etree.ElementTree as xml
+from common import FILES, PACKAGES, ROOT, grid, make_library
+
+try:
+    import meshio, numpy
+    from sedgepick import command, files, fitting, losses, parts, quality, slits, surfaces
+except ImportError:
+    meshio = None
+
+COMMAND = os.path.join(PACKAGES, 'sedgepick-mesh')
+
+
+def setUpModule():
+    if meshio is None:
+        raise unittest.SkipTest('numpy and meshio are not installed for %s' % sys.executable)
+    make_library()
+
+
+class Case(unittest.TestCase):
+    def setUp(self):
+        self.folder = tempfile.mkdtemp()
+        self.addCleanup(shutil.rmtree, self.folder)
+        self.out = os.path.join(self.folder, 'out.msh')
+
+    def path(self, name):
+        return os.path.join(self.folder, name)
+
+    def run_command(self, *words):
+        return subprocess.run([sys.executable, COMMAND, *words], capture_output=True, text=True)
+
+    def good(self, *words, status=0):
+        ran = self.run_command(*words)
+        self.assertEqual(ran.returncode, status, ran.stderr)
+        self.assertNotIn('Traceback', ran.stderr)
+        return ran
+
+    def refused(self, pattern, *words):
+        ran = self.run_command(*words)
+        self.assertEqual(ran.returncode, 1, ran.stdout + ran.stderr)
+        self.assertNotIn('Traceback', ran.stderr)
+        self.assertNotIn('a fault of the command itself', ran.stderr)
+        self.assertRegex(ran.stderr, pattern)
+        self.assertFalse(os.path.exists(self.out))
+
+    def mesh(self, path=None, form='gmsh'):
+        with files.quiet():
+            mesh = meshio.read(path or self.out, file_format=form)
+        stack = lambda kind: [tuple(map(int, cell)) for block in mesh.cells if block.type == kind for cell in block.data]
+        return mesh, stack('quad'), stack('triangle')
+
+    def stored(self, points, cells, name='in.vtk', **more):
+        path = self.path(name)
+        with files.quiet():
+            meshio.write(path, meshio.Mesh(numpy.array(points, dtype=float), [(kind, numpy.array(rows)) for kind, rows in cells], **more), file_format='vtk')
+        return path
+
+
+class Formats(Case):
+    def test_every_stored_file(self):
+        """The same slab in thirteen forms gives the same quads."""
+        names = [name for name in sorted(os.listdir(FILES)) if name.startswith('l-slab')]
+        self.assertEqual(len(names), 13)
+        for name in names:
+            with self.subTest(name):
+                self.good(os.path.join(FILES, name), '-o', self.out)
+                _, quads, triangles = self.mesh()
+                self.assertEqual((len(quads), len(triangles)), (68, 10))
+
+    def test_written_forms(self):
+        for suffix in ('msh', 'vtk', 'vtu', 'inp', 'obj', 'bdf', 'mesh'):
+            with self.subTest(suffix):
+                out = self.path('out.' + suffix)
+                self.good(os.path.join(FILES, 'l-slab-41.msh'), '-o', out)
+                _, quads, triangles = self.mesh(out, files.form_of(out, None))
+                self.assertEqual((len(quads), len(triangles)), (68, 10))
+
+    def test_forms_without_quads(self):
+        for suffix in ('stl', 'off'):
+            out = self.path('out.' + suffix)
+            self.refused('Formats that take quads', os.path.join(FILES, 'l-slab-41.msh'), '-o', out)
+            self.assertFalse(os.path.exists(out))
+
+    def test_coordinates_bit_for_bit(self):
+        points, triangles = grid(6, 6)
+        points = [(3e5 + x / 3, 7.1e-3 * y, 4.25) for x, y, _ in points]
+        path = self.stored(points, [('triangle', triangles)])
+        self.good(path, '-o', self.out)
+        mesh, quads, _ = self.mesh()
+        self.assertTrue(set(map(tuple, mesh.points)) <= set(points))
+
+    def test_abaqus_types(self):
+        out = self.path('out.inp')
+        self.good(os.path.join(FILES, 'columns.msh'), '-o', out)
+        with open(out) as file:
+            text = file.read()
+        self.assertEqual(re.findall(r'TYPE=(\w+)', text), ['S4', 'S3', 'B31', 'B31'][:len(re.findall(r'TYPE=(\w+)', text))])
+        self.assertIn('ELSET=wall', text)
+
+    @unittest.skipUnless(shutil.which('ccx'), 'CalculiX is not installed')
+    def test_calculix_reads_it(self):
+        out = self.path('mesh.inp')
+        self.good(os.path.join(FILES, 'l-slab-41.msh'), '-o', out)
+        with open(out) as file:
+            text = file.read().replace('TYPE=S4', 'TYPE=S4, ELSET=SQ').replace('TYPE=S3', 'TYPE=S3, ELSET=ST')
+        text = re.sub(r'\*ELEMENT, TYPE=B31\n(\d.*\n)*', '', text)
+        text = re.sub(r'\*ELSET.*\n(\d.*\n)*', '', text)
+        deck = text + ('*MATERIAL, NAME=M\n*ELASTIC\n3e10, 0.2\n*SHELL SECTION, ELSET=SQ, MATERIAL=M\n0.2\n*SHELL SECTION, ELSET=ST, MATERIAL=M\n0.2\n'
+                       '*BOUNDARY\n1,1,6\n2,1,6\n3,1,6\n*STEP\n*STATIC\n*CLOAD\n5,3,-1000.\n*NODE FILE\nU\n*END STEP\n')
+        with open(self.path('deck.inp'), 'w') as file:
+            file.write(deck)
+        ran = subprocess.run(['ccx', 'deck'], capture_output=True, text=True, cwd=self.folder)
+        self.assertIn('Job finished', ran.stdout, ran.stdout[-800:])
+
+    @unittest.skipUnless(shutil.which('gmsh'), 'Gmsh is not installed')
+    def test_gmsh_writes_and_reads(self):
+        for geometry in glob.glob(os.path.join(ROOT, 'examples', 'kinds', '*.geo')):
+            with self.subTest(os.path.basename(geometry)):
+                given = self.path('given.msh')
+                subprocess.run(['gmsh', '-2', '-v', '0', '-clscale', '2', '-format', 'msh41', geometry, '-o', given], check=True)
+                self.good(given, '-o', self.out)
+                ran = subprocess.run(['gmsh', self.out, '-check', '-'], capture_output=True, text=True)
+                self.assertEqual(ran.returncode, 0)
+                self.assertNotIn('Error', ran.stdout + ran.stderr)
+
+
+class Options(Case):
+    def test_nodes_without_cells(self):
+        given = os.path.join(FILES, 'columns.msh')
+        table = self.path('map.csv')
+        self.good(given, '-o', self.out, '--node-map', table)
+        mesh, quads, triangles = self.mesh()
+        self.assertEqual(set(range(len(mesh.points))), {node for cell in quads + triangles for node in cell})
+        before = self.mesh(given)[0].points
+        with open(table) as file:
+            rows = [line.strip().split(',') for line in file][1:]
+        self.assertEqual(len(rows), len(mesh.points))
+        for node, origin in rows:
+            if origin:
+                self.assertTrue((mesh.points[int(node) - 1] == before[int(origin) - 1]).all())
+        self.good(given, '-o', self.out, '--keep-nodes')
+        self.assertGreater(len(self.mesh()[0].points), len(rows))
+
+    def test_size_and_stop(self):
+        given = os.path.join(FILES, 'l-slab-41.msh')
+        self.good(given, '-o', self.out, '--size', '0.6', '--stop', '1')
+        self.good(given, '-o', self.out, '--size', '0')
+        os.remove(self.out)
+        self.refused('out of range: for this mesh it is 0, auto or from', given, '-o', self.out, '--size', '100')
+        self.assertEqual(self.run_command(given, '-o', self.out, '--size', 'small').returncode, 2)
+        self.assertEqual(self.run_command(given, '-o', self.out, '--stop', '2').returncode, 2)
+
+    def test_version_and_help(self):
+        self.assertRegex(self.good('--version').stdout, r'sedgepick-mesh \d')
+        self.assertIn('--size', self.good('--help').stdout)
+
+    def test_clockwise(self):
+        points, triangles = grid(4, 4)
+        path = self.stored(points, [('triangle', [t[::-1] for t in triangles])])
+        self.assertIn('clockwise', self.good(path, '-o', self.out).stderr)
+        mesh, quads, _ = self.mesh()
+        self.assertTrue((quality.areas(mesh.points, numpy.array(quads)) < 0).all())
+
+    def test_report(self):
+        page, text = self.path('r.html'), self.path('r.txt')
+        self.good(os.path.join(FILES, 'columns.msh'), '-o', self.out, '--free', '--report', page, '--report', text, status=3)
+        with open(page) as file:
+            content = file.read()
+        xml.fromstring(content[content.index('<svg'):content.index('</svg>') + 6])
+        self.assertNotIn('http', content.replace('http://www.w3.org/2000/svg', ''))
+        with open(text) as file:
+            said = file.read()
+        for words in ('least scaled Jacobian', 'least angle', 'nodes in no cell', 'points (column)', 'before', 'commit', 'attempts', 'components'):
+            self.assertIn(words, content)
+            self.assertIn(words, said)
+
+
+class Kept(Case):
+    def test_lines_points_and_borders(self):
+        for name in ('columns.msh', 'footing.msh'):
+            self.good(os.path.join(FILES, name), '-o', self.out)
+        self.good(os.path.join(FILES, 'columns.msh'), '-o', self.out)
+        mesh, quads, triangles = self.mesh()
+        self.assertEqual(sum(len(block.data) for block in mesh.cells if block.type == 'vertex'), 12)
+        self.assertEqual(set(mesh.field_data), {'column', 'wall', 'slab'})
+
+    def test_lost_ones_are_listed(self):
+        ran = self.good(os.path.join(FILES, 'columns.msh'), '-o', self.out, '--free', status=3)
+        self.assertRegex(ran.stderr, r'warning: line edges \(wall\): \d+ of \d+ lost; the first is from \(')
+
+    def test_groups_come_back(self):
+        self.good(os.path.join(FILES, 'footing.msh'), '-o', self.out)
+        mesh, quads, triangles = self.mesh()
+        before = self.mesh(os.path.join(FILES, 'footing.msh'))[0]
+
+        def area(mesh, tag):
+            return sum(quality.areas(mesh.points, block.data[tags == tag]).sum() for block, tags in zip(mesh.cells, mesh.cell_data['gmsh:physical'])
+                       if block.type in ('quad', 'triangle'))
+        for tag in (1, 2):
+            self.assertAlmostEqual(area(mesh, tag), area(before, tag), 9)
+
+    def test_slit_gives_each_side_its_nodes(self):
+        points, triangles = (numpy.array(rows) for rows in grid(4, 4))
+        hard = quality.keys([(10, 11), (11, 12), (12, 13)])
+        origin, opened = slits.opened(triangles, hard)
+        self.assertEqual(len(origin), len(points) + 3)  # the line begins at the boundary
+        self.assertTrue((origin[opened] == triangles).all())
+
+
+class Parts(Case):
+    def check(self, cutter):
+        points, triangles = grid(70, 70, 0.1)
+        points, triangles = numpy.array(points), numpy.array(triangles)
+        inner = (points[:, :2].min(axis=1) > 0) & (points[:, :2].max(axis=1) < 6.95)
+        points[inner, :2] += 0.03 * numpy.sin(numpy.arange(2 * inner.sum()).reshape(-1, 2) ** 2)
+        self.assertGreater(len(triangles), 2 * 4096)
+        surface = surfaces.Surface('grid', points, surfaces.Marked(triangles), surfaces.Marked(numpy.zeros((0, 2), int)), surfaces.Marked(numpy.zeros((0, 1), int)))
+        result = parts.run(points, triangles, None, 0)
+        self.assertEqual(result.cutter, cutter)
+        self.assertGreater(len(result.sizes), 2)
+        every = numpy.concatenate([points, numpy.column_stack([result.added, numpy.zeros(len(result.added))])])
+        _, _, cuts = losses.verify(surface, every, result)
+        self.assertGreater(cuts, 50)
+        self.assertGreater(len(result.quads), 0.4 * len(triangles))
+
+    def test_bisection(self):
+        which, shutil.which = shutil.which, lambda name: None
+        try:
+            self.check('bisection')
+        finally:
+            shutil.which = which
+
+    @unittest.skipUnless(shutil.which('gpmetis'), 'METIS is not installed')
+    def test_metis(self):
+        self.check('METIS')
+
+
+class Bad(Case):
+    SQUARE = [(0, 0, 0), (1, 0, 0), (1, 1, 0), (0, 1, 0)]
+
+    def test_files(self):
+        given = lambda name: os.path.join(FILES, name)
+        self.refused('no triangles; the file has 36 line', given('lines-only.msh'), '-o', self.out)
+        self.refused('second order .*ElementOrder', given('second-order.msh'), '-o', self.out)
+        self.refused('no such file', self.path('nothing.msh'), '-o', self.out)
+        with open(self.path('mesh.xyz'), 'w') as file:
+            file.write('hello')
+        self.refused("unknown format.*'.xyz'", self.path('mesh.xyz'), '-o', self.out)
+        self.refused('unknown format gmesh', given('l-slab-41.msh'), '--from', 'gmesh', '-o', self.out)
+        for name in ('broken.msh', 'broken.vtk', 'broken.vtu', 'broken.inp', 'broken.obj', 'empty.stl'):
+            with open(self.path(name), 'w') as file:
+                file.write('' if name.startswith('empty') else 'not a mesh\n1 2 3\n')
+            self.refused('meshio cannot read it|no triangles', self.path(name), '-o', self.out)
+        with open(given('l-slab-41.msh')) as file:
+            half = file.read()[:3000]
+        with open(self.path('half.msh'), 'w') as file:
+            file.write(half)
+        self.refused('meshio cannot read it|no triangles', self.path('half.msh'), '-o', self.out)
+        self.refused('unknown format', given('l-slab-41.msh'), '-o', self.path('out.xyz'))
+        self.refused('cannot write', given('l-slab-41.msh'), '-o', os.path.join(self.folder, 'no', 'out.msh'))
+
+    def test_meshes(self):
+        bad = lambda points, cells: self.stored(points, cells)
+        self.refused('not plane: z is .*--flatten', bad(self.SQUARE[:3] + [(0, 1, 0.5)], [('triangle', [(0, 1, 2), (0, 2, 3)])]), '-o', self.out)
+        self.refused('triangle 2 has no area', bad(self.SQUARE + [(2, 2, 0)], [('triangle', [(0, 1, 3), (0, 2, 4)])]), '-o', self.out)
+        self.refused('has no area', bad(self.SQUARE, [('triangle', [(0, 1, 1)])]), '-o', self.out)
+        self.refused('cells of type quad beside', bad(self.SQUARE, [('triangle', [(0, 1, 2)]), ('quad', [(0, 1, 2, 3)])]), '-o', self.out)
+        self.refused('an edge has 3 triangles', bad(self.SQUARE + [(0.5, -1, 0)], [('triangle', [(0, 1, 2), (0, 1, 3), (1, 0, 4)])]), '-o', self.out)
+        self.refused('not finite', bad([(float('nan'), 0, 0)] + self.SQUARE[1:], [('triangle', [(0, 1, 2)])]), '-o', self.out)
+
+    def test_odd_component(self):
+        path = self.stored(self.SQUARE, [('triangle', [(0, 1, 2)])])
+        ran = self.good(path, '-o', self.out, '--stop', '1', status=3)
+        self.assertIn('odd number of triangles', ran.stderr)
+        self.assertIn('use --stop 0', ran.stderr)
+
+    def test_no_library(self):
+        ran = subprocess.run([sys.executable, COMMAND, os.path.join(FILES, 'l-slab-41.msh'), '-o', self.out], capture_output=True, text=True,
+                             env=dict(os.environ, SEDGEPICK_LIBRARY='/nowhere/lib.so'))
+        self.assertEqual(ran.returncode, 1)
+        self.assertIn('/nowhere/lib.so', ran.stderr)
+
+
+class Fits(unittest.TestCase):
+    def test_exact(self):
+        draw = numpy.random.default_rng(1)
+        for _ in range(300):
+            middle = draw.normal(size=2) * 10.0 ** draw.integers(-6, 7)
+            points = numpy.column_stack([middle + draw.normal(size=(50, 2)) * 10.0 ** draw.integers(-4, 5), numpy.zeros(50)])
+            placed = fitting.fit(points)
+            self.assertLessEqual(abs(placed.there(points)).max(), 8.0)
+            self.assertEqual(placed.rounded(points), 0)
+
+
+if __name__ == '__main__':
+    unittest.main()
