@@ -37,6 +37,20 @@ def size_of(word):
     return value
 
 
+def count_of(word):
+    if int(word) < 1:
+        raise ValueError(word)
+    return int(word)
+
+
+def check_folders(options):
+    """That the files to write can be, before a long run."""
+    from .surfaces import Fault
+    for path in [options.output, options.node_map, *options.report]:
+        if path and not os.path.isdir(os.path.dirname(path) or '.'):
+            raise Fault('cannot write %s: there is no folder %s' % (path, os.path.dirname(path)))
+
+
 def arguments(words):
     from .library import VERSION
     parser = argparse.ArgumentParser(prog='sedgepick-mesh', description=__doc__.split('\n', 2)[2], formatter_class=argparse.RawDescriptionHelpFormatter)
@@ -53,7 +67,7 @@ def arguments(words):
     add('--flatten', action='store_true', help='set every z to 0')
     add('--from', dest='form', metavar='FORMAT', help="meshio's name of IN's format, where the suffix does not say it")
     add('--to', metavar='FORMAT', help="meshio's name of OUT's format")
-    add('--jobs', type=int, metavar='N', help='parts run at once; all cores if left out')
+    add('--jobs', type=count_of, metavar='N', help='parts run at once; all cores if left out')
     add('-q', '--quiet', action='store_true', help='no summary on standard output')
     add('--version', action='version', version='sedgepick-mesh ' + VERSION)
     return parser.parse_args(words)
@@ -89,6 +103,7 @@ def worked(options):
     from . import files, library, report
     library.load()
     files.writing_form(options.output, options.to)
+    check_folders(options)
     begin = time.perf_counter()
     job = Job(options, files.read(options.input, options.form))
     meshed(job)

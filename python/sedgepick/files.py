@@ -11,6 +11,7 @@ SECOND_ORDER = {'triangle6', 'triangle7', 'quad8', 'quad9', 'triangle10'}
 # of several formats that a suffix may mean, the one that is written
 WRITTEN = {'.msh': 'gmsh22', '.vtk': 'vtk42'}
 INP = {'quad': 'S4', 'triangle': 'S3', 'line': 'B31'}  # element types of shells and beams
+ROUNDED = 1e-6  # of the extent: a file that moves a node farther does not hold the mesh
 GOOD = '.msh (Gmsh), .vtk, .vtu, .inp (Abaqus, CalculiX), .med, .xdmf, .bdf'
 
 
@@ -113,7 +114,7 @@ def write(path, form, points, blocks, field_data, point_sets):
     blocks = [block for block in blocks if len(block[1].cells)]
     for left_out in ((), ('vertex',), ('vertex', 'line')):
         kept = [block for block in blocks if block[0] not in left_out]
-        fault = written(path, form, points, kept, field_data, point_sets)
+        fault = written(path, form, points, kept, field_data, point_sets, notes)
         if fault is None or len(kept) == len(blocks) == 0:
             break
     if fault is not None:
@@ -122,9 +123,6 @@ def write(path, form, points, blocks, field_data, point_sets):
         raise Fault('cannot write %s as %s: %s. Formats that take quads: %s' % (path, form, fault, GOOD))
     if len(kept) < len(blocks):
         notes.append('%s does not take cells of type %s; they are left out of the file' % (form, ' and '.join(k for k, _ in blocks if k in left_out)))
-    longer = sum(float(short(value)) != value for value in points.ravel().tolist()) if form == 'abaqus' else 0
-    if longer:
-        notes.append('%d coordinates are written with 14 digits, as CalculiX reads no more than 20 characters' % longer)
     return notes
 
 
@@ -133,7 +131,7 @@ def writing_form(path, form):
     return form or WRITTEN.get(suffix) or form_of(path, None)
 
 
-def written(path, form, points, blocks, field_data, point_sets):
+def written(path, form, points, blocks, field_data, point_sets, notes):
     """None, or why the file does not hold the mesh."""
     tags = {name: [marked.tags.get(name, numpy.zeros(len(marked.cells), dtype=numpy.int64)) for _, marked in blocks]
             for name in {name for _, marked in blocks for name in marked.tags}}
@@ -155,11 +153,11 @@ def written(path, form, points, blocks, field_data, point_sets):
         raise Fault('cannot write %s: %s' % (path, error.strerror or error))
     except (Exception, SystemExit) as error:
         return ' '.join(said.getvalue().split())[:200] or ' '.join(str(error).split())[:200] or type(error).__name__
-    return parted(path, form, points, blocks)
+    return parted(path, form, points, blocks, notes)
 
 
-def parted(path, form, points, blocks):
-    """Reads the file back: None where it has the cells and the points bit for bit, or cannot be read by meshio."""
+def parted(path, form, points, blocks, notes):
+    """Reads the file back: None where it has the same cells and points, or where meshio cannot read the format; a note where it rounds."""
     reader = {'gmsh22': 'gmsh', 'vtk42': 'vtk', 'vtk51': 'vtk'}.get(form, form)
     if reader not in meshio_forms.reader_map:
         return None
@@ -168,12 +166,20 @@ def parted(path, form, points, blocks):
             mesh = meshio.read(path, file_format=reader)
     except (Exception, SystemExit) as error:
         return 'it cannot be read back (%s)' % ' '.join(str(error).split())[:200]
-    for kind, marked in blocks:
-        found = sum(len(block.data) for block in mesh.cells if block.type == kind)
-        if found != len(marked.cells):
-            return 'of %d cells of type %s it holds %d' % (len(marked.cells), kind, found)
     if len(mesh.points) != len(points):
         return 'of %d nodes it holds %d' % (len(points), len(mesh.points))
+    for kind, marked in blocks:
+        found = [numpy.asarray(block.data) for block in mesh.cells if block.type == kind]
+        if sum(map(len, found)) != len(marked.cells):
+            return 'of %d cells of type %s it holds %d' % (len(marked.cells), kind, sum(map(len, found)))
+        if not numpy.array_equal(numpy.concatenate(found), marked.cells):
+            return 'cells of type %s come back with other nodes' % kind
+    far = abs(mesh.points[:, :2] - points[:, :2]).max()
+    if far > ROUNDED * numpy.ptp(points[:, :2], axis=0).max():
+        return 'coordinates come back up to %.3g away' % far
+    changed = int((mesh.points[:, :2] != points[:, :2]).sum())
+    if changed:
+        notes.append('%s rounds %d of %d coordinates, by up to %.3g' % (form, changed, 2 * len(points), far))
     return None
 
 

@@ -22,6 +22,10 @@ class Fit:
         """How many coordinates do not come back bit for bit, and so were rounded on their way."""
         return int((self.back(self.there(points)) != points[:, :2]).sum())
 
+    def rounded_back(self, points):
+        """How many coordinates of added points are rounded on their way back."""
+        return int((self.there(self.back(points)) != points[:, :2]).sum())
+
 
 def power_within(value, bound):
     """The largest power of two that takes the value within the bound; 1 for 0."""

@@ -28,7 +28,7 @@ class Result:
     parts: object     # of each given triangle
     of_quads: object  # the part of each quad
     of_triangles: object
-    rounded: int      # coordinates that the fit of a part rounded
+    rounded: tuple    # coordinates that the fit rounded: of given points on their way in, of added ones on their way back
     cutter: str
     odd: int = 0      # components, as they went to the library, with an odd number of triangles
 
@@ -99,7 +99,7 @@ def run(points, triangles, size, stop, hard=(), progress=None, jobs=None):
         nodes = numpy.unique(own)
         placed = fit(points[nodes])
         taken, mesh = best_run(placed.there(points[nodes]), numpy.searchsorted(nodes, own), scaled(size, placed), stop)
-        return nodes, taken / placed.scale, mesh, placed.back(mesh.points[len(nodes):]), placed.rounded(points[nodes])
+        return nodes, taken / placed.scale, mesh, placed.back(mesh.points[len(nodes):]), (placed.rounded(points[nodes]), placed.rounded_back(mesh.points[len(nodes):]))
 
     with ThreadPoolExecutor(jobs or os.cpu_count() or 1) as pool:
         waiting = {pool.submit(one, which): which for which in range(count)}
@@ -139,4 +139,4 @@ def merged(given, answers, part, cutter):
     owners = [numpy.repeat(numpy.arange(len(cells)), [len(own) for own in cells]) for cells in (quads, left)]
     sizes, counts = [answer[1] for answer in answers], [answer[2].counts for answer in answers]
     return Result(numpy.concatenate(added), numpy.concatenate(quads), numpy.concatenate(left), sizes, counts, part, *owners,
-                  sum(answer[4] for answer in answers), cutter)
+                  tuple(map(sum, zip(*(answer[4] for answer in answers)))), cutter)

@@ -68,7 +68,7 @@ def sections(job):
         ('Run', [('file', surface.name), ('given', '%d triangles, %d nodes' % (len(surface.triangles.cells), len(numpy.unique(surface.triangles.cells)))),
                  ('size', ('auto: ' if job.options.size is None else '') + (sizes[0] if len(sizes) == 1 else '%s to %s, part by part' % (sizes[0], sizes[-1]))),
                  ('stop rule', job.options.stop), ('parts', '%d (%s), %d edges between them, all found' % (len(result.sizes), result.cutter, job.cuts)),
-                 ('coordinates rounded', '%d on their way to the library; given nodes are written as they were read' % result.rounded),
+                 ('coordinates rounded', '%d of given nodes on their way to the library, %d of added ones on their way back' % result.rounded),
                  ('library', 'sedgepick %s' % library.VERSION), ('commit', library.commit()), ('meshio', meshio.__version__), ('seconds', '%.1f' % job.seconds)]),
         ('Result', counted),
         ('Attempts', [('attempts', total('attempts'))] + [('refused: ' + words, total(name)) for name, words in REFUSED] + [('ended by a limit', total('limit'))]),
