@@ -147,6 +147,10 @@ not-in g v h = go (ltb v (g .low)) refl (ltb (g .high) v) refl h
 abbrev stray : Mesh → ℕ → Span → ℕ → Bool
 stray m a g v = has-edge m a v && outside g v
 
+-- v is in the span, if it has an edge with a
+abbrev Stays : Mesh → ℕ → Span → ℕ → Type 0
+Stays m a g v = stray m a g v ≡ false
+
 stray-in : (m : Mesh) (a : ℕ) (g : Span) (v : ℕ) → In g v → stray m a g v ≡ false
 stray-in m a g v h = ap (λ (b : Bool). has-edge m a v && b) (in-not g v h) ∙ and-false (has-edge m a v)
 
@@ -185,7 +189,7 @@ bare m a v h = any-none (owns (key a v)) (m .live) h
 
 -- at the place c of the ring of a: an edge with a that none of the cells to come has ends in the span h
 pub record Ringed (w : List ℕ) (s a c : ℕ) (m : Mesh) (g h : Span) : Type 0 where
-  pub around : Around w s a c m (stray m a h)
+  pub around : Around w s a c m (Stays m a h)
   pub low : h .low ≤ g .low
   pub high : g .high ≤ h .high
   pub known : g .high < length (m .points) → h .high < length (m .points)
@@ -194,7 +198,7 @@ module _ (w : List ℕ) (s p a : ℕ) (m : Mesh) (rep : Rep w s p m) (an : a < l
   pub ringed-start : Ringed w s a (nx w (rings-at s) (4 * s + a)) m g g
   ringed-start =
       record {
-        around = around-start w s p a m (stray m a g) rep an (λ v d h. ap (λ (b : Bool). b && outside g v) (bare m a v h));
+        around = around-start w s p a m (Stays m a g) rep an (λ v d h. ap (λ (b : Bool). b && outside g v) (bare m a v h));
         low = omega arith;
         high = omega arith;
         known = λ e. e;
@@ -202,15 +206,15 @@ module _ (w : List ℕ) (s p a : ℕ) (m : Mesh) (rep : Rep w s p m) (an : a < l
 
   module _ (c : ℕ) (h : Span) (k : Ringed w s a c m g h) (inside : c < 4 * s) where
     pub ringed-read : CanRead w s c
-    ringed-read = around-read w s a c m (stray m a h) (k .around) inside
+    ringed-read = around-read w s a c m (Stays m a h) (k .around) inside
 
     pub ringed-less : (d : ℕ) → d ≡ nx w (rings-at s) c → left w s p d < left w s p c
-    ringed-less d e = around-less w s a c m (stray m a h) (k .around) p d rep inside e
+    ringed-less d e = around-less w s a c m (Stays m a h) (k .around) p d rep inside e
 
     pub ringed-more : (x y d : ℕ) (one r : Span) → x ≡ node-after w s c → y ≡ node-before w s c → Widens h x one → Widens one y r → d ≡ nx w (rings-at s) c → Ringed w s a d m g r
     ringed-more x y d one r ex ey wx wy ed =
-        let kx : x < length (m .points) = around-after w s a c m (stray m a h) (k .around) inside x ex in
-        let ky : y < length (m .points) = around-before w s a c m (stray m a h) (k .around) inside y ey in
+        let kx : x < length (m .points) = around-after w s a c m (Stays m a h) (k .around) inside x ex in
+        let ky : y < length (m .points) = around-before w s a c m (Stays m a h) (k .around) inside y ey in
         let lx : one .low ≡ min (h .low) x = wx .low in
         let ly : r .low ≡ min (one .low) y = wy .low in
         let hx : one .high ≡ max (h .high) x = wx .high in
@@ -219,10 +223,10 @@ module _ (w : List ℕ) (s p a : ℕ) (m : Mesh) (rep : Rep w s p m) (an : a < l
         let hi : h .high ≤ r .high = omega (arith, hx, hy) in
         let x-in : In r x = record { from = omega (arith, lx, ly); to = omega (arith, hx, hy) } in
         let y-in : In r y = record { from = omega (arith, ly); to = omega (arith, hy) } in
-        let f : Around w s a c m (stray m a r) =
-        record { rest = k .around .rest; pos = k .around .pos; fails = λ v e o. stray-wider m a h r v (wider h r lo hi v) (k .around .fails v e o) } in
+        let f : Around w s a c m (Stays m a r) =
+        record { rest = k .around .rest; pos = k .around .pos; holds = λ v e o. stray-wider m a h r v (wider h r lo hi v) (k .around .holds v e o) } in
         record {
-          around = around-more w s a c m (stray m a r) f inside x y d ex ey (stray-in m a r x x-in) (stray-in m a r y y-in) ed;
+          around = around-more w s a c m (Stays m a r) f inside x y d ex ey (stray-in m a r x x-in) (stray-in m a r y y-in) ed;
           low = omega (arith, lo, k .low);
           high = omega (arith, hi, k .high);
           known = λ e. let z = k .known e in omega (arith, z, hx, hy, kx, ky);
@@ -230,7 +234,7 @@ module _ (w : List ℕ) (s p a : ℕ) (m : Mesh) (rep : Rep w s p m) (an : a < l
 
   pub ringed-end : (c : ℕ) (h : Span) → Ringed w s a c m g h → 4 * s ≤ c → Grows (length (m .points)) (Beside m a) g h
   ringed-end c h k l =
-      record { low = k .low; high = k .high; known = k .known; has = λ v e. stray-not m a h v (around-end w s a c m (stray m a h) (k .around) l v (e .0)) (e .1) }
+      record { low = k .low; high = k .high; known = k .known; has = λ v e. stray-not m a h v (around-end w s a c m (Stays m a h) (k .around) l v (e .0)) (e .1) }
 
 -- ---- both
 

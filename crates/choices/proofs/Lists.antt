@@ -5,7 +5,7 @@ use mathlib.Core.List.{List, [], _∷_, _++_, append-nil}
 use Prim.Native.Nat.{ℕ, zero, suc, _+_, _-_, _*_, _≤_, _<_}
 use native.Mathlib.Numerals.{add-one}
 use native.Mathlib.Omega.{arith}
-use lib.ListN.{length, getD, set, take, drop, length-set, length-append}
+use lib.ListN.{length, getD, set, take, drop, length-append}
 use lib.Seq.{drop-cons}
 use lib.Ieee.{Float}
 use Rattle.rings.specs.Rings.{Below}
@@ -23,7 +23,10 @@ use Rattle.lives.specs.Stack.{Lent, LiveTo, Stored}
 use Rattle.lives.proofs.Lists.{stored-kept, stored-snoc, slots-length}
 use Rattle.lives.proofs.Scratches.{scratch-rep}
 use Rattle.candidates.specs.Hand.{InHand}
-use Rattle.choices.specs.Choice.{CanChoose, ChosenTo, CanScan, Besides, ScannedTo, AddedTo}
+use Rattle.ideals.specs.Wishes.{Besides, AddedTo, CanList, WishedTo}
+use Rattle.ideals.specs.declared.wishes.Wish.{Wish}
+use Rattle.ideals.proofs.Givers.{besides-refl, besides-set}
+use Rattle.choices.specs.Choice.{CanChoose, ChosenTo, CanScan, ScannedTo}
 
 -- ---- lists of numbers
 
@@ -82,7 +85,7 @@ pub record Listing (w₀ w : List ℕ) (p b v r : ℕ) (f : ℕ → Bool) : Type
 
 listing-start : (w : List ℕ) (p b : ℕ) (f : ℕ → Bool) → Listing w w p b 0 0 f
 unfolding filter numbers
-listing-start w p b f = record { len = refl; stored = tt; besides = record { len = refl; before = λ i h. refl; behind = λ i h. refl } }
+listing-start w p b f = record { len = refl; stored = tt; besides = besides-refl w b p }
 
 -- up to n, where none is chosen from v on
 listing-on : (w₀ w : List ℕ) (p b v r n : ℕ) (f : ℕ → Bool) → v ≤ n → ((u : ℕ) → v ≤ u → u < n → f u ≡ false) → Listing w₀ w p b v r f → Listing w₀ w p b n r f
@@ -94,14 +97,6 @@ listing-on w₀ w p b v r n f h none g =
 -- the scan starts at v, where none is chosen before
 pub listing-from : (w : List ℕ) (p b v : ℕ) (f : ℕ → Bool) → ((u : ℕ) → u < v → f u ≡ false) → Listing w w p b v 0 f
 listing-from w p b v f none = listing-on w w p b 0 0 v f (omega arith) (λ u a c. none u c) (listing-start w p b f)
-
-besides-set : (w₀ w : List ℕ) (p b r v : ℕ) → r < p → Besides w₀ w b p → Besides w₀ (set w (b + r) v) b p
-besides-set w₀ w p b r v h k =
-    record {
-      len = length-set w (b + r) v ∙ k .len;
-      before = λ i a. off w (b + r) v i (omega arith) ∙ k .before i a;
-      behind = λ i a. off w (b + r) v i (omega arith) ∙ k .behind i a;
-    }
 
 module _ (w₀ w : List ℕ) (p b v r : ℕ) (f : ℕ → Bool) (g : Listing w₀ w p b v r f) (few : r ≤ v) (inside : v < p) (fits : b + p ≤ length w) where
   listing-hit : f v ≡ true → Listing w₀ (set w (b + r) v) p b (v + 1) (r + 1) f
@@ -141,9 +136,9 @@ listing-end w₀ w p n b v r f g few h none =
     }
 
 -- the region in hand stays
-pub hand-kept : (w w' : List ℕ) (q : List Float) (s p k b : ℕ) (m : Mesh) (g : List Live) → InHand w q s p k m g → near-at s p ≤ b → Besides w w' b p → InHand w' q s p k m g
-hand-kept w w' q s p k b m g h f z =
-    let n : length (slots g) ≡ k = slots-length g ∙ sym (h .len) in
+pub hand-kept : (w w' : List ℕ) (q : List Float) (s p k b n : ℕ) (m : Mesh) (g : List Live) → InHand w q s p k m g → near-at s p ≤ b → Besides w w' b n → InHand w' q s p k m g
+hand-kept w w' q s p k b n m g h f z =
+    let e : length (slots g) ≡ k = slots-length g ∙ sym (h .len) in
     let u : Under w w' (mesh-end s p) = record { len = z .len; low = λ i a. z .before i (omega arith) } in
     record {
       rep = rep-under w w' s p u m (h .rep);
@@ -160,10 +155,31 @@ pub live-hand : (w w' : List ℕ) (q : List Float) (s p used k : ℕ) (m : Mesh)
 live-hand w w' q s p used k m g l h =
     record { rep = scratch-rep w w' s p m (h .scratch) (l .rep); pts = l .pts; len = h .len; few = h .few; stored = h .stored; inner = h .inner }
 
-pub can-scan : (w w' : List ℕ) (q : List Float) (s p used n at a other seed k : ℕ) (m : Mesh) (g : List Live)
-    → CanChoose w q s p used n at a other seed m → LiveTo w w' s p k m g → CanScan w' q s p k n at a other m g
-can-scan w w' q s p used n at a other seed k m g c h =
-    record { hand = live-hand w w' q s p used k m g (c .lent) h; count = c .count; first = c .first; second = c .second; from = c .from; to = c .to }
+module _ (w w1 : List ℕ) (q : List Float) (s p used n at a other seed k : ℕ) (m : Mesh) (g : List Live) (c : CanChoose w q s p used n at a other seed m) (h : LiveTo w w1 s p k m g) (i : ℕ) (e : i ≡ stack-at s p) where
+  -- what is wanted may be listed from the stack on
+  pub can-wish : CanList w1 q s p a other i m
+  can-wish =
+      let l : length w1 ≡ length w = h .scratch .len in
+      let f : 64 * s + 8 * p ≤ length w = c .lent .rep .room .fits in
+      record {
+        rep = scratch-rep w w1 s p m (h .scratch) (c .lent .rep);
+        pts = c .lent .pts;
+        ends = record { node = omega (arith, c .first, c .count); end = omega (arith, c .second, c .count) };
+        from = omega (arith, e);
+        to = omega (arith, e, l, f);
+      }
+
+  pub can-scan : (w2 : List ℕ) (o : Wish) → WishedTo w1 w2 q s i o m a other → CanScan w2 q s p k n at a other i o m g
+  can-scan w2 o z =
+      record {
+        hand = hand-kept w1 w2 q s p k i (6 * s) m g (live-hand w w1 q s p used k m g (c .lent) h) (omega (arith, e)) (z .besides);
+        count = c .count;
+        first = c .first;
+        second = c .second;
+        from = c .from;
+        to = omega (arith, e, c .to);
+        wish = z .wished;
+      }
 
 stored-take : (w : List ℕ) (b : ℕ) (l : List ℕ) → b + length l ≤ length w → Stored w b l → take (length l) (drop b w) ≡ l
 stored-take w b [] h z = refl
@@ -176,13 +192,14 @@ stored-at w b [] i h z = absurd (omega (arith, h))
 stored-at w b (x ∷ l) zero h z = let e : b + 0 ≡ b = omega arith in ap (λ (j : ℕ). getD w j 0) e ∙ z .0
 stored-at w b (x ∷ l) (suc i) h z = let e : b + suc i ≡ b + 1 + i = omega arith in ap (λ (j : ℕ). getD w j 0) e ∙ stored-at w (b + 1) l i (omega arith) (z .1)
 
-pub chosen-to : (w w1 w2 : List ℕ) (q : List Float) (s p used n at a other seed k r : ℕ) (m : Mesh) (g : List Live) (cs : List ℕ)
-    → CanChoose w q s p used n at a other seed m → LiveTo w w1 s p k m g → ScannedTo w1 w2 p n at r cs → ChosenTo w w2 s p n at r cs
-chosen-to w w1 w2 q s p used n at a other seed k r m g cs c h z =
+pub chosen-to : (w w1 v w2 : List ℕ) (q : List Float) (s p used n at a other seed k r : ℕ) (m : Mesh) (g : List Live) (cs : List ℕ)
+    → CanChoose w q s p used n at a other seed m → LiveTo w w1 s p k m g → (i : ℕ) → i ≡ stack-at s p → Besides w1 v i (6 * s) → ScannedTo v w2 p n at r cs → ChosenTo w w2 s p n at r cs
+chosen-to w w1 v w2 q s p used n at a other seed k r m g cs c h j e y z =
     let b = z .besides in
+    let l3 : length v ≡ length w1 = y .len in
     let sc = h .scratch in
     let l1 : length w1 ≡ length w = sc .len in
-    let l2 : length w2 ≡ length w1 = b .len in
+    let l2 : length w2 ≡ length v = b .len in
     let rn : r ≡ length cs = z .len in
     let np : n ≤ p = omega (arith, c .count, c .lent .rep .points) in
     let f : 64 * s + 8 * p ≤ length w = c .lent .rep .room .fits in
@@ -195,9 +212,9 @@ chosen-to w w1 w2 q s p used n at a other seed k r m g cs c h z =
       are = ap (λ (j : ℕ). take j (drop at w2)) rn ∙ stored-take w2 at cs (omega arith) (z .stored);
       below = λ i x. subst (λ (j : ℕ). j < n) (sym (stored-at w2 at cs i (omega arith) (z .stored))) (below-at n cs i (z .known) (omega arith));
       spare = record {
-        len = l2 ∙ l1;
-        mesh = λ i x. b .before i (omega arith) ∙ sc .mesh i x;
-        before = λ i x y. b .before i y ∙ sc .rest i x (omega arith);
-        behind = λ i x y. b .behind i x ∙ sc .rest i (omega arith) y;
+        len = l2 ∙ l3 ∙ l1;
+        mesh = λ i x. b .before i (omega arith) ∙ y .before i (omega arith) ∙ sc .mesh i x;
+        before = λ i x d. b .before i d ∙ y .before i (omega arith) ∙ sc .rest i x (omega arith);
+        behind = λ i x d. b .behind i x ∙ y .before i (omega arith) ∙ sc .rest i (omega arith) d;
       };
     }

@@ -1,9 +1,9 @@
 -- The side nodes for an end of a front edge, listed in lent memory.
 use mathlib.Core.Path.{_≡_}
-use mathlib.Core.Bool.{Bool, true, cond, _&&_, _||_}
+use mathlib.Core.Bool.{Bool, true, _&&_, _||_}
 use mathlib.Core.List.{List}
-use Prim.Native.Nat.{ℕ, _+_, _^_, _<_, _≤_}
-use lib.ListN.{length, getD, set, take, drop}
+use Prim.Native.Nat.{ℕ, _+_, _<_, _≤_}
+use lib.ListN.{length, getD, take, drop}
 use lib.Ieee.{Float, binary64, fits}
 use Rattle.rings.specs.Rings.{Below}
 use Rattle.definition.specs.Floats.{_⊕_, _⊗_, _≺_}
@@ -13,10 +13,11 @@ use Rattle.definition.specs.Plane.{Vec}
 use Rattle.definition.specs.Cells.{Live, Mesh}
 use Rattle.definition.specs.Candidates.{walls, side-candidate}
 use Rattle.cells.specs.Layout.{marks-at, refused-at, near-at, stack-at}
-use Rattle.cells.specs.Walk.{one-if}
 use Rattle.lives.specs.Stack.{Lent, Stored}
 use Rattle.candidates.specs.Hand.{InHand}
 use Rattle.ideals.specs.Wanted.{by-edge}
+use Rattle.ideals.specs.Wishes.{Besides, Wished}
+use Rattle.ideals.specs.declared.wishes.Wish.{Wish}
 
 -- what a search for the side nodes of a asks: the mesh in lent memory, nodes and a seed, and p words from `at` on between the candidates' areas
 pub record CanChoose (w : List ℕ) (q : List Float) (s p used n at a other seed : ℕ) (m : Mesh) : Type 0 where
@@ -64,20 +65,15 @@ is-choice t m a other n target region v = by-edge t m a other target v || side-c
 
 -- ---- the scan
 
--- the region is in hand, and the nodes of the mesh are scanned
-pub record CanScan (w : List ℕ) (q : List Float) (s p k n at a other : ℕ) (m : Mesh) (region : List Live) : Type 0 where
+-- the region is in hand, what is wanted is listed from i on, and the nodes of the mesh are scanned
+pub record CanScan (w : List ℕ) (q : List Float) (s p k n at a other i : ℕ) (o : Wish) (m : Mesh) (region : List Live) : Type 0 where
   pub hand : InHand w q s p k m region
   pub count : n ≡ length (m .points)
   pub first : a < n
   pub second : other < n
   pub from : near-at s p ≤ at
-  pub to : at + p ≤ stack-at s p
-
--- nothing changed but the p words from b on
-pub record Besides (w w' : List ℕ) (b p : ℕ) : Type 0 where
-  pub len : length w' ≡ length w
-  pub before : (i : ℕ) → i < b → getD w' i 0 ≡ getD w i 0
-  pub behind : (i : ℕ) → b + p ≤ i → getD w' i 0 ≡ getD w i 0
+  pub to : at + p ≤ i
+  pub wish : Wished w q s i o m a other
 
 -- the r nodes cs stand from b on
 pub record ScannedTo (w w' : List ℕ) (p n b r : ℕ) (cs : List ℕ) : Type 0 where
@@ -86,14 +82,3 @@ pub record ScannedTo (w w' : List ℕ) (p n b r : ℕ) (cs : List ℕ) : Type 0 
   pub stored : Stored w' b cs
   pub known : Below n cs
   pub besides : Besides w w' b p
-
--- what a node more at the end of r asks
-pub record CanAdd (w : List ℕ) (b r v : ℕ) : Type 0 where
-  pub fits : b + r < length w
-  pub small : v < 2 ^ 32
-
--- v stands behind the r nodes from b on, if it counts
-pub record AddedTo (w w' : List ℕ) (b r v : ℕ) (yes : Bool) (k : ℕ) : Type 0 where
-  pub text : w' ≡ cond yes (set w (b + r) v) w
-  pub count : k ≡ r + one-if yes
-  pub most : k ≤ r + 1

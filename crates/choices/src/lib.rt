@@ -5,8 +5,12 @@ use crate::spans::span_for;
 use candidates::sides::SIDE_HIGH;
 use candidates::sides::ahead;
 use candidates::sides::side_candidate;
+use cells::layout::stack_at;
 use ideals::EDGE_HIGH;
 use ideals::edge_candidate;
+use ideals::wishes::Wish;
+use ideals::wishes::add;
+use ideals::wishes::wish_at;
 use lives::live::live_region;
 use plane::points::at;
 use plane::vectors::Vec;
@@ -24,8 +28,9 @@ ghost use Rattle.definition.specs.Candidates.{live-region, candidates};
 ghost use Rattle.plane.specs.Vectors.{vec};
 ghost use Rattle.lives.specs.Stack.{Lent, LiveTo};
 ghost use Rattle.candidates.specs.Hand.{InHand, Ends};
-ghost use Rattle.ideals.specs.Wanted.{turn, At};
-ghost use Rattle.choices.specs.Choice.{CanChoose, ChosenTo, too-far, square, FarFrom, is-choice, CanScan, ScannedTo, CanAdd, AddedTo};
+ghost use Rattle.ideals.specs.Wanted.{turn};
+ghost use Rattle.ideals.specs.Wishes.{Wished};
+ghost use Rattle.choices.specs.Choice.{CanChoose, ChosenTo, too-far, square, FarFrom, is-choice, CanScan, ScannedTo};
 
 // Side nodes are looked for within the side's highest factor and this many targets more.
 pub const SIDE_MARGIN: f64 = 0.8;
@@ -67,7 +72,7 @@ fn far_square(target: f64) -> f64
     1.0 / 0.0
 }
 
-// v is a side node for a: an edge candidate, or a side candidate in the region of k triangles in hand. A node whose distance has a square beyond `far` is neither, which is found out first.
+// v is a side node for a: an edge candidate by what is wanted, listed from b on, or a side candidate in the region of k triangles in hand. A node whose distance has a square beyond `far` is neither, which is found out first.
 fn is_choice(
     w: &[u32],
     q: &[f64],
@@ -80,17 +85,19 @@ fn is_choice(
     normal: Vec,
     target: f64,
     far: f64,
+    b: usize,
+    o: Wish,
     v: usize,
 ) -> bool
-    requires { ⌜ ((m : Mesh) × (region : List Live) × InHand (now w) (now q) s p k m region × At m a other × Ends m a v) ⌝ }
+    requires { ⌜ ((m : Mesh) × (region : List Live) × InHand (now w) (now q) s p k m region × Wished (now w) (now q) s b o m a other × Ends m a v) ⌝ }
     requires { ⌜ FarFrom far target ⌝ }
-    ensures { λ r. ⌜ ((m : Mesh) (region : List Live) → InHand (now (w .entry)) (now (q .entry)) s p k m region → At m a other → Ends m a v → r ≡ is-choice (turn left) m a other (vec normal) target region v) ⌝ }
+    ensures { λ r. ⌜ ((m : Mesh) (region : List Live) → InHand (now (w .entry)) (now (q .entry)) s p k m region → Wished (now (w .entry)) (now (q .entry)) s b o m a other → Ends m a v → r ≡ is-choice (turn left) m a other (vec normal) target region v) ⌝ }
 {
     let d = from_to(q, a, v);
     if square(d) > far {
         return false;
     }
-    if edge_candidate(w, q, s, p, a, other, target, left, v) {
+    if edge_candidate(w, q, s, p, a, other, target, left, b, o, v) {
         return true;
     }
     if !ahead(normal, d, target) {
@@ -99,19 +106,7 @@ fn is_choice(
     side_candidate(w, q, s, p, k, a, other, normal, target, v)
 }
 
-// The node v comes behind the r nodes from b on, if it counts; how many they are then.
-fn add(w: &mut [u32], b: usize, r: usize, v: usize, yes: bool) -> usize
-    requires { ⌜ CanAdd (now w) b r v ⌝ }
-    ensures { λ k. ⌜ AddedTo (now (w .entry)) (now (w .exit)) b r v yes k ⌝ }
-{
-    if yes {
-        w[b + r] = v as u32;
-        return r + 1;
-    }
-    r
-}
-
-// The side nodes for a, with the region of k triangles in hand, ascending, come to b; how many they are. Only nodes of that region and nodes that have an edge with a can be such.
+// The side nodes for a, with the region of k triangles in hand and what is wanted listed from i on, ascending, come to b; how many they are. Only nodes of that region and nodes that have an edge with a can be such.
 fn scan(
     w: &mut [u32],
     q: &[f64],
@@ -125,16 +120,18 @@ fn scan(
     other: usize,
     normal: Vec,
     target: f64,
+    i: usize,
+    o: Wish,
 ) -> usize
-    requires { ⌜ ((m : Mesh) × (region : List Live) × CanScan (now w) (now q) s p k n b a other m region) ⌝ }
-    ensures { λ r. ⌜ ((m : Mesh) (region : List Live) → CanScan (now (w .entry)) (now (q .entry)) s p k n b a other m region → ScannedTo (now (w .entry)) (now (w .exit)) p n b r (filter (is-choice (turn left) m a other (vec normal) target region) (below n))) ⌝ }
+    requires { ⌜ ((m : Mesh) × (region : List Live) × CanScan (now w) (now q) s p k n b a other i o m region) ⌝ }
+    ensures { λ r. ⌜ ((m : Mesh) (region : List Live) → CanScan (now (w .entry)) (now (q .entry)) s p k n b a other i o m region → ScannedTo (now (w .entry)) (now (w .exit)) p n b r (filter (is-choice (turn left) m a other (vec normal) target region) (below n))) ⌝ }
 {
     let far = far_square(target);
     let g = span_for(w, s, p, k, a);
     let mut r: usize = 0;
     let mut v: usize = g.low;
     while v <= g.high {
-        let yes = is_choice(w, q, s, p, k, left, a, other, normal, target, far, v);
+        let yes = is_choice(w, q, s, p, k, left, a, other, normal, target, far, i, o, v);
         r = add(w, b, r, v, yes);
         v += 1;
     }
@@ -170,7 +167,7 @@ fn region_around(
     )
 }
 
-// The side nodes for the end a of the edge from a to other, ascending, come to `at`; how many they are.
+// The side nodes for the end a of the edge from a to other, ascending, come to `at`; how many they are. What is wanted at a is listed where the stack of the region was.
 pub fn candidates(
     w: &mut [u32],
     q: &[f64],
@@ -190,5 +187,7 @@ pub fn candidates(
     ensures { λ k. ⌜ ((m : Mesh) → CanChoose (now (w .entry)) (now (q .entry)) s p used n at a other seed m → ChosenTo (now (w .entry)) (now (w .exit)) s p n at k (candidates base (turn left) m a other seed (vec normal) target)) ⌝ }
 {
     let k = region_around(w, q, s, p, used, seed, a, target);
-    scan(w, q, s, p, k, n, at, left, a, other, normal, target)
+    let i = stack_at(s, p);
+    let o = wish_at(w, q, s, p, a, other, i);
+    scan(w, q, s, p, k, n, at, left, a, other, normal, target, i, o)
 }

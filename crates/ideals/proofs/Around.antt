@@ -1,4 +1,4 @@
--- The ring of a node walked for a test of its neighbours.
+-- The ring of a node walked for something that holds of its neighbours.
 use mathlib.Core.Path.{_≡_, refl, ap, sym, _∙_, subst}
 use mathlib.Core.Logic.{_≢_}
 use mathlib.Core.Bool.{Bool, true, false, _||_, or-true, false≢true}
@@ -20,16 +20,16 @@ use Rattle.cells.proofs.Fronts.{filter-miss}
 use Rattle.cells.proofs.Walks.{start, there, can-read, pos-walk, seek-end, ended}
 use Rattle.ideals.proofs.Near.{side-end}
 
--- at the place c of the ring of a, the cells of `rest` are still to come; an edge a-v that none of them has fails the test
-pub record Around (w : List ℕ) (s a c : ℕ) (m : Mesh) (f : ℕ → Bool) : Type 0 where
+-- at the place c of the ring of a, the cells of `rest` are still to come; of the end v of an edge that none of them has, P holds
+pub record Around (w : List ℕ) (s a c : ℕ) (m : Mesh) (P : ℕ → Type 0) : Type 0 where
   pub rest : List Live
   pub pos : Pos w s (length (m .points)) a c rest
-  pub fails : (v : ℕ) → a ≢ v → own a v rest ≡ [] → f v ≡ false
+  pub holds : (v : ℕ) → a ≢ v → own a v rest ≡ [] → P v
 
-pub around-start : (w : List ℕ) (s p a : ℕ) (m : Mesh) (f : ℕ → Bool) → Rep w s p m → a < length (m .points)
-    → ((v : ℕ) → a ≢ v → owners m (key a v) ≡ [] → f v ≡ false) → Around w s a (nx w (rings-at s) (4 * s + a)) m f
+pub around-start : (w : List ℕ) (s p a : ℕ) (m : Mesh) (P : ℕ → Type 0) → Rep w s p m → a < length (m .points)
+    → ((v : ℕ) → a ≢ v → owners m (key a v) ≡ [] → P v) → Around w s a (nx w (rings-at s) (4 * s + a)) m P
 unfolding owners
-around-start w s p a m f r h z =
+around-start w s p a m P r h z =
     let n = length (m .points) in
     let ap : a < p = omega (arith, r .points) in
     let g = r .rings .rings a (omega arith) in
@@ -43,7 +43,7 @@ around-start w s p a m f r h z =
         from = start w s p a m r ap .from;
         few = omega (arith, l);
       };
-      fails = z;
+      holds = z;
     }
 
 contains-below : (n x : ℕ) (l : List ℕ) → contains l x ≡ true → Below n l → x < n
@@ -63,19 +63,19 @@ before-beside : (w : List ℕ) (s c : ℕ) → beside w s c (node-before w s c) 
 unfolding beside
 before-beside w s c = rw (eq-eqb (node-before w s c) (node-before w s c) refl) (or-true (eqb (node-after w s c) (node-before w s c)))
 
--- a test that both neighbours fail is failed by a node beside the corner
-beside-fails : (f : ℕ → Bool) (w : List ℕ) (s c v : ℕ) → f (node-after w s c) ≡ false → f (node-before w s c) ≡ false → beside w s c v ≡ true → f v ≡ false
+-- what holds of both neighbours holds of a node beside the corner
+beside-holds : (P : ℕ → Type 0) (w : List ℕ) (s c v : ℕ) → P (node-after w s c) → P (node-before w s c) → beside w s c v ≡ true → P v
 unfolding beside
-beside-fails f w s c v x y h = go (decide (node-after w s c) v)
+beside-holds P w s c v x y h = go (decide (node-after w s c) v)
   where
     at-before : (eqb (node-after w s c) v || eqb (node-before w s c) v) ≡ true → node-after w s c ≢ v → node-before w s c ≡ v
     at-before k d = eqb-true (node-before w s c) v (rw (ne-eqb (node-after w s c) v d) at k)
 
-    go : Same (node-after w s c) v → f v ≡ false
-    go (same e) = ap f (sym e) ∙ x
-    go (differ d) = ap f (sym (at-before h d)) ∙ y
+    go : Same (node-after w s c) v → P v
+    go (same e) = subst P e x
+    go (differ d) = subst P (at-before h d) y
 
-module _ (w : List ℕ) (s a c : ℕ) (m : Mesh) (f : ℕ → Bool) (k : Around w s a c m f) where
+module _ (w : List ℕ) (s a c : ℕ) (m : Mesh) (P : ℕ → Type 0) (k : Around w s a c m P) where
   around-known : c < 4 * s → (x : ℕ) → beside w s c x ≡ true → x < length (m .points)
   around-known h x b = go (decide a x)
     where
@@ -94,24 +94,24 @@ module _ (w : List ℕ) (s a c : ℕ) (m : Mesh) (f : ℕ → Bool) (k : Around 
   pub around-read : c < 4 * s → CanRead w s c
   around-read h = can-read w s (length (m .points)) a c (k .rest) (k .pos) h
 
-  pub around-more : c < 4 * s → (x y r : ℕ) → x ≡ node-after w s c → y ≡ node-before w s c → f x ≡ false → f y ≡ false → r ≡ nx w (rings-at s) c → Around w s a r m f
+  pub around-more : c < 4 * s → (x y r : ℕ) → x ≡ node-after w s c → y ≡ node-before w s c → P x → P y → r ≡ nx w (rings-at s) c → Around w s a r m P
   unfolding owns
-  around-more h x y r ex ey fx fy er =
+  around-more h x y r ex ey px py er =
       let t = there w s (length (m .points)) a c (k .rest) (k .pos) h in
       record {
         rest = t .l;
         pos = subst (λ (z : ℕ). Pos w s (length (m .points)) a z (t .l)) (sym er) (t .then);
-        fails = λ v d o. go v d o (beside w s c v) refl;
+        holds = λ v d o. go v d o (beside w s c v) refl;
       }
     where
-      go : (v : ℕ) → a ≢ v → own a v (there w s (length (m .points)) a c (k .rest) (k .pos) h .l) ≡ [] → (b : Bool) → beside w s c v ≡ b → f v ≡ false
-      go v d o true b = beside-fails f w s c v (ap f (sym ex) ∙ fx) (ap f (sym ey) ∙ fy) b
+      go : (v : ℕ) → a ≢ v → own a v (there w s (length (m .points)) a c (k .rest) (k .pos) h .l) ≡ [] → (b : Bool) → beside w s c v ≡ b → P v
+      go v d o true b = beside-holds P w s c v (subst P ex px) (subst P ey py) b
       go v d o false b =
           let t = there w s (length (m .points)) a c (k .rest) (k .pos) h in
-          k .fails v d (t .own-is v d ∙ filter-miss (owns (key a v)) (t .e) (t .l) (t .edge v d ∙ b) ∙ o)
+          k .holds v d (t .own-is v d ∙ filter-miss (owns (key a v)) (t .e) (t .l) (t .edge v d ∙ b) ∙ o)
 
-  pub around-end : 4 * s ≤ c → (v : ℕ) → a ≢ v → f v ≡ false
-  around-end h v d = k .fails v d (ended w s (length (m .points)) a v c (k .rest) (seek-end w s (length (m .points)) a c (k .rest) (k .pos) h v d) h)
+  pub around-end : 4 * s ≤ c → (v : ℕ) → a ≢ v → P v
+  around-end h v d = k .holds v d (ended w s (length (m .points)) a v c (k .rest) (seek-end w s (length (m .points)) a c (k .rest) (k .pos) h v d) h)
 
   wide-pos : (p z : ℕ) (l : List Live) → length (m .points) ≤ p → Room w s p → Pos w s (length (m .points)) a z l → Pos w s p a z l
   wide-pos p z l h r q =

@@ -12,13 +12,13 @@ use borrow.Author.Tests.{eq-eqb, ne-eqb}
 use Rattle.rings.proofs.Lists.{Same, same, differ, decide}
 use Rattle.definition.specs.Lists.{filter, any, first, flat-map, numbers, below}
 use Rattle.definition.specs.Floats.{_≼_}
-use Rattle.definition.specs.Numbers.{Turn, edge-dot, tiny-length}
-use Rattle.definition.specs.Plane.{Vec, norm, over, dot}
+use Rattle.definition.specs.Numbers.{Turn, tiny-length}
+use Rattle.definition.specs.Plane.{Vec, norm, over}
 use Rattle.definition.specs.Cells.{Live, Mesh, key, live-tri, owns, owners, tri-owners, tri-owner, cells-at, front-owners, is-front}
 use Rattle.definition.specs.Candidates.{toward, ideal-by, turned, or-turned, ideals, edge-candidate}
-use Rattle.ideals.specs.Wanted.{close, wanted-by, some-wanted, near-ideal, edge-reach, by-edge}
+use Rattle.ideals.specs.Wanted.{near, wanted-by, every, some-wanted, near-ideal, edge-reach, by-edge}
 use Rattle.ideals.proofs.Near.{near-owners}
-use Rattle.ideals.proofs.Halves.{by-same, by-other, by-inner}
+use Rattle.ideals.proofs.Halves.{by-other, by-inner}
 
 -- ---- lists
 
@@ -75,32 +75,28 @@ none-any {A} f (y ∷ l) h = go (f y) refl (none-any f l)
 
 -- ---- some front edge
 
-module _ (m : Mesh) (a other : ℕ) (u : Vec) (every : Bool) (e : Vec) where
-  some-each : some-wanted m a other u every e ≡ any (wanted-by m a other u every e) (numbers 0 (length (m .points)))
+module _ (f : Vec → Bool) (m : Mesh) (a other : ℕ) (u : Vec) where
+  some-each : some-wanted f m a other u ≡ any (wanted-by f m a other u) (numbers 0 (length (m .points)))
   unfolding below
-  some-each = any-flat (close every e) (ideal-by m a other u (cells-at m a)) (numbers 0 (length (m .points)))
+  some-each = any-flat f (ideal-by m a other u (cells-at m a)) (numbers 0 (length (m .points)))
 
-  pub some-hit : (v : ℕ) → v < length (m .points) → true ≡ wanted-by m a other u every e v → true ≡ some-wanted m a other u every e
-  some-hit v h k = sym (some-each ∙ any-hit (wanted-by m a other u every e) 0 (length (m .points)) v (omega arith) (omega arith) (sym k))
+  pub some-hit : (v : ℕ) → v < length (m .points) → wanted-by f m a other u v ≡ true → some-wanted f m a other u ≡ true
+  some-hit v h k = some-each ∙ any-hit (wanted-by f m a other u) 0 (length (m .points)) v (omega arith) (omega arith) k
 
-  pub some-none : ((v : ℕ) → a ≢ v → wanted-by m a other u every e v ≡ false) → false ≡ some-wanted m a other u every e
-  some-none h = sym (some-each ∙ any-miss (wanted-by m a other u every e) 0 (length (m .points)) (λ v. go v (decide v a)))
-    where
-      go : (v : ℕ) → Same v a → wanted-by m a other u every e v ≡ false
-      go v (same q) = sym (by-same m a other u every e v q)
-      go v (differ q) = h v (λ z. q (sym z))
+  pub some-none : ((v : ℕ) → wanted-by f m a other u v ≡ false) → some-wanted f m a other u ≡ false
+  some-none h = some-each ∙ any-miss (wanted-by f m a other u) 0 (length (m .points)) h
 
   inner : (v : ℕ) → owners m (key a v) ≡ [] → is-front m (key a v) ≡ false
   unfolding is-front front-owners filter
   inner v o = rw o
 
   -- an edge that nobody owns gives no ideal
-  pub bare-fails : (v : ℕ) → a ≢ v → owners m (key a v) ≡ [] → wanted-by m a other u every e v ≡ false
+  pub bare-fails : (v : ℕ) → a ≢ v → owners m (key a v) ≡ [] → wanted-by f m a other u v ≡ false
   bare-fails v d o = go (decide v other)
     where
-      go : Same v other → wanted-by m a other u every e v ≡ false
-      go (same q) = sym (by-other m a other u every e v (λ z. d (sym z)) q)
-      go (differ q) = sym (by-inner m a other u every e v (λ z. d (sym z)) q (inner v o))
+      go : Same v other → wanted-by f m a other u v ≡ false
+      go (same q) = sym (by-other f m a other u v (λ z. d (sym z)) q)
+      go (differ q) = sym (by-inner f m a other u v (λ z. d (sym z)) q (inner v o))
 
 -- ---- near an ideal
 
@@ -109,30 +105,28 @@ unfolding any or-turned
 or-some g t u [] h = absurd (false≢true h)
 or-some g t u (i ∷ l) h = h
 
-or-other : (g : Vec → Bool) (e : Vec) (t : Turn) (u : Vec) (l : List Vec) → any g l ≡ false → any (close true e) l ≡ true → any g (or-turned t u l) ≡ false
+or-other : (g : Vec → Bool) (t : Turn) (u : Vec) (l : List Vec) → any g l ≡ false → any every l ≡ true → any g (or-turned t u l) ≡ false
 unfolding any or-turned
-or-other g e t u [] h k = absurd (false≢true k)
-or-other g e t u (i ∷ l) h k = h
+or-other g t u [] h k = absurd (false≢true k)
+or-other g t u (i ∷ l) h k = h
 
-or-alone : (g : Vec → Bool) (e : Vec) (t : Turn) (u : Vec) (l : List Vec) → any (close true e) l ≡ false → any g (or-turned t u l) ≡ g (turned t u)
+or-alone : (g : Vec → Bool) (t : Turn) (u : Vec) (l : List Vec) → any every l ≡ false → any g (or-turned t u l) ≡ g (turned t u)
 unfolding any or-turned
-or-alone g e t u [] h = or-false (g (turned t u))
-or-alone g e t u (i ∷ l) h = absurd (false≢true (sym h))
+or-alone g t u [] h = or-false (g (turned t u))
+or-alone g t u (i ∷ l) h = absurd (false≢true (sym h))
 
 module _ (t : Turn) (m : Mesh) (a other : ℕ) (u e : Vec) where
-  pub near-some : true ≡ some-wanted m a other u false e → true ≡ near-ideal t m a other u e
+  pub near-some : some-wanted (near e) m a other u ≡ true → near-ideal t m a other u e ≡ true
   unfolding ideals
-  near-some h = sym (or-some (λ i. edge-dot ≼ dot e i) t u (flat-map (ideal-by m a other u (cells-at m a)) (below (length (m .points)))) (sym h))
+  near-some h = or-some (near e) t u (flat-map (ideal-by m a other u (cells-at m a)) (below (length (m .points)))) h
 
-  pub near-other : false ≡ some-wanted m a other u false e → true ≡ some-wanted m a other u true e → false ≡ near-ideal t m a other u e
+  pub near-other : some-wanted (near e) m a other u ≡ false → some-wanted every m a other u ≡ true → near-ideal t m a other u e ≡ false
   unfolding ideals
-  near-other h k = sym (or-other (λ i. edge-dot ≼ dot e i) e t u (flat-map (ideal-by m a other u (cells-at m a)) (below (length (m .points)))) (sym h) (sym k))
+  near-other h k = or-other (near e) t u (flat-map (ideal-by m a other u (cells-at m a)) (below (length (m .points)))) h k
 
-  pub near-turned : (x : Float) (o : Vec) → o ≡ turned t u → x ≡ dot e o → false ≡ some-wanted m a other u true e → (edge-dot ≼ x) ≡ near-ideal t m a other u e
+  pub near-turned : some-wanted every m a other u ≡ false → near-ideal t m a other u e ≡ near e (turned t u)
   unfolding ideals
-  near-turned x o eo ex k =
-      ap (λ (y : Float). edge-dot ≼ y) (ex ∙ ap (dot e) eo)
-      ∙ sym (or-alone (λ i. edge-dot ≼ dot e i) e t u (flat-map (ideal-by m a other u (cells-at m a)) (below (length (m .points)))) (sym k))
+  near-turned k = or-alone (near e) t u (flat-map (ideal-by m a other u (cells-at m a)) (below (length (m .points)))) k
 
 -- ---- a live side
 

@@ -1,7 +1,7 @@
 -- The direction halfway between two units, and the ideal that a front edge gives.
-use mathlib.Core.Path.{_≡_, refl, ap, sym, _∙_, subst}
+use mathlib.Core.Path.{_≡_, refl, ap, sym, _∙_}
 use mathlib.Core.Logic.{_≢_}
-use mathlib.Core.Bool.{Bool, true, false, not, cond, _&&_, _||_, or-false}
+use mathlib.Core.Bool.{Bool, true, false, not, cond, _&&_, _||_, or-false, false≢true}
 use mathlib.Core.List.{List, [], _∷_}
 use Prim.Native.Nat.{ℕ, _<_}
 use native.Mathlib.Omega.{arith}
@@ -11,55 +11,79 @@ use lib.Ieee.{Float}
 use borrow.Author.Tests.{eq-eqb, ne-eqb}
 use Rattle.definition.specs.Floats.{_≺_, _≼_}
 use Rattle.definition.specs.Lists.{filter, any}
-use Rattle.definition.specs.Numbers.{edge-dot, ideal-sum, tiny-length}
-use Rattle.definition.specs.Plane.{Node, Vec, norm, over, dot, from-to}
+use Rattle.definition.specs.Numbers.{ideal-sum, tiny-length}
+use Rattle.definition.specs.Plane.{Node, Vec, norm, over, from-to}
 use Rattle.definition.specs.Cells.{Mesh, key, node-at, owns, cells-at, front-owners, is-front}
 use Rattle.definition.specs.Candidates.{toward, plus, halfway, ideal-by}
 use Rattle.definition.specs.Call.{point-at}
 use Rattle.cells.specs.Rep.{Pts}
 use Rattle.plane.specs.Points.{Within, node-of}
-use Rattle.ideals.specs.Wanted.{close, wanted-by, At}
+use Rattle.ideals.specs.Wanted.{wanted-by, every, gives, At}
+use Rattle.ideals.specs.Wishes.{between, ideal, ideal-from}
 use Rattle.ideals.proofs.Near.{near-front}
 
 -- ---- halfway
 
-module _ (u v e b : Vec) (n : Float) (every : Bool) (eb : b ≡ plus u v) (en : n ≡ norm b) where
-  pub half-none : (ideal-sum ≺ n) ≡ false → false ≡ any (close every e) (halfway u v)
-  unfolding halfway any
-  half-none h = rw (← eb, ← en, h)
-
-  pub half-every : (ideal-sum ≺ n) ≡ true → every ≡ true → true ≡ any (close every e) (halfway u v)
-  unfolding halfway any
-  half-every h k = rw (← eb, ← en, h, k)
-
-  pub half-near : (o : Vec) (z : Float) → o ≡ over b n → z ≡ dot e o → (ideal-sum ≺ n) ≡ true → every ≡ false
-      → (edge-dot ≼ z) ≡ any (close every e) (halfway u v)
-  unfolding halfway any
-  half-near o z eo ez h k = rw (← eb, ← en, h, k, ← eo, ← ez) (sym (or-false (edge-dot ≼ z)))
+-- two units give an ideal where their sum is long enough
+pub half-gives : (u v b : Vec) (n : Float) → b ≡ plus u v → n ≡ norm b → (ideal-sum ≺ n) ≡ any every (halfway u v)
+unfolding halfway any
+half-gives u v b n eb en = rw (← eb, ← en) (go (ideal-sum ≺ n))
+  where
+    go : (y : Bool) → y ≡ any every (cond y (over b n ∷ []) [])
+    go true = refl
+    go false = refl
 
 -- ---- a front edge
 
-module _ (m : Mesh) (a other : ℕ) (u : Vec) (every : Bool) (e : Vec) (v : ℕ) where
-  pub by-same : v ≡ a → false ≡ wanted-by m a other u every e v
+module _ (f : Vec → Bool) (m : Mesh) (a other : ℕ) (u : Vec) (v : ℕ) where
+  pub by-same : v ≡ a → false ≡ wanted-by f m a other u v
   unfolding ideal-by any
   by-same h = rw (eq-eqb v a h)
 
-  pub by-other : v ≢ a → v ≡ other → false ≡ wanted-by m a other u every e v
+  pub by-other : v ≢ a → v ≡ other → false ≡ wanted-by f m a other u v
   unfolding ideal-by any
   by-other n h = rw (ne-eqb v a n, eq-eqb v other h)
 
-  pub by-inner : v ≢ a → v ≢ other → is-front m (key a v) ≡ false → false ≡ wanted-by m a other u every e v
+  pub by-inner : v ≢ a → v ≢ other → is-front m (key a v) ≡ false → false ≡ wanted-by f m a other u v
   unfolding ideal-by any
   by-inner n k h = rw (ne-eqb v a n, ne-eqb v other k, near-front m a v, h)
 
-  pub by-tiny : v ≢ a → v ≢ other → is-front m (key a v) ≡ true → (norm (toward m a v) ≼ tiny-length) ≡ true → false ≡ wanted-by m a other u every e v
+  pub by-tiny : v ≢ a → v ≢ other → is-front m (key a v) ≡ true → (norm (toward m a v) ≼ tiny-length) ≡ true → false ≡ wanted-by f m a other u v
   unfolding ideal-by any
   by-tiny n k h l = rw (ne-eqb v a n, ne-eqb v other k, near-front m a v, h, l)
 
   pub by-half : (x : Bool) → v ≢ a → v ≢ other → is-front m (key a v) ≡ true → (norm (toward m a v) ≼ tiny-length) ≡ false
-      → x ≡ any (close every e) (halfway u (over (toward m a v) (norm (toward m a v)))) → x ≡ wanted-by m a other u every e v
+      → x ≡ any f (halfway u (over (toward m a v) (norm (toward m a v)))) → x ≡ wanted-by f m a other u v
   unfolding ideal-by
   by-half x n k h l g = rw (ne-eqb v a n, ne-eqb v other k, near-front m a v, h, l) g
+
+-- ---- an edge that gives an ideal
+
+only : (x : Vec) (c d : Bool) → any every (cond c (cond d (x ∷ []) []) []) ≡ true → cond c (cond d (x ∷ []) []) [] ≡ x ∷ []
+unfolding any
+only x true true h = refl
+only x true false h = absurd (false≢true h)
+only x false d h = absurd (false≢true h)
+
+none-pass : (f : Vec → Bool) (l : List Vec) → any every l ≡ false → any f l ≡ false
+unfolding any
+none-pass f [] h = refl
+none-pass f (x ∷ l) h = absurd (false≢true (sym h))
+
+module _ (m : Mesh) (a other : ℕ) (u : Vec) (v : ℕ) where
+  ideal-is : gives m a other u v ≡ true → ideal-by m a other u (cells-at m a) v ≡ ideal m a u v ∷ []
+  unfolding ideal-by halfway between
+  ideal-is h =
+      only (ideal m a u v) (not (eqb v a) && not (eqb v other) && front-owners (filter (owns (key a v)) (cells-at m a)) && not (norm (toward m a v) ≼ tiny-length))
+      (ideal-sum ≺ norm (plus u (over (toward m a v) (norm (toward m a v))))) h
+
+  -- it passes a test where its ideal does
+  pub gives-passes : (f : Vec → Bool) → gives m a other u v ≡ true → wanted-by f m a other u v ≡ f (ideal m a u v)
+  unfolding any
+  gives-passes f h = rw (ideal-is h) (or-false (f (ideal m a u v)))
+
+  pub gives-none : (f : Vec → Bool) → gives m a other u v ≡ false → wanted-by f m a other u v ≡ false
+  gives-none f h = none-pass f (ideal-by m a other u (cells-at m a) v) h
 
 -- the way from a to v, by the points as they are read
 pub toward-read : (q : List Float) (p : ℕ) (m : Mesh) → Pts q p m → (a v : ℕ) → At m a v → (d : Vec) → d ≡ from-to (point-at q a) (point-at q v) → d ≡ toward m a v
@@ -70,3 +94,6 @@ toward-read q p m k a v e d h =
 
 pub within : (q : List Float) (p : ℕ) (m : Mesh) → Pts q p m → (v : ℕ) → v < length (m .points) → Within q v
 within q p m k v h = omega (arith, k .fits, k .few)
+
+pub ideal-read : (q : List Float) (p : ℕ) (m : Mesh) → Pts q p m → (a v : ℕ) → At m a v → (u : Vec) → ideal-from q a u v ≡ ideal m a u v
+ideal-read q p m k a v e u = ap (between u) (toward-read q p m k a v e (from-to (point-at q a) (point-at q v)) refl)

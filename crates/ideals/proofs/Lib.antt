@@ -1,4 +1,7 @@
+pub mod Bits
 pub mod Near
 pub mod Halves
 pub mod Around
 pub mod Closes
+pub mod Givers
+pub mod Nears

@@ -1,8 +1,6 @@
 -- Ideals asked one at a time.
-use mathlib.Core.Path.{_≡_}
-use mathlib.Core.Bool.{Bool, true, false, not, _&&_, _||_}
-use mathlib.Core.List.{List}
-use Prim.Native.Nat.{ℕ, _<_, _≤_}
+use mathlib.Core.Bool.{Bool, true, false, not, _&&_}
+use Prim.Native.Nat.{ℕ, _<_}
 use lib.ListN.{length}
 use lib.Ieee.{Float}
 use Rattle.definition.specs.Lists.{any, below, flat-map}
@@ -12,17 +10,25 @@ use Rattle.definition.specs.Plane.{Vec, norm, over, dot}
 use Rattle.definition.specs.Cells.{Mesh, cells-at}
 use Rattle.definition.specs.Candidates.{toward, ideal-by, ideals, edge-candidate}
 
--- the ideal i is near the unit e, or any does
-abbrev pub close : Bool → Vec → Vec → Bool
-close every e i = every || (edge-dot ≼ dot e i)
+-- the ideal i is near the unit e
+abbrev pub near : Vec → Vec → Bool
+near e i = edge-dot ≼ dot e i
 
--- the front edge from a to v gives such an ideal; u is the unit from a to other
-abbrev pub wanted-by : Mesh → ℕ → ℕ → Vec → Bool → Vec → ℕ → Bool
-wanted-by m a other u every e v = any (close every e) (ideal-by m a other u (cells-at m a) v)
+-- the front edge from a to v gives an ideal that passes the test; u is the unit from a to other
+abbrev pub wanted-by : (Vec → Bool) → Mesh → ℕ → ℕ → Vec → ℕ → Bool
+wanted-by f m a other u v = any f (ideal-by m a other u (cells-at m a) v)
 
--- some front edge at a does
-abbrev pub some-wanted : Mesh → ℕ → ℕ → Vec → Bool → Vec → Bool
-some-wanted m a other u every e = any (close every e) (flat-map (ideal-by m a other u (cells-at m a)) (below (length (m .points))))
+-- every ideal passes
+abbrev pub every : Vec → Bool
+every i = true
+
+-- it gives an ideal
+abbrev pub gives : Mesh → ℕ → ℕ → Vec → ℕ → Bool
+gives m a other u v = wanted-by every m a other u v
+
+-- some front edge at a gives an ideal that passes
+abbrev pub some-wanted : (Vec → Bool) → Mesh → ℕ → ℕ → Vec → Bool
+some-wanted f m a other u = any f (flat-map (ideal-by m a other u (cells-at m a)) (below (length (m .points))))
 
 -- a quarter turn by its flag
 abbrev pub turn : Bool → Turn
@@ -36,7 +42,7 @@ pub record At (m : Mesh) (a v : ℕ) : Type 0 where
 
 -- the unit e is near an ideal; u is the unit from a to other
 abbrev pub near-ideal : Turn → Mesh → ℕ → ℕ → Vec → Vec → Bool
-near-ideal t m a other u e = any (λ i. edge-dot ≼ dot e i) (ideals t m a other u (cells-at m a))
+near-ideal t m a other u e = any (near e) (ideals t m a other u (cells-at m a))
 
 -- a length between the edge factors
 abbrev pub edge-reach : Float → Float → Bool

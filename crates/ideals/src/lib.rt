@@ -1,33 +1,27 @@
-// Ideals at an end of a front edge: the directions in which a side is wanted.
-use cells::find::is_front;
-use cells::find::node_after;
-use cells::find::node_before;
+// Edge candidates at an end of a front edge: the edges near an ideal, which is a direction in which a side is wanted.
+pub mod wishes;
+mod words;
+
+use crate::wishes::Wish;
+use crate::wishes::ideal_toward;
+use crate::words::get;
 use cells::find::tri_owner;
-use cells::layout::BEFORE;
-use cells::layout::CORNERS;
 use plane::vectors::Vec;
 use plane::vectors::dot;
 use plane::vectors::from_to;
 use plane::vectors::norm;
 use plane::vectors::over;
-use rings::next;
+use rings::wide;
 ghost use mathlib.Core.Path.{_≡_};
-ghost use mathlib.Core.Bool.{_||_};
-ghost use Prim.Native.Nat.{_<_, _≤_};
+ghost use Prim.Native.Nat.{ℕ, _+_, _≤_};
 ghost use lib.ListN.{length};
-ghost use Rattle.definition.specs.Lists.{any};
-ghost use Rattle.definition.specs.Plane.{over};
 ghost use Rattle.definition.specs.Cells.{Mesh};
-ghost use Rattle.definition.specs.Candidates.{plus, halfway, turned};
+ghost use Rattle.definition.specs.Candidates.{turned};
 ghost use Rattle.cells.specs.Rep.{Rep, Pts};
 ghost use Rattle.plane.specs.Vectors.{vec};
-ghost use Rattle.ideals.specs.Wanted.{close, wanted-by, some-wanted, turn, At, near-ideal, edge-reach, by-edge};
-
-// A length counts as zero up to this.
-pub const TINY_LENGTH: f64 = 1e-12;
-
-// The least sum of two units that gives an ideal.
-pub const IDEAL_SUM: f64 = 0.2;
+ghost use Rattle.ideals.specs.Words.{Numbers, vec-at};
+ghost use Rattle.ideals.specs.Wanted.{turn, At, near, near-ideal, edge-reach, by-edge};
+ghost use Rattle.ideals.specs.Wishes.{Wished, CanTest, CanGet, Tested, kept-test, node-test};
 
 // The least dot product of an edge candidate's unit with an ideal.
 pub const EDGE_DOT: f64 = 0.866;
@@ -36,16 +30,6 @@ pub const EDGE_DOT: f64 = 0.866;
 pub const EDGE_LOW: f64 = 0.4;
 
 pub const EDGE_HIGH: f64 = 2.5;
-
-// The sum of two vectors.
-fn plus(u: Vec, v: Vec) -> Vec
-    ensures { λ r. ⌜ vec r ≡ plus (vec u) (vec v) ⌝ }
-{
-    Vec {
-        dx: u.dx + v.dx,
-        dy: u.dy + v.dy,
-    }
-}
 
 // A quarter turn of a vector.
 pub fn turned(left: bool, u: Vec) -> Vec
@@ -63,104 +47,76 @@ pub fn turned(left: bool, u: Vec) -> Vec
     }
 }
 
-// The direction halfway between the units u and v is an ideal, and near e; with `every` it need not be near.
-fn half_close(u: Vec, v: Vec, every: bool, e: Vec) -> bool
-    ensures { λ r. ⌜ r ≡ any (close every (vec e)) (halfway (vec u) (vec v)) ⌝ }
+// The direction i is near the unit e.
+fn is_near(e: Vec, i: Vec) -> bool
+    ensures { λ r. ⌜ r ≡ near (vec e) (vec i) ⌝ }
 {
-    let b = plus(u, v);
-    let n = norm(b);
-    if n > IDEAL_SUM {
-        if every {
+    dot(e, i) >= EDGE_DOT
+}
+
+// The vector that stands at `at`.
+fn vec_at(w: &[u32], at: usize) -> Vec
+    requires { ⌜ at + 4 ≤ length (now w) ⌝ }
+    requires { ⌜ Numbers (now w) at ⌝ }
+    ensures { λ r. ⌜ vec r ≡ vec-at (now (w .entry)) at ⌝ }
+{
+    Vec {
+        dx: get(w, at),
+        dy: get(w, at + 2),
+    }
+}
+
+// One of the k ideals that stand from b on is near e.
+fn kept_near(w: &[u32], b: usize, k: usize, e: Vec) -> bool
+    requires { ⌜ CanGet (now w) b k ⌝ }
+    ensures { λ r. ⌜ Tested (kept-test (now (w .entry)) b (vec e)) 0 k r ⌝ }
+{
+    let mut i: usize = 0;
+    while i < k {
+        if is_near(e, vec_at(w, b + 4 * i)) {
             return true;
         }
-        return dot(e, over(b, n)) >= EDGE_DOT;
+        i += 1;
     }
     false
 }
 
-// The front edge from a to v, if it is one, gives an ideal that is near e. Its owners are sought around v: the walk is around a already.
-fn wanted_by(
-    w: &[u32],
-    q: &[f64],
-    s: usize,
-    p: usize,
-    a: usize,
-    other: usize,
-    u: Vec,
-    every: bool,
-    e: Vec,
-    v: usize,
-) -> bool
-    requires { ⌜ ((m : Mesh) × Rep (now w) s p m × Pts (now q) p m × At m a v) ⌝ }
-    ensures { λ r. ⌜ ((m : Mesh) → Rep (now (w .entry)) s p m → Pts (now (q .entry)) p m → At m a v → r ≡ wanted-by m a other (vec u) every (vec e) v) ⌝ }
+// One of the nodes from b on, from place k to place r, gives an ideal that is near e.
+fn rest_near(w: &[u32], q: &[f64], a: usize, u: Vec, b: usize, k: usize, r: usize, e: Vec) -> bool
+    requires { ⌜ CanTest (now w) (now q) a b r ⌝ }
+    ensures { λ y. ⌜ Tested (node-test (now (w .entry)) (now (q .entry)) a (vec u) b (vec e)) k r y ⌝ }
 {
-    if v == a {
-        return false;
-    }
-    if v == other {
-        return false;
-    }
-    if is_front(w, s, p, v, a) {
-        let d = from_to(q, a, v);
-        let n = norm(d);
-        if n <= TINY_LENGTH {
-            return false;
+    let mut i = k;
+    while i < r {
+        if is_near(e, ideal_toward(q, a, u, wide(w[b + i]))) {
+            return true;
         }
-        return half_close(u, over(d, n), every, e);
+        i += 1;
     }
     false
 }
 
-// Some front edge at a gives an ideal that is near e.
-fn some_wanted(
-    w: &[u32],
-    q: &[f64],
-    s: usize,
-    p: usize,
-    a: usize,
-    other: usize,
-    u: Vec,
-    every: bool,
-    e: Vec,
-) -> bool
-    requires { ⌜ ((m : Mesh) × Rep (now w) s p m × Pts (now q) p m × At m a other) ⌝ }
-    ensures { λ r. ⌜ ((m : Mesh) → Rep (now (w .entry)) s p m → Pts (now (q .entry)) p m → At m a other → r ≡ some-wanted m a other (vec u) every (vec e)) ⌝ }
-{
-    let mut c = next(w, BEFORE * s, CORNERS * s + p, CORNERS * s + a);
-    while c < CORNERS * s {
-        if wanted_by(w, q, s, p, a, other, u, every, e, node_after(w, s, c)) {
-            return true;
-        }
-        if wanted_by(w, q, s, p, a, other, u, every, e, node_before(w, s, c)) {
-            return true;
-        }
-        c = next(w, BEFORE * s, CORNERS * s + p, c);
-    }
-    false
-}
-
-// The unit e is near an ideal at a; with none from other front edges, near u turned a quarter.
+// The unit e is near an ideal of those wanted at a; with none from other front edges, near the unit to the other end, turned a quarter.
 fn near_ideal(
     w: &[u32],
     q: &[f64],
     s: usize,
-    p: usize,
     a: usize,
-    other: usize,
-    u: Vec,
+    b: usize,
+    o: Wish,
     left: bool,
     e: Vec,
 ) -> bool
-    requires { ⌜ ((m : Mesh) × Rep (now w) s p m × Pts (now q) p m × At m a other) ⌝ }
-    ensures { λ r. ⌜ ((m : Mesh) → Rep (now (w .entry)) s p m → Pts (now (q .entry)) p m → At m a other → r ≡ near-ideal (turn left) m a other (vec u) (vec e)) ⌝ }
+    requires { ⌜ ((m : Mesh) × (p : ℕ) × (other : ℕ) × Pts (now q) p m × Wished (now w) (now q) s b o m a other) ⌝ }
+    ensures { λ r. ⌜ ((m : Mesh) (p other : ℕ) → Pts (now (q .entry)) p m → Wished (now (w .entry)) (now (q .entry)) s b o m a other → r ≡ near-ideal (turn left) m a other (vec (o .unit)) (vec e)) ⌝ }
 {
-    if some_wanted(w, q, s, p, a, other, u, false, e) {
+    if o.count == 0 {
+        return is_near(e, turned(left, o.unit));
+    }
+    if kept_near(w, b + 2 * s, o.kept, e) {
         return true;
     }
-    if some_wanted(w, q, s, p, a, other, u, true, e) {
-        return false;
-    }
-    dot(e, turned(left, u)) >= EDGE_DOT
+    rest_near(w, q, a, o.unit, b, o.kept, o.count, e)
 }
 
 // A length between the edge factors.
@@ -173,7 +129,7 @@ fn edge_reach(d: f64, target: f64) -> bool
     !(d > EDGE_HIGH * target)
 }
 
-// v is the end of an edge at a that a live triangle owns, of a length between the edge factors, near an ideal. With a and other in one place it is not.
+// v is the end of an edge at a that a live triangle owns, of a length between the edge factors, near an ideal of those wanted.
 pub fn edge_candidate(
     w: &[u32],
     q: &[f64],
@@ -183,11 +139,16 @@ pub fn edge_candidate(
     other: usize,
     target: f64,
     left: bool,
+    b: usize,
+    o: Wish,
     v: usize,
 ) -> bool
-    requires { ⌜ ((m : Mesh) × Rep (now w) s p m × Pts (now q) p m × At m a other × At m a v) ⌝ }
-    ensures { λ r. ⌜ ((m : Mesh) → Rep (now (w .entry)) s p m → Pts (now (q .entry)) p m → At m a other → At m a v → r ≡ by-edge (turn left) m a other target v) ⌝ }
+    requires { ⌜ ((m : Mesh) × Rep (now w) s p m × Pts (now q) p m × Wished (now w) (now q) s b o m a other × At m a v) ⌝ }
+    ensures { λ r. ⌜ ((m : Mesh) → Rep (now (w .entry)) s p m → Pts (now (q .entry)) p m → Wished (now (w .entry)) (now (q .entry)) s b o m a other → At m a v → r ≡ by-edge (turn left) m a other target v) ⌝ }
 {
+    if o.near {
+        return false;
+    }
     if v == a {
         return false;
     }
@@ -202,10 +163,5 @@ pub fn edge_candidate(
     if tri_owner(w, s, p, v, a) >= s {
         return false;
     }
-    let u = from_to(q, a, other);
-    let k = norm(u);
-    if k <= TINY_LENGTH {
-        return false;
-    }
-    near_ideal(w, q, s, p, a, other, over(u, k), left, over(d, n))
+    near_ideal(w, q, s, a, b, o, left, over(d, n))
 }

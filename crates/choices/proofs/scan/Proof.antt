@@ -7,6 +7,7 @@ use lib.ListN.{length}
 use Rattle.definition.specs.Cells.{Live, Mesh}
 use Rattle.plane.specs.Vectors.{vec}
 use Rattle.ideals.specs.Wanted.{turn}
+use Rattle.ideals.proofs.Nears.{wished-kept}
 use Rattle.choices.specs.Choice.{is-choice, CanScan}
 use Rattle.choices.proofs.Lists.{Listing, listing-from, listing-more, listing-end, hand-kept}
 use Rattle.choices.proofs.Growth.{choice-before, choice-behind}
@@ -15,11 +16,11 @@ use Rattle.choices.proofs.scan.Statement.{statement}
 use Rattle.choices.proofs.scan.Tie as tie
 
 abbrev Inv-loop : tie.InvT-loop
-Inv-loop w₀ q s p k n b left a other normal target far g r₀ v₀ w r v =
-    (length w ≡ length w₀) × (r ≤ v) × (v ≤ n) × ((m : Mesh) (region : List Live) → CanScan w₀ q s p k n b a other m region → Listing w₀ w p b v r (is-choice (turn left) m a other (vec normal) target region))
+Inv-loop w₀ q s p k n b left a other normal target i o far g r₀ v₀ w r v =
+    (length w ≡ length w₀) × (r ≤ v) × (v ≤ n) × ((m : Mesh) (region : List Live) → CanScan w₀ q s p k n b a other i o m region → Listing w₀ w p b v r (is-choice (turn left) m a other (vec normal) target region))
 
 abbrev μ-loop : tie.MeasureT-loop
-μ-loop w₀ q s p k n b left a other normal target far g r₀ v₀ w r v = n - v
+μ-loop w₀ q s p k n b left a other normal target i o far g r₀ v₀ w r v = n - v
 
 span-for-requires : tie.Need-span-for-requires Inv-loop μ-loop
 span-for-requires c κs =
@@ -60,8 +61,8 @@ is-choice-requires c κs =
       (
         t .pre .0,
         t .pre .1,
-        hand-kept (a .w .now) (x .w) (a .q .now) (a .s) (a .p) (a .k) (a .b) (t .pre .0) (t .pre .1) (h .hand) (h .from) (x .inv .3 (t .pre .0) (t .pre .1) h .besides),
-        record { node = omega (arith, n, h .first); end = omega (arith, n, h .second) },
+        hand-kept (a .w .now) (x .w) (a .q .now) (a .s) (a .p) (a .k) (a .b) (a .p) (t .pre .0) (t .pre .1) (h .hand) (h .from) (x .inv .3 (t .pre .0) (t .pre .1) h .besides),
+        wished-kept (a .w .now) (x .w) (a .q .now) (a .s) (a .i) (a .o) (t .pre .0) (a .a) (a .other) (x .inv .0) (λ j f. x .inv .3 (t .pre .0) (t .pre .1) h .besides .behind j (omega (arith, f, h .to))) (h .wish),
         record { first = omega (arith, n, h .first); second = omega (arith, n, v) },
       ),
       fs .far-square .ensures,
@@ -82,7 +83,7 @@ add-requires c κs =
     let v : x .v < a .n = omega (arith, i .if1 .taken, y .known, n) in
     let r = h .hand .rep in
     record {
-      fits = omega (arith, x .inv .0, x .inv .1, v, n, r .points, h .to, r .room .fits);
+      fits = omega (arith, x .inv .0, x .inv .1, v, n, r .points, h .to, h .wish .to);
       small = omega (arith, v, n, r .points, r .room .small);
     }
 
@@ -140,8 +141,9 @@ loop-again c =
           let z = x .inv .3 m region k in
           let r = k .hand .rep in
           let o : a .n ≡ length (m .points) = k .count in
-          listing-more (a .w .now) (x .w) (a .p) (a .b) (x .v) (x .r) (is-choice (turn (a .left)) m (a .a) (a .other) (vec (a .normal)) (a .target) region) z (x .inv .1) (omega (arith, v, o, r .points)) (omega (arith, x .inv .0, k .to, r .room .fits)) (ad .add .last .0) (ic .is-choice .result) (ad .add .result)
-          (ic .is-choice .ensures m region (hand-kept (a .w .now) (x .w) (a .q .now) (a .s) (a .p) (a .k) (a .b) m region (k .hand) (k .from) (z .besides)) (record { node = omega (arith, o, k .first); end = omega (arith, o, k .second) }) (record { first = omega (arith, o, k .first); second = omega (arith, o, v) })) e,
+          listing-more (a .w .now) (x .w) (a .p) (a .b) (x .v) (x .r) (is-choice (turn (a .left)) m (a .a) (a .other) (vec (a .normal)) (a .target) region) z (x .inv .1) (omega (arith, v, o, r .points)) (omega (arith, x .inv .0, k .to, k .wish .to)) (ad .add .last .0) (ic .is-choice .result) (ad .add .result)
+          (ic .is-choice .ensures m region (hand-kept (a .w .now) (x .w) (a .q .now) (a .s) (a .p) (a .k) (a .b) (a .p) m region (k .hand) (k .from) (z .besides))
+          (wished-kept (a .w .now) (x .w) (a .q .now) (a .s) (a .i) (a .o) m (a .a) (a .other) (x .inv .0) (λ j f. z .besides .behind j (omega (arith, f, k .to))) (k .wish)) (record { first = omega (arith, o, k .first); second = omega (arith, o, v) })) e,
     )
 
 same-length : tie.Need-same-length Inv-loop μ-loop

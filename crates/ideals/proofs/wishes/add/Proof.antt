@@ -1,7 +1,7 @@
 use native.Mathlib.Omega.{arith}
 use borrow.Author.Needs.{needs}
-use Rattle.choices.proofs.add.Statement.{statement}
-use Rattle.choices.proofs.add.Tie as tie
+use Rattle.ideals.proofs.wishes.add.Statement.{statement}
+use Rattle.ideals.proofs.wishes.add.Tie as tie
 
 returns : tie.Need-returns
 returns c = record { text = rw (c .if1 .taken); count = rw (c .if1 .taken); most = omega arith }

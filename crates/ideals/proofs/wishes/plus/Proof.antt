@@ -2,8 +2,8 @@ use mathlib.Core.Path.{refl}
 use Rattle.definition.specs.Floats.{_⊕_}
 use Rattle.definition.specs.Candidates.{plus}
 use Rattle.plane.specs.Vectors.{vec}
-use Rattle.ideals.proofs.plus.Statement.{statement}
-use Rattle.ideals.proofs.plus.Tie as tie
+use Rattle.ideals.proofs.wishes.plus.Statement.{statement}
+use Rattle.ideals.proofs.wishes.plus.Tie as tie
 
 returns : tie.Need-returns
 unfolding vec plus _⊕_

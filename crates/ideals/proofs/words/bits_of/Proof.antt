@@ -1,0 +1,14 @@
+-- A NaN differs from itself, and is given its pattern; any other float has its bits.
+use borrow.Author.Needs.{needs}
+use Rattle.ideals.proofs.Bits.{of-nan, no-nan}
+use Rattle.ideals.proofs.words.bits_of.Statement.{statement}
+use Rattle.ideals.proofs.words.bits_of.Tie as tie
+
+returns : tie.Need-returns
+returns c = of-nan (c .before .args .x) (c .if1 .taken)
+
+float-to-bits-result : tie.Need-float-to-bits-result
+float-to-bits-result c = no-nan (c .before .args .x) (c .if1 .left)
+
+pub bits-of-spec : {M : Type 1} → statement M
+bits-of-spec = tie.close (tie.spec returns float-to-bits-result (λ c. search needs))
