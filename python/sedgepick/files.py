@@ -23,8 +23,15 @@ def quiet():
         yield said
 
 
-def form_of(path, given, begins=b''):
+def form_of(path, given):
     """meshio's name of the file's format: as given, else by the suffix."""
+    form = named_form(path, given)
+    if form == 'tetgen':  # and meshio does not come to an end on such a file that breaks off
+        raise Fault('%s: a TetGen file holds no plane mesh of quads; use one of %s' % (path, GOOD))
+    return form
+
+
+def named_form(path, given):
     known = set(meshio_forms.reader_map) | set(meshio_forms._writer_map)
     if given:
         if given not in known:
@@ -128,7 +135,7 @@ def write(path, form, points, blocks, field_data, point_sets):
 
 def writing_form(path, form):
     suffix = os.path.splitext(path)[1].lower()
-    return form or WRITTEN.get(suffix) or form_of(path, None)
+    return (not form and WRITTEN.get(suffix)) or form_of(path, form)
 
 
 def written(path, form, points, blocks, field_data, point_sets, notes):

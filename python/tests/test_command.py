@@ -258,6 +258,11 @@ class Bad(Case):
             file.write(half)
         self.refused('meshio cannot read it|no triangles', self.path('half.msh'), '-o', self.out)
         self.refused('unknown format', given('l-slab-41.msh'), '-o', self.path('out.xyz'))
+        self.refused('TetGen', given('l-slab-41.msh'), '-o', self.path('out.node'))
+        with open(self.path('half.node'), 'w') as file:
+            file.write('4 2 0 0\n')
+        self.refused('TetGen', self.path('half.node'), '-o', self.out)
+        self.refused('unknown format nothing', given('l-slab-41.msh'), '-o', self.out, '--to', 'nothing')
         self.refused('cannot write', given('l-slab-41.msh'), '-o', os.path.join(self.folder, 'no', 'out.msh'))
 
     def test_meshes(self):
