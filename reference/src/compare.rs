@@ -1,4 +1,4 @@
-//! The patched module against the published one on generated inputs.
+//! The published module, the patched one but for the second end, and the patched one on generated inputs.
 
 use std::collections::BTreeMap;
 use std::path::Path;
@@ -7,7 +7,8 @@ use crate::generators::shape::Room;
 use crate::generators::{self, KINDS, TEXT};
 use crate::input::{Input, UNBOUNDED};
 use crate::random::Random;
-use crate::{account, bare, damage, patched, published, text, without_cosine, without_off_front};
+use crate::{account, bare, damage, patched, published, text};
+use crate::{without_cosine, without_off_front, without_second_end};
 
 /// What two runs are compared by. `limit` is not of the published module.
 #[derive(PartialEq, Eq)]
@@ -54,43 +55,72 @@ macro_rules! run {
     }};
 }
 
-/// Which patch makes the two part.
+/// Which patch makes two runs part: of the first four, the published one and the one without
+/// the second end's patch; of the others, that one and the patched one, by what differs.
 #[derive(Clone, Copy, Debug, PartialEq, Eq, PartialOrd, Ord)]
 pub enum Parting {
     Cosine,
     OffFront,
     Both,
     Other,
+    SecondCounts,
+    SecondTriangles,
+    SecondQuads,
 }
 
-/// Why the patched run parts from the published one, if it does.
-fn parting(input: &Input, patched_ran: &Ran) -> Option<Parting> {
+/// Why the run without the second end's patch parts from the published one, if it does.
+fn early_parting(input: &Input, before: &Ran) -> Option<Parting> {
     let most = usize::MAX;
     let published_ran = run!(published, input);
-    if published_ran == *patched_ran {
+    if published_ran == *before {
         return None;
     }
     if run!(bare, input, most, most) != published_ran {
         return Some(Parting::Other);
     }
-    if run!(without_cosine, input, most, most) == *patched_ran {
+    if run!(without_cosine, input, most, most) == *before {
         return Some(Parting::OffFront);
     }
-    if run!(without_off_front, input, most, most) == *patched_ran {
+    if run!(without_off_front, input, most, most) == *before {
         return Some(Parting::Cosine);
     }
     Some(Parting::Both)
 }
 
-/// The same from the input alone.
-pub fn parting_of(input: &Input) -> Option<Parting> {
-    if input.points.len() > 4096 || input.refusal(crate::input::LARGEST).is_some() {
-        return None;
+/// What the second end's patch changes: the quads; with the same quads the triangles or points
+/// that are left; the counts alone.
+fn second_parting(before: &Ran, after: &Ran) -> Option<Parting> {
+    if before.quads != after.quads {
+        Some(Parting::SecondQuads)
+    } else if before.triangles != after.triangles || before.points != after.points {
+        Some(Parting::SecondTriangles)
+    } else if before != after {
+        Some(Parting::SecondCounts)
+    } else {
+        None
     }
-    parting(input, &ran!(patched, input.run_unchecked(UNBOUNDED)))
 }
 
-/// The counts and lengths of both runs of a text, and why they part.
+/// Why the published, the earlier and the patched run part: at most one of each sort.
+fn partings(input: &Input, patched_ran: &Ran) -> Vec<Parting> {
+    let most = usize::MAX;
+    let before = run!(without_second_end, input, most, most);
+    let early = early_parting(input, &before);
+    early
+        .into_iter()
+        .chain(second_parting(&before, patched_ran))
+        .collect()
+}
+
+/// The same from the input alone.
+pub fn partings_of(input: &Input) -> Vec<Parting> {
+    if input.points.len() > 4096 || input.refusal(crate::input::LARGEST).is_some() {
+        return Vec::new();
+    }
+    partings(input, &ran!(patched, input.run_unchecked(UNBOUNDED)))
+}
+
+/// The counts and lengths of the three runs of a text, and why they part.
 pub fn parts(bytes: &[u8]) -> Option<String> {
     let input = text::read(bytes)?;
     if input.refusal(crate::input::PROGRAM).is_some() {
@@ -116,9 +146,13 @@ pub fn parts(bytes: &[u8]) -> Option<String> {
             r.quads
         )
     };
+    let most = usize::MAX;
     let published = row("published", &run!(published, input));
+    let before = run!(without_second_end, input, most, most);
+    let before = row("without second-end", &before);
     let patched = row("patched", &ran!(patched, input.run_unchecked(UNBOUNDED)));
-    Some(format!("{published}{patched}{:?}\n", parting_of(&input)))
+    let why = partings_of(&input);
+    Some(format!("{published}{before}{patched}{why:?}\n"))
 }
 
 #[derive(Default)]
@@ -177,27 +211,28 @@ impl Comparison {
         if input.triangles.len() <= 64 && full.refusals.attempts < 400 && r.once_in(3) {
             tally.short += account::check_lent(&input, &full, &mut r);
         }
-        match parting(&input, &ran!(patched, full)) {
-            None => tally.agree += 1,
-            Some(why) => {
-                *tally.partings.entry(why).or_default() += 1;
-                let small = if input.triangles.len() <= 40 {
-                    shrink(input, why)
-                } else {
-                    input
-                };
-                let best = self.smallest.entry(why).or_insert_with(|| small.clone());
-                if weight(&small) < weight(best) {
-                    *best = small;
-                }
+        let whys = partings(&input, &ran!(patched, full));
+        if whys.is_empty() {
+            tally.agree += 1;
+        }
+        for why in whys {
+            *tally.partings.entry(why).or_default() += 1;
+            let small = if input.triangles.len() <= 40 {
+                shrink(input.clone(), why)
+            } else {
+                input.clone()
+            };
+            let best = self.smallest.entry(why).or_insert_with(|| small.clone());
+            if weight(&small) < weight(best) {
+                *best = small;
             }
         }
     }
 
-    /// A line a kind, then the sums. True when nothing parts but by the two patches.
+    /// A line a kind, then the sums. True when nothing parts but by the patches.
     pub fn print(&self) -> bool {
-        println!("kind runs refused agree cosine off_front both other by_attempts by_triangles short_of_memory");
-        let mut sums = [0; 10];
+        println!("kind runs refused agree cosine off_front both other second_counts second_triangles second_quads by_attempts by_triangles short_of_memory");
+        let mut sums = [0; 13];
         for (kind, t) in &self.kinds {
             let of = |why| t.partings.get(&why).copied().unwrap_or(0);
             let row = [
@@ -208,6 +243,9 @@ impl Comparison {
                 of(Parting::OffFront),
                 of(Parting::Both),
                 of(Parting::Other),
+                of(Parting::SecondCounts),
+                of(Parting::SecondTriangles),
+                of(Parting::SecondQuads),
                 t.by_attempts,
                 t.by_triangles,
                 t.short,
@@ -251,9 +289,9 @@ fn check_text(input: &Input, r: &mut Random) {
     }
 }
 
-/// Triangles, points and digits left out one by one while the two still part so.
+/// Triangles, points and digits left out one by one while the runs still part so.
 fn shrink(mut input: Input, why: Parting) -> Input {
-    let parts = |i: &Input| parting_of(i) == Some(why);
+    let parts = |i: &Input| partings_of(i).contains(&why);
     loop {
         let without = |k: usize| {
             let mut less = input.clone();

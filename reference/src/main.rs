@@ -1,5 +1,6 @@
-//! The Rust reference of the port: the module as published and as patched, run
-//! on the program's text form and compared on generated meshes.
+//! The Rust reference of the port: the module as published, as patched but for
+//! the second end, and as patched, run on the program's text form and compared
+//! on generated meshes.
 
 mod account;
 mod call;
@@ -33,6 +34,7 @@ macro_rules! variant {
 variant!(bare, "/bare.rs");
 variant!(without_cosine, "/without_cosine.rs");
 variant!(without_off_front, "/without_off_front.rs");
+variant!(without_second_end, "/without_second_end.rs");
 
 use std::io::{Error, Read, Result, Write};
 use std::path::Path;
@@ -46,8 +48,8 @@ const USAGE: &str = "usage:
   grids                                    the hashes that the crate `replay` holds
   small                                    the hashes that the crate `acceptance` holds
   compare SEED COUNT [--kind KIND] [--save DIR]
-                                           run patched against published
-  parts                                    both runs of the text on standard input, in short
+                                           run published, patched but for the second end, and patched
+  parts                                    the three runs of the text on standard input, in short
   check DIR ..                             recompute stored answers";
 
 /// Answers the text on standard input. A byte over the limit is enough to refuse;
@@ -69,7 +71,7 @@ fn call() -> Result<()> {
     std::io::stdout().write_all(&answer)
 }
 
-/// Both runs of the text on standard input, in short.
+/// The three runs of the text on standard input, in short.
 fn parts() -> Result<()> {
     let mut text = Vec::new();
     std::io::stdin().lock().read_to_end(&mut text)?;
@@ -101,7 +103,7 @@ fn compare(seed: u64, count: u64, options: &[&str]) -> Result<()> {
     if good {
         Ok(())
     } else {
-        Err(Error::other("the two part otherwise than by a patch"))
+        Err(Error::other("two runs part otherwise than by a patch"))
     }
 }
 

@@ -567,7 +567,10 @@ impl CellMesh {
     /// bisector degenerates, so the inward perpendicular is used. An existing
     /// edge within 30° of the ideal is a side edge; otherwise the caller falls
     /// back to the reachable-node search.
-    fn edge_side_candidates(&self, p: usize, other: usize, target: f64) -> Vec<usize> {
+    // patch: second-end
+    // was:     fn edge_side_candidates(&self, p: usize, other: usize, target: f64) -> Vec<usize> {
+    fn edge_side_candidates(&self, p: usize, other: usize, target: f64, left: bool) -> Vec<usize> {
+        // end patch
         let po = self.points[p];
         let u = [self.points[other][0] - po[0], self.points[other][1] - po[1]];
         let un = (u[0] * u[0] + u[1] * u[1]).sqrt();
@@ -599,7 +602,10 @@ impl CellMesh {
             }
         }
         if ideals.is_empty() {
-            ideals.push([-u[1], u[0]]);
+            // patch: second-end
+            // was:             ideals.push([-u[1], u[0]]);
+            ideals.push(if left { [-u[1], u[0]] } else { [u[1], -u[0]] });
+            // end patch
         }
         let Some(edges) = self.node_edges.get(&p) else {
             return Vec::new();
@@ -1603,7 +1609,10 @@ fn try_quad(
     let n = [-tangent[1] / tlen, tangent[0] / tlen];
 
     // Rule 1: side nodes from the reachable unconverted region.
-    let mut ca = mesh.edge_side_candidates(a, b, target);
+    // patch: second-end
+    // was:     let mut ca = mesh.edge_side_candidates(a, b, target);
+    let mut ca = mesh.edge_side_candidates(a, b, target, true);
+    // end patch
     ca.extend(mesh.side_candidates(a, b, seed, n, target));
     ca.sort_unstable();
     ca.dedup();
@@ -1619,7 +1628,10 @@ fn try_quad(
         ca.push(c);
         refusals.mismatch_insertions += 1;
     }
-    let mut cb = mesh.edge_side_candidates(b, a, target);
+    // patch: second-end
+    // was:     let mut cb = mesh.edge_side_candidates(b, a, target);
+    let mut cb = mesh.edge_side_candidates(b, a, target, false);
+    // end patch
     cb.extend(mesh.side_candidates(b, a, seed, n, target));
     cb.sort_unstable();
     cb.dedup();

@@ -184,6 +184,6 @@ pub fn agreed() -> u64
     ensures { λ r. ⌜ r ≤ 4 ⌝ }
 {
     let fine = agrees(0.125, 0, 0xf8331415ea075499) + agrees(0.125, 1, 0x637c24757f2b2854);
-    let coarse = agrees(0.25, 0, 0x045799f87aa1afea) + agrees(0.25, 1, 0x2abc30eec004ed24);
+    let coarse = agrees(0.25, 0, 0x06b61dee303ea326) + agrees(0.25, 1, 0xc814f3d306c42e63);
     fine + coarse
 }
