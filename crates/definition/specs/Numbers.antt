@@ -55,12 +55,13 @@ pub data Turn : Type 0 where
   leftward : Turn
   rightward : Turn
 
--- with no ideal from other front edges: how the direction to the other end is turned at the first end of the edge, and at the second
+-- with no ideal from other front edges: how the direction to the other end is turned at the first end of the edge, and at the second;
+-- the triangle lies on the left from the first to the second, so both look into it
 unfoldable pub first-turn : Turn
 first-turn = leftward
 
 unfoldable pub second-turn : Turn
-second-turn = leftward
+second-turn = rightward
 
 -- an edge shorter or longer than these many targets is off its target
 unfoldable pub mismatch-low : Float
