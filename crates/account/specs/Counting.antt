@@ -31,7 +31,7 @@ sum-refused c quads n Recovery h = omega arith
 sum-refused c quads n Region h = omega arith
 sum-refused c quads n OddRegion h = omega arith
 
-added-refused : (c : Counts) (n : Spent) (why : Refusal) → (c ⊞ one-attempt ⊞ spending n ⊞ refused-by why) .mismatch-insertions ≡ c .mismatch-insertions + n .insertions
+pub added-refused : (c : Counts) (n : Spent) (why : Refusal) → (c ⊞ one-attempt ⊞ spending n ⊞ refused-by why) .mismatch-insertions ≡ c .mismatch-insertions + n .insertions
 unfolding _⊞_ tally one-attempt spending refused-by
 added-refused c n Placement = omega arith
 added-refused c n Shape = omega arith

@@ -2,22 +2,23 @@
 use mathlib.Core.Path.{_≡_, refl, sym, ap, _∙_}
 use mathlib.Core.Bool.{Bool, false, _||_}
 use mathlib.Core.Logic.{inl, inr}
-use mathlib.Core.List.{List, [], _∷_}
+use mathlib.Core.List.{List, _∷_}
 use mathlib.Core.Option.{none, some}
 use Prim.{absurd}
-use Prim.Native.Nat.{ℕ, suc, _+_, _*_, _≤_, _<_}
+use Prim.Native.Nat.{ℕ, _+_, _*_, _≤_, _<_}
 use native.Mathlib.Omega.{arith}
 use lib.Dec.{eqb, leb, ltb}
 use lib.ListN.{length}
 use borrow.Author.Tests.{eqb-false, leb-false, ltb-false}
-use Rattle.definition.specs.Lists.{any, find, table, below}
+use Rattle.definition.specs.Lists.{any, find, below}
 use Rattle.definition.specs.Numbers.{Quality}
 use Rattle.definition.specs.Counts.{Counts}
 use Rattle.definition.specs.Plane.{Node}
 use Rattle.definition.specs.Cells.{Tri, tri-nodes}
 use Rattle.definition.specs.Front.{Result, Outcome, ran, wanting, run-front}
 use Rattle.definition.specs.Call.{Asked, Lent, Lengths, finished, refusal, given-points, given-tris, first-points, first-tris, settings, conditions, slot-words, point-words, slot-floats, bad-size, too-short, unknown-node, twice, repeated-node, outside, far-point, lengths, written, untouched, after-run, call}
-use Rattle.account.specs.Lists.{which, known, In, none-in, numbers-length, or-false}
+use Rattle.laws.specs.Bools.{which, or-none}
+use Rattle.laws.specs.Lists.{In, none-in, known, numbers-length, table-length}
 use Rattle.account.specs.Triangles.{Distinct}
 use Rattle.account.specs.Start.{Proper}
 
@@ -27,11 +28,6 @@ none-found p (y ∷ ys) e x i = elim (which (p y)) [
   | inl f ↦ absurd (let g : some y ≡ none = rw (f, find) at e in let z : _≡_ {A = ℕ} 0 1 = cc in omega arith)
   | inr f ↦ elim i [ inl g ↦ ap p g ∙ f | inr j ↦ none-found p ys (rw (f, find) at e) x j ]
 ]
-
-table-length : {A B : Type 0} (f : A → B) (xs : List A) → length (table f xs) ≡ length xs
-unfolding table
-table-length f [] = refl
-table-length f (x ∷ xs) = ap suc (table-length f xs)
 
 -- the run behind a finished call
 pub record Behind (y : Quality) (a : Asked) (l : Lent) (c : Counts) (n : Lengths) : Type 0 where
@@ -92,8 +88,8 @@ module _ (a : Asked) (l : Lent) (passed : find (λ c. c .1) (conditions a l) ≡
   fits : (ltb (a .capacity) (a .given) ≡ false) × (ltb (a .slots) (a .count) ≡ false)
   unfolding too-short short-slice
   fits =
-      let h = or-false (short-slice || ltb (a .capacity) (a .given)) (ltb (a .slots) (a .count)) long-enough in
-      (or-false short-slice (ltb (a .capacity) (a .given)) (h .0) .1, h .1)
+      let h = or-none (short-slice || ltb (a .capacity) (a .given)) (ltb (a .slots) (a .count)) long-enough in
+      (or-none short-slice (ltb (a .capacity) (a .given)) (h .0) .1, h .1)
 
   -- the given points and triangles fit what was lent
   pub given-fit : a .given ≤ a .capacity
@@ -120,8 +116,8 @@ module _ (a : Asked) (l : Lent) (passed : find (λ c. c .1) (conditions a l) ≡
   three-nodes : (t : Tri) → In t (given-tris a l) → Distinct t
   unfolding conditions repeated-node twice
   three-nodes t i =
-      let h = or-false (eqb (t .n0) (t .n1) || eqb (t .n1) (t .n2)) (eqb (t .n0) (t .n2)) (none-in twice (given-tris a l) (holds-not 6 (repeated-node a l) (inr (inr (inr (inr (inr (inl refl))))))) t i) in
-      let g = or-false (eqb (t .n0) (t .n1)) (eqb (t .n1) (t .n2)) (h .0) in
+      let h = or-none (eqb (t .n0) (t .n1) || eqb (t .n1) (t .n2)) (eqb (t .n0) (t .n2)) (none-in twice (given-tris a l) (holds-not 6 (repeated-node a l) (inr (inr (inr (inr (inr (inl refl))))))) t i) in
+      let g = or-none (eqb (t .n0) (t .n1)) (eqb (t .n1) (t .n2)) (h .0) in
       record { d01 = eqb-false (t .n0) (t .n1) (g .0); d12 = eqb-false (t .n1) (t .n2) (g .1); d20 = λ e. eqb-false (t .n0) (t .n2) (h .1) (sym e) }
 
   -- the given triangles have three different nodes of the given points

@@ -1,18 +1,18 @@
 -- How many there can be: live cells, quads and components, against the slots in use.
-use mathlib.Core.Path.{_≡_, refl, ap, _∙_}
+use mathlib.Core.Path.{refl, ap, _∙_}
 use mathlib.Core.Logic.{inl, inr, _≢_}
 use mathlib.Core.List.{List, [], _∷_, map}
 use Prim.{tt}
-use Prim.Native.Nat.{ℕ, suc, _+_, _≤_, _<_}
+use Prim.Native.Nat.{ℕ, _+_, _≤_, _<_}
 use native.Mathlib.Omega.{arith}
-use lib.ListN.{length, length-append}
+use lib.ListN.{length, length-append, length-map}
 use Rattle.definition.specs.Lists.{flat-map, below}
 use Rattle.definition.specs.Numbers.{Settings}
 use Rattle.definition.specs.Cells.{Tri, Cell, tri, quad, Live, Mesh, tri-of, tris-of, triangles}
 use Rattle.definition.specs.Components.{component-sizes}
 use Rattle.definition.specs.Front.{counting}
 use Rattle.definition.specs.Account.{Pairwise, sum}
-use Rattle.account.specs.Lists.{In, in-map, below-in, no-more, numbers-length, all-from}
+use Rattle.laws.specs.Lists.{In, all-from, in-map, no-more, numbers-length, below-in}
 use Rattle.account.specs.Rearranged.{same-length}
 use Rattle.account.specs.Classes.{All-distinct}
 use Rattle.account.specs.Sizes.{sizes-positive, sizes-sum}
@@ -29,17 +29,13 @@ slots-differ : (xs : List Live) → Slots xs → Pairwise (λ a b. a ≢ b) (map
 slots-differ [] h = tt
 slots-differ (x ∷ xs) h = (all-from (map (λ (x : Live). x .slot) xs) (λ n i. let r = in-map (λ (x : Live). x .slot) n xs i in λ e. h .0 (r .0) (r .1) (e ∙ r .2)), slots-differ xs (h .1))
 
-map-length : {A B : Type 0} (f : A → B) (xs : List A) → length (map f xs) ≡ length xs
-map-length f [] = refl
-map-length f (x ∷ xs) = ap suc (map-length f xs)
-
 -- cells in different slots below n are at most n
 pub slots-number : (xs : List Live) (n : ℕ) → Slots xs → ((x : Live) → In x xs → x .slot < n) → length xs ≤ n
 unfolding below
 slots-number xs n h b =
     let slots = map (λ (x : Live). x .slot) xs in
     let k = no-more slots (below n) (slots-differ xs h) (λ v i. let r = in-map (λ (x : Live). x .slot) v xs i in below-in n v (let l = b (r .0) (r .1) in let e = r .2 in omega arith)) in
-    omega (arith, k, map-length (λ (x : Live). x .slot) xs, numbers-length 0 n)
+    omega (arith, k, length-map xs (λ (x : Live). x .slot), numbers-length 0 n)
 
 -- the live cells are no more than the slots in use
 pub live-number : (m : Mesh) → Valid m → length (m .live) ≤ m .used

@@ -12,7 +12,7 @@ use Rattle.definition.specs.Plane.{Edge}
 use Rattle.definition.specs.Cells.{Tri, Quad, Cell, tri, quad, Live, Mesh, new-live, edges, owns, owners, all-edges, tri-of, tris-of, with-live, without, set-cell}
 use Rattle.definition.specs.Flips.{third, set-tris}
 use Rattle.definition.specs.Account.{Rearranged}
-use Rattle.account.specs.Lists.{In, in-left, in-either, in-filter, filter-in, in-flat-map}
+use Rattle.laws.specs.Lists.{In, in-left, in-either, in-filter, filter-in, in-flat-map}
 use Rattle.account.specs.Rearranged.{number, number-append, number-cons}
 use Rattle.account.specs.Triangles.{Has, Corners}
 use Rattle.account.specs.Even.{All-even, same-even, flip-even}

@@ -10,7 +10,8 @@ use borrow.Author.Tests.{eqb-true, eq-eqb}
 use Rattle.definition.specs.Plane.{Edge}
 use Rattle.definition.specs.Cells.{Tri, Cell, tri, quad, Live, Mesh, new-tri, owners, live-tri, is-tri, new-live, in-slot, with-live, without, set-cell}
 use Rattle.definition.specs.Flips.{third, apart, convex-pair, runs, first-turned, second-turned, set-tris, flipped, flip-tris, flip-cells, flip-owners, flip}
-use Rattle.account.specs.Lists.{which, both, never, no-some, In, in-left, in-right, filter-in}
+use Rattle.laws.specs.Bools.{which, both, never}
+use Rattle.laws.specs.Lists.{In, in-left, in-right, filter-in, no-some}
 use Rattle.account.specs.Triangles.{Corners, corners, Distinct, turn}
 
 -- ---- the two triangles on the other diagonal

@@ -16,7 +16,8 @@ use Rattle.definition.specs.Flips.{first-crossing}
 use Rattle.definition.specs.Candidates.{in-reach, neighbours, on-top, live-region-from, seed-stack, live-region}
 use Rattle.definition.specs.Insertion.{holds, holder}
 use Rattle.definition.specs.Region.{reach, reach-all, across, flood, fills, if-filled, region-from, region}
-use Rattle.account.specs.Lists.{which, both, never, known, no-some, cond-ok, In, in-either, in-filter, find-in, first-in, sort-in, any-in, in-flat-map}
+use Rattle.laws.specs.Bools.{which, both, never, cond-ok}
+use Rattle.laws.specs.Lists.{In, in-either, in-filter, find-in, sort-in, any-in, first-in, known, no-some, in-flat-map}
 use Rattle.account.specs.Flips.{Tri-at}
 use Rattle.account.specs.Valid.{Valid, one-cell}
 

@@ -5,30 +5,26 @@ use mathlib.Core.Logic.{inl, inr}
 use mathlib.Core.List.{List, [], _∷_}
 use Prim.Native.Nat.{ℕ, zero, suc, _<_}
 use lib.ListN.{length}
-use lib.Ieee.{Float, nan, inf, fin, le, ofBits}
-use borrow.Author.Tests.{not-false}
-use Rattle.definition.specs.Floats.{_≼_, abs, finite, f64, 0·0, 8·0}
-use Rattle.definition.specs.Numbers.{Settings, Quality, base, insert-shares, tiny-length}
+use lib.Ieee.{Float, le, ofBits}
+use Rattle.definition.specs.Floats.{_≼_, abs, f64, 0·0, 8·0}
+use Rattle.definition.specs.Numbers.{Settings, base, insert-shares, tiny-length}
 use Rattle.definition.specs.Plane.{Node, flat, point, point-strictly-inside, from-to, norm, dist, edge-length}
 use Rattle.definition.specs.Metrics.{corners, quad-metrics, passes}
 use Rattle.definition.specs.Cells.{Tri, Quad, tri, Mesh, node-at, quad-nodes}
 use Rattle.definition.specs.Insertion.{holds, along}
 use Rattle.definition.specs.Attempt.{inward-normal, target-of}
 use Rattle.definition.specs.Front.{counting, Result, ran, new-mesh, start, result, run-front}
-use Rattle.definition.specs.Call.{Asked, settings, bad-size, outside, most-coordinate}
-use Rattle.definition.specs.Exact.{Finite, Turns-left, Wide-enough}
+use Rattle.definition.specs.Call.{Asked, bad-size, outside, most-coordinate}
+use Rattle.definition.specs.Exact.{Turns-left, Wide-enough}
 use Rattle.definition.specs.Account.{All, _∈_, quad-corners, Names-point}
-use Rattle.account.specs.Lists.{both, In, in-either, all-from, all-at}
+use Rattle.laws.specs.Lists.{In, all-from, all-at, in-either}
+use Rattle.exact.specs.Theorems.{Within, within-finite}
 use Rattle.account.specs.Flips.{flip-points}
 use Rattle.account.specs.QuadKeeps.{replaced-points}
 use Rattle.account.specs.Rated.{Rated}
 use Rattle.account.specs.Start.{Proper, start-valid}
 use Rattle.account.specs.Steps.{On-normal, split-grows}
 use Rattle.account.specs.Run.{Rule, run-ok}
-
--- x and y are not beyond the limit, by the definition's test
-abbrev pub Within : Node → Type 0
-Within p = outside p ≡ false
 
 -- proved of the floats elsewhere
 pub record Geometry : Type 0 where
@@ -59,19 +55,6 @@ unfolding point
 point-within [] h i = origin-within
 point-within (p ∷ ps) h zero = h p (inl refl)
 point-within (p ∷ ps) h (suc i) = point-within ps (λ q j. h q (inr j)) i
-
-bounded-finite : (x : Float) → (abs x ≼ most-coordinate) ≡ true → finite x ≡ true
-unfolding finite abs _≼_ most-coordinate 8·0 f64 ofBits le
-bounded-finite nan h = h
-bounded-finite (inf s) h = h
-bounded-finite (fin s m e) h = refl
-
--- such a point is finite
-pub within-finite : (p : Node) → Within p → Finite p
-unfolding outside
-within-finite p h =
-    let g = both (abs (p .x) ≼ most-coordinate) (abs (p .y) ≼ most-coordinate) (not-false _ h) in
-    rw (bounded-finite (p .x) (g .0), bounded-finite (p .y) (g .1)) refl
 
 -- ---- the run
 

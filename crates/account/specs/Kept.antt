@@ -12,7 +12,7 @@ use Rattle.definition.specs.Cells.{Tri, Quad}
 use Rattle.definition.specs.Front.{Result, ran, run-front}
 use Rattle.definition.specs.Call.{Asked, Lent, given-points, given-tris, settings, bad-size, call}
 use Rattle.definition.specs.Account.{Account, Keeps-account}
-use Rattle.account.specs.Lists.{In, all-from}
+use Rattle.laws.specs.Lists.{In, all-from}
 use Rattle.account.specs.Start.{Proper}
 use Rattle.account.specs.Counting.{counted, points-given, points-added}
 use Rattle.account.specs.Parity.{leftover}

@@ -1,6 +1,5 @@
 -- Every finished run of the definition keeps its account (Kept), and what holds of every state of a run.
 -- lists and triangles
-pub mod Lists
 pub mod Rearranged
 pub mod Triangles
 -- components

@@ -3,18 +3,16 @@ use mathlib.Core.Path.{_≡_, refl, _∙_}
 use mathlib.Core.List.{List}
 use mathlib.Core.Option.{some}
 use Prim.Native.Nat.{ℕ}
-use lib.ListN.{length}
 use Rattle.definition.specs.Plane.{Node, Edge}
-use Rattle.definition.specs.Cells.{Tri, Quad, tri, Live, Mesh, all-edges}
+use Rattle.definition.specs.Cells.{Tri, tri, Live, Mesh, all-edges}
 use Rattle.definition.specs.Flips.{flip, recover}
 use Rattle.definition.specs.Insertion.{split-triangle}
-use Rattle.definition.specs.Attempt.{recover-all, replaced}
-use Rattle.account.specs.Lists.{In}
+use Rattle.definition.specs.Attempt.{recover-all}
+use Rattle.laws.specs.Lists.{In}
 use Rattle.account.specs.Flips.{flip-made, flip-points, flip-used, Tri-at, flip-tri-at}
-use Rattle.account.specs.Valid.{Good-quad, Valid}
+use Rattle.account.specs.Valid.{Valid}
 use Rattle.account.specs.FlipKeeps.{flip-kept}
 use Rattle.account.specs.SplitKeeps.{split-kept}
-use Rattle.account.specs.QuadKeeps.{quad-valid}
 use Rattle.account.specs.Steps.{recover-ok, recover-all-ok}
 
 -- a flip, a split and a quad keep a mesh valid
@@ -23,9 +21,6 @@ flip-valid m m′ e ok i f = flip-kept m e m′ ok i (flip-made m e m′ f) .val
 
 pub split-valid : (m : Mesh) (x : Live) (t : Tri) (p : Node) → Valid m → In x (m .live) → x .cell ≡ tri t → Valid (split-triangle m (x .slot) t p)
 split-valid m x t p ok at cell = split-kept m x t p ok at cell .valid
-
-pub replaced-valid : (m : Mesh) (q : Quad) (cells : List Live) → Valid m → Good-quad (length (m .points)) q → Valid (replaced m q cells)
-replaced-valid m q cells ok good = quad-valid m q cells ok good
 
 -- a mesh that flips made of another one
 pub record Turned (m m′ : Mesh) : Type 0 where

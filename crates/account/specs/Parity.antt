@@ -15,7 +15,7 @@ use Rattle.definition.specs.Components.{removing-leaves-odd-component}
 use Rattle.definition.specs.Attempt.{replaced}
 use Rattle.definition.specs.Front.{State, counting, Result, ran, start, result, run-front}
 use Rattle.definition.specs.Account.{All, Rearranged, Components, Even, Even-components, sum}
-use Rattle.account.specs.Lists.{In}
+use Rattle.laws.specs.Lists.{In}
 use Rattle.account.specs.Rearranged.{sort-flat, same-back, same-in-tris}
 use Rattle.account.specs.Even.{All-even, same-even}
 use Rattle.account.specs.Classes.{All-distinct}

@@ -8,7 +8,7 @@ use lib.ListN.{length}
 use Rattle.definition.specs.Lists.{flat-map}
 use Rattle.definition.specs.Cells.{Tri, Quad, quad, Live, Mesh, new-live, tri-of, tris-of, with-live, without-all, remove-cells, push-cell}
 use Rattle.definition.specs.Attempt.{replaced}
-use Rattle.account.specs.Lists.{In, in-either, in-filter}
+use Rattle.laws.specs.Lists.{In, in-either, in-filter}
 use Rattle.account.specs.Valid.{slots-filter, slots-last, Good-tri, Good-quad, Valid, tris-in, in-tris, tris-append}
 
 module _ (m : Mesh) (q : Quad) (cells : List Live) where

@@ -7,7 +7,7 @@ use Rattle.definition.specs.Numbers.{Settings, Quality}
 use Rattle.definition.specs.Plane.{Node}
 use Rattle.definition.specs.Cells.{Tri, Quad}
 use Rattle.definition.specs.Front.{counting, Result, ran, start, result, run-front}
-use Rattle.account.specs.Lists.{In, in-either}
+use Rattle.laws.specs.Lists.{In, in-either}
 use Rattle.account.specs.Flips.{flip-points}
 use Rattle.account.specs.QuadKeeps.{replaced-points}
 use Rattle.account.specs.Rated.{Rated, rated-more}

@@ -9,7 +9,7 @@ use Rattle.definition.specs.Numbers.{Settings}
 use Rattle.definition.specs.Plane.{Node, Edge}
 use Rattle.definition.specs.Cells.{Tri, Mesh}
 use Rattle.definition.specs.Front.{counting, new-mesh, start}
-use Rattle.account.specs.Lists.{In}
+use Rattle.laws.specs.Lists.{In}
 use Rattle.account.specs.Valid.{Valid}
 use Rattle.account.specs.Start.{start-tris}
 use Rattle.account.specs.Tracked.{Tracked, tracked-front, tracked-flip, tracked-split, tracked-quad}

@@ -17,7 +17,8 @@ use Rattle.definition.specs.Insertion.{split-triangle}
 use Rattle.definition.specs.Loops.{front-loops}
 use Rattle.definition.specs.Attempt.{Attempt, placed, refused, ended, try-quad}
 use Rattle.definition.specs.Front.{State, Progress, stuck, progressed, limited, stopped, counting, freed, after, make-attempt, past-limit, attempt, try-edges, open-edges, try-loops, round, front-loop, Result, ran, wanting, start, result, outcome, run-front}
-use Rattle.account.specs.Lists.{cond-ok, In}
+use Rattle.laws.specs.Lists.{In}
+use Rattle.laws.specs.Bools.{cond-ok}
 use Rattle.account.specs.Flips.{flip-made}
 use Rattle.account.specs.Valid.{Valid}
 use Rattle.account.specs.FlipKeeps.{flip-kept}

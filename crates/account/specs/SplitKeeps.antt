@@ -10,7 +10,7 @@ use Rattle.definition.specs.Plane.{Node}
 use Rattle.definition.specs.Cells.{Tri, tri, Live, Mesh, new-tri, new-live, tri-of, tris-of, with-live, without, set-cell, push-cell}
 use Rattle.definition.specs.Insertion.{with-point, split-triangle}
 use Rattle.definition.specs.Account.{Rearranged}
-use Rattle.account.specs.Lists.{In, in-either}
+use Rattle.laws.specs.Lists.{In, in-either}
 use Rattle.account.specs.Rearranged.{number}
 use Rattle.account.specs.Triangles.{Has, corners, own-corners}
 use Rattle.account.specs.Even.{All-even, same-even, split-even}

@@ -11,7 +11,7 @@ use Rattle.definition.specs.Numbers.{Settings}
 use Rattle.definition.specs.Plane.{Node}
 use Rattle.definition.specs.Cells.{Tri, tri, Live, new-live, tri-of, tris-of}
 use Rattle.definition.specs.Front.{in-slots, new-mesh, start}
-use Rattle.account.specs.Lists.{In}
+use Rattle.laws.specs.Lists.{In}
 use Rattle.account.specs.Valid.{Slots, Good-tri, Valid, not-both}
 
 in-slots-at : (n : ℕ) (ts : List Tri) (x : Live) → In x (in-slots n ts) → (n ≤ x .slot) × (x .slot < n + length ts) × ((t : Tri) × (x .cell ≡ tri t))

@@ -24,7 +24,8 @@ use Rattle.definition.specs.Components.{removing-leaves-odd-component}
 use Rattle.definition.specs.Region.{region}
 use Rattle.definition.specs.Trials.{Trial, trials}
 use Rattle.definition.specs.Attempt.{Tried, made, failed, orphaned, no-slot, recover-all, replaced, replace, try-region, try-recovered, open-sides, try-pair, Attempt, placed, refused, ended, try-pairs, try-trials, Stance, Sides, found, missing, overfull, sides-by, sides-from, side-nodes, try-both, try-first, target-of, inward-normal, stance, try-along, lies-left, try-seed, try-owner, try-quad}
-use Rattle.account.specs.Lists.{which, known, cond-ok, In, in-filter, in-below, or-false}
+use Rattle.laws.specs.Bools.{which, or-none, cond-ok}
+use Rattle.laws.specs.Lists.{In, in-filter, known, in-below}
 use Rattle.account.specs.Ends.{tri-owns}
 use Rattle.account.specs.Flips.{Tri-at, flip-tri-at, flip-points}
 use Rattle.account.specs.Valid.{Valid, tris-in}
@@ -328,7 +329,7 @@ module _ (s : Settings) (start : Mesh) (P : ℕ → Mesh → Type 0) (flips : Fl
       let short = f .target ≼ tiny-length in
       cond-ok (Attempt-ok s P) (short || long ≼ tiny-length) _ _ (λ z. h)
       (λ z.
-      let on : Standing s start P splits f = λ m p c i. record { a = a; b = b; end = p; share = c; among = i; long = or-false short (long ≼ tiny-length) z .1; place = refl } in
+      let on : Standing s start P splits f = λ m p c i. record { a = a; b = b; end = p; share = c; among = i; long = or-none short (long ≼ tiny-length) z .1; place = refl } in
       try-first-ok f two on (side-nodes s first-turn f nothing-spent start a b)
       (side-nodes-ok s start (With s start P (a ∷ b ∷ [])) (with-splits s start P (a ∷ b ∷ []) splits) first-turn f nothing-spent start a b on (h, near)))
 

@@ -19,7 +19,8 @@ use Rattle.definition.specs.Insertion.{split-triangle}
 use Rattle.definition.specs.Region.{region}
 use Rattle.definition.specs.Attempt.{replaced}
 use Rattle.definition.specs.Account.{Pairwise}
-use Rattle.account.specs.Lists.{which, both, In, in-left, in-filter, filter-in, filter-yes, filter-no}
+use Rattle.laws.specs.Bools.{which, both}
+use Rattle.laws.specs.Lists.{In, in-left, filter-yes, filter-no, in-filter, filter-in}
 use Rattle.account.specs.Rearranged.{same-path, same-length}
 use Rattle.account.specs.Triangles.{Has, corners, own-corners}
 use Rattle.account.specs.Even.{odd, xor, parity}

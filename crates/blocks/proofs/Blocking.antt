@@ -1,20 +1,23 @@
 -- `block`: the edge's record has the birth k, so it stands; every other edge stands as before.
-use mathlib.Core.Path.{_≡_, refl, ap, sym, _∙_, subst}
+use mathlib.Core.Path.{_≡_, refl, ap, sym, _∙_}
 use mathlib.Core.Logic.{inl, inr}
-use mathlib.Core.Bool.{Bool, true, false, _||_, cond}
-use mathlib.Core.List.{List, [], _∷_}
+use mathlib.Core.Bool.{Bool, true, false, _||_}
+use mathlib.Core.List.{List, _∷_}
 use Prim.Native.Nat.{ℕ, suc, _+_, _*_, _≤_, _<_}
 use native.Mathlib.Omega.{arith}
-use lib.Dec.{ltb, eqb}
+use lib.Dec.{eqb}
 use lib.ListN.{length, getD, set, length-set}
-use borrow.Author.Tests.{le-ltb, lt-ltb, eqb-true, eqb-false, eq-eqb, ne-eqb}
+use borrow.Author.Tests.{le-ltb, lt-ltb, eqb-true, eqb-false}
 use Rattle.definition.specs.Plane.{Edge}
 use Rattle.definition.specs.Lists.{any}
 use Rattle.definition.specs.Cells.{same-edge, has-edge-in}
-use Rattle.blocks.specs.Records.{other, birth, next, head, touched, size, Room, Kept, newest, place, IsEdge, Written, Lists, stands}
-use Rattle.blocks.specs.Blocks.{Blocks, with-edge, CanBlock, Refused}
-use Rattle.blocks.proofs.Edges.{which, never, same-is, same-self, place-below, place-has, place-one, place-here, place-there, with-old, with-new}
-use Rattle.blocks.proofs.Framing.{on, off, written-same, lists-same, stands-same}
+use Rattle.laws.specs.Bools.{never, which}
+use Rattle.laws.specs.Cells.{same-self, same-is}
+use Rattle.laws.specs.Frames.{on, off}
+use Rattle.blocks.specs.Records.{other, birth, next, head, touched, size, Kept, newest, place, IsEdge, Lists, stands}
+use Rattle.blocks.specs.Blocks.{Blocks, CanBlock, Refused}
+use Rattle.blocks.proofs.Edges.{place-below, place-has, place-one, place-here, place-there, with-old, with-new}
+use Rattle.blocks.proofs.Framing.{written-same, lists-same, stands-same}
 use Rattle.blocks.proofs.Standing.{stands-true}
 
 -- an edge other than x has its record where it was, with the birth that it had
@@ -88,7 +91,7 @@ module _ (w : List ℕ) (b n p k i : ℕ) (x : Edge) (ever bl : List Edge) (h : 
       }
 
   pub kept-old : Kept w (set w (b + n + i) k) b (size n p)
-  kept-old = record { len = simp length-set; before = λ j m. off w (b + n + i) k j (omega arith); after = λ j m. off w (b + n + i) k j (omega arith) }
+  kept-old = record { len = simp length-set; low = λ j m. off w (b + n + i) k j (omega arith); high = λ j m. off w (b + n + i) k j (omega arith) }
 
 -- ---- a new edge
 
@@ -128,8 +131,8 @@ module _ (w : List ℕ) (b n p c u o t x h : ℕ) (cn : c < n) (up : u < p) wher
   kept-new =
       record {
         len = simp length-set;
-        before = λ j m. apart j (omega arith) (omega arith) (omega arith) (omega arith);
-        after = λ j m. apart j (omega arith) (omega arith) (omega arith) (omega arith);
+        low = λ j m. apart j (omega arith) (omega arith) (omega arith) (omega arith);
+        high = λ j m. apart j (omega arith) (omega arith) (omega arith) (omega arith);
       }
 
   new : (k v : ℕ) → b + 3 * n + 2 * p ≤ length w → Right w b n c k u v o t x h → New w (newW w b n c u o t x h) b n p c k u v

@@ -1,42 +1,18 @@
 -- Lists of edges and the places of their records, with no memory.
-use mathlib.Core.Path.{_≡_, refl, ap, sym, _∙_, subst}
-use mathlib.Core.Logic.{_⊎_, inl, inr}
-use mathlib.Core.Bool.{Bool, true, false, _&&_, _||_, cond}
+use mathlib.Core.Path.{_≡_, refl, sym, _∙_}
+use mathlib.Core.Bool.{Bool, true, false, _||_, cond}
 use mathlib.Core.List.{List, [], _∷_}
 use Prim.Native.Nat.{ℕ, suc, _≤_, _<_}
 use native.Mathlib.Omega.{arith}
 use lib.Dec.{ltb, eqb}
 use lib.ListN.{length}
-use borrow.Author.Tests.{ltb-true, lt-ltb, le-ltb, eqb-true, eq-eqb}
+use borrow.Author.Tests.{lt-ltb, le-ltb}
 use Rattle.definition.specs.Plane.{Edge}
 use Rattle.definition.specs.Lists.{any}
 use Rattle.definition.specs.Cells.{same-edge, has-edge-in}
+use Rattle.laws.specs.Cells.{same-self, same-is}
 use Rattle.blocks.specs.Records.{newest, place}
 use Rattle.blocks.specs.Blocks.{with-edge}
-
-pub which : (t : Bool) → (t ≡ true) ⊎ (t ≡ false)
-which true = inl refl
-which false = inr refl
-
-pub never : {A : Type 0} (t : Bool) → t ≡ true → t ≡ false → A
-never t e f = absurd (let z : _≡_ {A = ℕ} 0 1 = cc in omega arith)
-
-both : (s t : Bool) → (s && t) ≡ true → (s ≡ true) × (t ≡ true)
-both true t h = (refl, h)
-both false t h = never false h refl
-
-pair-is : (a b c d : ℕ) → a ≡ c → b ≡ d → _≡_ {A = Edge} (a, b) (c, d)
-pair-is a b c d p q = cc
-
-pub same-is : (e x : Edge) → same-edge e x ≡ true → e ≡ x
-unfolding same-edge
-same-is e x h =
-    let t = both (eqb (e .0) (x .0)) (eqb (e .1) (x .1)) h in
-    pair-is (e .0) (e .1) (x .0) (x .1) (eqb-true (e .0) (x .0) (t .0)) (eqb-true (e .1) (x .1) (t .1))
-
-pub same-self : (e : Edge) → same-edge e e ≡ true
-unfolding same-edge
-same-self e = rw (eq-eqb (e .0) (e .0) refl, eq-eqb (e .1) (e .1) refl)
 
 -- a record's number is below the number of records
 pub place-below : (n : ℕ) (e : Edge) (es : List Edge) → place n e es < n → place n e es < length es

@@ -1,24 +1,16 @@
 -- What a change of the slice leaves of the area: `framed` says that `Blocks` depends on the area alone.
-use mathlib.Core.Path.{_≡_, refl, ap, sym, _∙_, subst}
-use mathlib.Core.Logic.{_≢_}
+use mathlib.Core.Path.{_≡_, refl, sym, _∙_}
 use mathlib.Core.Bool.{Bool, true, false, _&&_}
 use mathlib.Core.List.{List, [], _∷_}
-use Prim.Native.Nat.{ℕ, suc, _+_, _*_, _≤_, _<_}
+use Prim.Native.Nat.{ℕ, _+_, _*_, _<_}
 use native.Mathlib.Omega.{arith}
 use lib.Dec.{ltb, leb}
-use lib.ListN.{length, getD, set}
-use lib.Seq.{getD-set-same, getD-set-other}
+use lib.ListN.{length}
 use borrow.Author.Tests.{ltb-true}
 use Rattle.definition.specs.Plane.{Edge}
-use Rattle.blocks.specs.Records.{other, birth, next, head, touched, size, Room, Same, newest, place, IsEdge, Written, Lists, stands}
+use Rattle.blocks.specs.Records.{other, birth, next, head, touched, size, Same, place, Written, Lists, stands}
 use Rattle.blocks.specs.Blocks.{Blocks}
 use Rattle.blocks.proofs.Edges.{place-below}
-
-pub on : (w : List ℕ) (i v : ℕ) → i < length w → getD (set w i v) i 0 ≡ v
-on w i v h = getD-set-same w i v 0 h
-
-pub off : (w : List ℕ) (i v j : ℕ) → j ≢ i → getD (set w i v) j 0 ≡ getD w j 0
-off w i v j h = getD-set-other w i j v 0 h
 
 pub written-same : (other next other' next' : ℕ → ℕ) (n : ℕ) (es : List Edge) → ((i : ℕ) → i < length es → other' i ≡ other i) → ((i : ℕ) → i < length es → next' i ≡ next i)
     → Written other next n es → Written other' next' n es
@@ -65,14 +57,14 @@ stands-same w w' b n p ever ever' e q f g h = rw (q, g, h) (go (ltb (place n e e
 pub framed : (w w' : List ℕ) (b n p k : ℕ) (ever bl : List Edge) → Same w w' b (size n p) → Blocks w b n p k ever bl → Blocks w' b n p k ever bl
 framed w w' b n p k ever bl s h =
     let c = h .lists .count in
-    let born : (i : ℕ) → i < length ever → birth w' b n i ≡ birth w b n i = λ i l. s .inside (b + n + i) (omega arith) (omega arith) in
-    let at : (v : ℕ) → v < p → touched w' b n p v ≡ touched w b n p v = λ v l. s .inside (b + 3 * n + p + v) (omega arith) (omega arith) in
+    let born : (i : ℕ) → i < length ever → birth w' b n i ≡ birth w b n i = λ i l. s .same (b + n + i) (omega arith) (omega arith) in
+    let at : (v : ℕ) → v < p → touched w' b n p v ≡ touched w b n p v = λ v l. s .same (b + 3 * n + p + v) (omega arith) (omega arith) in
     record {
       lists = lists-same w w' b n p ever (record {
         len = s .len;
-        others = λ i l. s .inside (b + i) (omega arith) (omega arith);
-        nexts = λ i l. s .inside (b + 2 * n + i) (omega arith) (omega arith);
-        heads = λ v l. s .inside (b + 3 * n + v) (omega arith) (omega arith);
+        others = λ i l. s .same (b + i) (omega arith) (omega arith);
+        nexts = λ i l. s .same (b + 2 * n + i) (omega arith) (omega arith);
+        heads = λ v l. s .same (b + 3 * n + v) (omega arith) (omega arith);
       }) (h .lists);
       quads = h .quads;
       births = λ i l. rw (born i l) (h .births i l);

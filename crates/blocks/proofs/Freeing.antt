@@ -1,9 +1,9 @@
 -- `free`: `touched` of the quad's nodes is above every birth, so no edge at them stands; every other edge stands as before.
-use mathlib.Core.Path.{_≡_, refl, ap, sym, _∙_, subst}
+use mathlib.Core.Path.{_≡_, refl, ap, sym, _∙_}
 use mathlib.Core.Logic.{_≢_, inl, inr}
 use mathlib.Core.Bool.{Bool, true, false, not, _&&_, _||_, cond, and-true, and-false}
 use mathlib.Core.List.{List, [], _∷_}
-use Prim.Native.Nat.{ℕ, suc, _+_, _*_, _^_, _≤_, _<_}
+use Prim.Native.Nat.{ℕ, _+_, _*_, _^_, _≤_, _<_}
 use native.Mathlib.Omega.{arith}
 use lib.Dec.{eqb}
 use lib.ListN.{length, getD, set, length-set}
@@ -12,10 +12,13 @@ use Rattle.definition.specs.Plane.{Edge}
 use Rattle.definition.specs.Lists.{any, filter, contains}
 use Rattle.definition.specs.Cells.{Quad, quad-nodes, same-edge, has-edge-in}
 use Rattle.definition.specs.Front.{clear-of, freed}
+use Rattle.laws.specs.Bools.{which}
+use Rattle.laws.specs.Cells.{same-is}
+use Rattle.laws.specs.Frames.{on, off}
 use Rattle.blocks.specs.Records.{birth, touched, size, Kept, place, IsEdge, stands}
 use Rattle.blocks.specs.Blocks.{Blocks}
-use Rattle.blocks.proofs.Edges.{which, same-is, place-below}
-use Rattle.blocks.proofs.Framing.{on, off, lists-same, stands-same}
+use Rattle.blocks.proofs.Edges.{place-below}
+use Rattle.blocks.proofs.Framing.{lists-same, stands-same}
 use Rattle.blocks.proofs.Standing.{stands-first, stands-second}
 
 -- ---- t stored at each of the nodes
@@ -129,7 +132,7 @@ module _ (w w' : List ℕ) (b n p k t : ℕ) (q : Quad) (ever bl : List Edge) (h
   ]
 
   pub free-kept : Kept w w' b (size n p)
-  free-kept = record { len = len; before = λ j l. low j (omega arith); after = high }
+  free-kept = record { len = len; low = λ j l. low j (omega arith); high = high }
 
   pub free-to : k + 1 < 2 ^ 32 → Blocks w' b n p (k + 1) ever (freed q bl)
   free-to m =

@@ -1,20 +1,18 @@
 -- `open`: each node below v has an empty list and is untouched.
-use mathlib.Core.Path.{_≡_, refl, ap, sym, _∙_, subst}
+use mathlib.Core.Path.{_≡_, refl, _∙_}
 use mathlib.Core.Logic.{inl, inr}
-use mathlib.Core.Bool.{Bool, true, false, _&&_}
-use mathlib.Core.List.{List, [], _∷_}
-use Prim.Native.Nat.{ℕ, suc, _+_, _*_, _^_, _≤_, _<_}
+use mathlib.Core.List.{List}
+use Prim.Native.Nat.{ℕ, _+_, _*_, _≤_, _<_}
 use native.Mathlib.Omega.{arith}
 use lib.Dec.{eqb, lit<}
 use lib.ListN.{length, getD, set, length-set}
 use borrow.Author.Tests.{le-ltb, eqb-true, eqb-false}
-use Rattle.definition.specs.Plane.{Edge}
 use Rattle.definition.specs.Lists.{any}
 use Rattle.definition.specs.Cells.{has-edge-in}
+use Rattle.laws.specs.Bools.{which}
+use Rattle.laws.specs.Frames.{on, off}
 use Rattle.blocks.specs.Records.{head, touched, size, Room, Kept, newest, place, stands}
-use Rattle.blocks.specs.Blocks.{Blocks, OpenTo}
-use Rattle.blocks.proofs.Edges.{which}
-use Rattle.blocks.proofs.Framing.{on, off}
+use Rattle.blocks.specs.Blocks.{OpenTo}
 
 -- the nodes below v are opened
 pub record Opened (w₀ w : List ℕ) (b n p v : ℕ) : Type 0 where
@@ -29,7 +27,7 @@ openedW w b n p v = set (set w (b + 3 * n + v) n) (b + 3 * n + p + v) 0
 pub open-none : (w : List ℕ) (b n p : ℕ) → Opened w w b n p 0
 open-none w b n p =
     record {
-      kept = record { len = refl; before = λ i l. refl; after = λ i l. refl };
+      kept = record { len = refl; low = λ i l. refl; high = λ i l. refl };
       within = omega arith;
       heads = λ x l. absurd (omega (arith, l));
       touches = λ x l. absurd (omega (arith, l));
@@ -59,8 +57,8 @@ module _ (w₀ w : List ℕ) (b n p v : ℕ) (r : Room w₀ b n p) (l : v < p) (
       record {
         kept = record {
           len = simp length-set (o .kept .len);
-          before = λ i h. apart i (omega arith) (omega arith) ∙ o .kept .before i h;
-          after = λ i h. apart i (omega arith) (omega arith) ∙ o .kept .after i h;
+          low = λ i h. apart i (omega arith) (omega arith) ∙ o .kept .low i h;
+          high = λ i h. apart i (omega arith) (omega arith) ∙ o .kept .high i h;
         };
         within = omega arith;
         heads = head-at;

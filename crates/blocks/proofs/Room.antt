@@ -1,16 +1,18 @@
 -- How a caller meets what `block` asks of the room: ever with the refused edge is a list of distinct edges too, so a bound on the number of distinct
 -- edges that can be refused bounds its length.
-use mathlib.Core.Path.{_≡_, refl, sym, _∙_}
+use mathlib.Core.Path.{_≡_, refl}
 use mathlib.Core.Logic.{_⊎_, inl, inr}
-use mathlib.Core.Bool.{Bool, true, false, _||_, cond}
-use mathlib.Core.List.{List, [], _∷_}
+use mathlib.Core.Bool.{Bool, true, false, _||_}
+use mathlib.Core.List.{List, _∷_}
 use Prim.Native.Nat.{ℕ}
 use Rattle.definition.specs.Plane.{Edge}
 use Rattle.definition.specs.Lists.{any}
 use Rattle.definition.specs.Cells.{same-edge, has-edge-in}
+use Rattle.laws.specs.Bools.{which}
+use Rattle.laws.specs.Cells.{same-is}
 use Rattle.blocks.specs.Records.{IsEdge, Distinct}
 use Rattle.blocks.specs.Blocks.{with-edge}
-use Rattle.blocks.proofs.Edges.{which, with-old, with-new, same-is}
+use Rattle.blocks.proofs.Edges.{with-old, with-new}
 
 pub with-distinct : (p : ℕ) (e : Edge) (ever : List Edge) → IsEdge p e → Distinct p ever → Distinct p (with-edge e ever)
 with-distinct p e ever i d = elim (which (has-edge-in ever e)) [

@@ -17,20 +17,19 @@ module _ (w : List ℕ) (b n p : ℕ) (ever : List Edge) (e : Edge) (i : ℕ) (a
   unfolding stands
   stands-true l f g = rw (sym at, lt-ltb i n l, le-leb (touched w b n p (e .0)) (birth w b n i) f, le-leb (touched w b n p (e .1)) (birth w b n i) g)
 
-  -- a quad with the smaller node came later
-  pub stands-first : (i < n → birth w b n i < touched w b n p (e .0)) → stands w b n p ever e ≡ false
+  -- a quad with one of the nodes came later
+  stands-late : (i < n → (leb (touched w b n p (e .0)) (birth w b n i) && leb (touched w b n p (e .1)) (birth w b n i)) ≡ false) → stands w b n p ever e ≡ false
   unfolding stands
-  stands-first f = rw (sym at) (go (ltb i n) refl)
+  stands-late f = rw (sym at) (go (ltb i n) refl)
     where
       go : (t : Bool) → ltb i n ≡ t → (t && leb (touched w b n p (e .0)) (birth w b n i) && leb (touched w b n p (e .1)) (birth w b n i)) ≡ false
-      go true s = rw (lt-leb (touched w b n p (e .0)) (birth w b n i) (f (ltb-true i n s)))
+      go true s = f (ltb-true i n s)
       go false s = refl
+
+  -- a quad with the smaller node came later
+  pub stands-first : (i < n → birth w b n i < touched w b n p (e .0)) → stands w b n p ever e ≡ false
+  stands-first f = stands-late (λ l. rw (lt-leb (touched w b n p (e .0)) (birth w b n i) (f l)))
 
   -- a quad with the larger node came later
   pub stands-second : (i < n → birth w b n i < touched w b n p (e .1)) → stands w b n p ever e ≡ false
-  unfolding stands
-  stands-second f = rw (sym at) (go (ltb i n) refl)
-    where
-      go : (t : Bool) → ltb i n ≡ t → (t && leb (touched w b n p (e .0)) (birth w b n i) && leb (touched w b n p (e .1)) (birth w b n i)) ≡ false
-      go true s = rw (lt-leb (touched w b n p (e .1)) (birth w b n i) (f (ltb-true i n s))) (and-false (leb (touched w b n p (e .0)) (birth w b n i)))
-      go false s = refl
+  stands-second f = stands-late (λ l. rw (lt-leb (touched w b n p (e .1)) (birth w b n i) (f l)) (and-false (leb (touched w b n p (e .0)) (birth w b n i))))

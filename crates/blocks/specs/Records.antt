@@ -8,6 +8,7 @@ use lib.Dec.{leb, ltb, eqb}
 use lib.ListN.{length, getD}
 use Rattle.definition.specs.Plane.{Edge}
 use Rattle.definition.specs.Cells.{same-edge, has-edge-in}
+use Rattle.laws.specs.Frames.{Only, Stays}
 
 -- ---- the area's parts
 
@@ -42,15 +43,12 @@ pub record Room (w : List ℕ) (b n p : ℕ) : Type 0 where
   pub few-nodes : p ≤ 2 ^ 32
 
 -- nothing changed but the m numbers from b on
-pub record Kept (w w' : List ℕ) (b m : ℕ) : Type 0 where
-  pub len : length w' ≡ length w
-  pub before : (i : ℕ) → i < b → getD w' i 0 ≡ getD w i 0
-  pub after : (i : ℕ) → b + m ≤ i → getD w' i 0 ≡ getD w i 0
+abbrev pub Kept : List ℕ → List ℕ → ℕ → ℕ → Type 0
+Kept w w' b m = Only w w' b (b + m)
 
 -- the m numbers from b on are the same
-pub record Same (w w' : List ℕ) (b m : ℕ) : Type 0 where
-  pub len : length w' ≡ length w
-  pub inside : (i : ℕ) → b ≤ i → i < b + m → getD w' i 0 ≡ getD w i 0
+abbrev pub Same : List ℕ → List ℕ → ℕ → ℕ → Type 0
+Same w w' b m = Stays w w' b (b + m)
 
 -- ---- the records of a list of edges, newest first: a record's number is how many are older
 

@@ -1,22 +1,23 @@
 -- A segment and the edges of a region: edge after edge, cell after cell.
-use mathlib.Core.Path.{_≡_, refl, ap, sym, _∙_, subst}
+use mathlib.Core.Path.{_≡_, refl, ap, sym, _∙_}
 use mathlib.Core.Logic.{_≢_}
 use mathlib.Core.Bool.{Bool, true, false, not, _&&_, _||_, and-true, or-false, or-true}
 use mathlib.Core.List.{List, [], _∷_, _++_}
-use Prim.Native.Nat.{ℕ, zero, suc, _+_, _*_, _≤_, _<_}
+use Prim.Native.Nat.{ℕ, _≤_, _<_}
 use native.Mathlib.Omega.{arith}
 use lib.Dec.{eqb}
 use lib.ListN.{length}
 use lib.Ieee.{Float}
 use borrow.Author.Tests.{eq-eqb, ne-eqb}
 use Rattle.rings.proofs.Lists.{Same, same, differ, decide}
-use Rattle.definition.specs.Plane.{Node, Edge, segments-cross}
+use Rattle.definition.specs.Plane.{Edge, segments-cross}
 use Rattle.definition.specs.Lists.{filter, any, all, flat-map, contains}
-use Rattle.definition.specs.Cells.{Tri, Cell, tri, quad, Live, Mesh, new-live, nodes, tri-nodes, edges, tri-edges, key, touches, node-at, has-node, tri-has}
+use Rattle.definition.specs.Cells.{Tri, tri, Live, Mesh, new-live, nodes, tri-nodes, edges, tri-edges, key, touches, node-at, has-node, tri-has}
 use Rattle.definition.specs.Candidates.{shared-by-tris, passes-by, walls, segment-inside}
 use Rattle.definition.specs.Call.{point-at}
+use Rattle.laws.specs.Numbers.{eqb-swap}
 use Rattle.cells.specs.Rep.{Pts}
-use Rattle.plane.specs.Points.{Within, node-of}
+use Rattle.plane.specs.Points.{node-of}
 use Rattle.candidates.specs.Hand.{Ends, open-edge}
 
 -- ---- one edge
@@ -48,9 +49,6 @@ pub crosses-read : (q : List Float) (p : ℕ) (m : Mesh) → Pts q p m → (a b 
 crosses-read q p m k a b u v e f =
     let r = node-of m (length (m .points)) q (k .are) in
     rw (r a (e .first), r b (e .second), r u (f .first), r v (f .second))
-
-pub node-within : (q : List Float) (p : ℕ) (m : Mesh) → Pts q p m → (v : ℕ) → v < length (m .points) → Within q v
-node-within q p m k v h = omega (arith, k .fits, k .few)
 
 module _ (m : Mesh) (a b : ℕ) (e : Edge) where
   pub open-clear : true ≡ passes-by m a b e → true ≡ open-edge m a b e
@@ -114,13 +112,6 @@ inside-cells m a b region = all-walls m a b (flat-map (λ x. edges (x .cell)) re
 
 -- ---- nodes of a triangle
 
-eqb-swap : (a b : ℕ) → eqb a b ≡ eqb b a
-eqb-swap a b = go (decide a b)
-  where
-    go : Same a b → eqb a b ≡ eqb b a
-    go (same e) = rw (eq-eqb a b e, eq-eqb b a (sym e))
-    go (differ e) = rw (ne-eqb a b e, ne-eqb b a (λ z. e (sym z)))
-
 left-first : (a b c : Bool) → (a || (b || (c || false))) ≡ ((a || b) || c)
 left-first true b c = refl
 left-first false true c = refl
@@ -154,12 +145,3 @@ below-of u v h n = go (decide u v)
 
 pub ends-are : (m : Mesh) (u v a b : ℕ) → u ≡ a → v ≡ b → a < length (m .points) → b < length (m .points) → Ends m u v
 ends-are m u v a b e f h k = record { first = omega arith; second = omega arith }
-
--- a test and its negation
-pub not-was : (b : Bool) → not b ≡ true → false ≡ b
-not-was true h = h
-not-was false h = refl
-
-pub was : (b : Bool) → not b ≡ false → true ≡ b
-was true h = refl
-was false h = h

@@ -1,18 +1,20 @@
 -- The region in hand read slot after slot: the cells from place k on.
 use mathlib.Core.Path.{_≡_, refl, ap, sym, _∙_, subst}
-use mathlib.Core.Bool.{Bool, true, false, _&&_, _||_}
+use mathlib.Core.Bool.{Bool, true, false}
 use mathlib.Core.List.{List, [], _∷_}
-use Prim.Native.Nat.{ℕ, zero, suc, _+_, _*_, _≤_, _<_}
+use Prim.Native.Nat.{ℕ, _+_, _*_, _≤_, _<_}
 use native.Mathlib.Omega.{arith}
 use lib.ListN.{length, getD}
 use lib.Ieee.{Float}
 use Rattle.definition.specs.Lists.{all, any}
-use Rattle.definition.specs.Cells.{tri, Live, Mesh, new-live, edges, tri-edges, has-node, tri-has}
+use Rattle.definition.specs.Cells.{Live, Mesh, new-live, edges, tri-edges, has-node, tri-has}
 use Rattle.definition.specs.Candidates.{walls, segment-inside}
+use Rattle.laws.specs.Lists.{Stored}
+use Rattle.lives.proofs.Scratches.{scratch-rep}
 use Rattle.cells.specs.Layout.{list-at}
-use Rattle.cells.specs.Rep.{Rep, TriIn, slots}
+use Rattle.cells.specs.Rep.{Rep, slots}
 use Rattle.cells.proofs.Slots.{rep-held}
-use Rattle.lives.specs.Stack.{Stored, Inner}
+use Rattle.lives.specs.Stack.{Inner, Lent, LiveTo}
 use Rattle.lives.proofs.Steps.{TopTri, tri-top}
 use Rattle.candidates.specs.Hand.{InHand, open-edge}
 use Rattle.candidates.proofs.Fences.{open-cell, inside-cells, has-tri}
@@ -114,3 +116,8 @@ passing-start w q s p n a b m region h = record { rest = region; scan = scan-sta
 
 pub failing-start : (w : List ℕ) (q : List Float) (s p n v : ℕ) (m : Mesh) (region : List Live) → InHand w q s p n m region → Failing w s p n 0 m (has-node v) (any (has-node v) region)
 failing-start w q s p n v m region h = record { rest = region; scan = scan-start w q s p n m region h; same = refl }
+
+-- the region of a search in hand
+pub in-hand : (w w' : List ℕ) (q : List Float) (s p used k : ℕ) (m : Mesh) (region : List Live) → Lent w q s p used m → LiveTo w w' s p k m region → InHand w' q s p k m region
+in-hand w w' q s p used k m region l h =
+    record { rep = scratch-rep w w' s p m (h .scratch) (l .rep); pts = l .pts; len = h .len; few = h .few; stored = h .stored; inner = h .inner }

@@ -1,9 +1,9 @@
 -- When exactly two triangles own an edge, by the owners met one after the other.
 use mathlib.Core.Path.{_≡_, refl, ap, sym, _∙_, subst}
 use mathlib.Core.Logic.{_≢_}
-use mathlib.Core.Bool.{Bool, true, false, not, _&&_, _||_, and-false}
-use mathlib.Core.List.{List, [], _∷_, _++_}
-use Prim.Native.Nat.{ℕ, zero, suc, _+_, _*_, _/_, _≤_, _<_}
+use mathlib.Core.Bool.{Bool, true, false, _&&_}
+use mathlib.Core.List.{List, [], _∷_}
+use Prim.Native.Nat.{ℕ, suc, _/_, _≤_}
 use native.Mathlib.Omega.{arith}
 use lib.Dec.{eqb}
 use lib.ListN.{length, getD}
@@ -11,12 +11,12 @@ use borrow.Author.Tests.{eq-eqb, ne-eqb}
 use Rattle.rings.proofs.Lists.{Same, same, differ, decide}
 use Rattle.definition.specs.Plane.{Edge}
 use Rattle.definition.specs.Lists.{filter}
-use Rattle.definition.specs.Cells.{Live, Mesh, key, live-tri, owners, tri-owners}
+use Rattle.definition.specs.Cells.{Live, Mesh, live-tri, owners, tri-owners}
 use Rattle.definition.specs.Candidates.{shared-by-tris}
-use Rattle.cells.specs.Rep.{Rep}
+use Rattle.laws.specs.Lists.{filter-yes, filter-no}
 use Rattle.cells.specs.Walk.{At, Next}
-use Rattle.cells.proofs.Fronts.{held-tri, filter-hit, filter-miss}
-use Rattle.cells.proofs.Owners.{Here, at-here, at-end, at-more}
+use Rattle.cells.proofs.Fronts.{held-tri}
+use Rattle.cells.proofs.Owners.{Here}
 
 few : (l : List Live) → length (filter live-tri l) ≤ length l
 unfolding filter
@@ -24,8 +24,8 @@ few [] = omega arith
 few (x ∷ l) = go (live-tri x) refl (few l)
   where
     go : (b : Bool) → live-tri x ≡ b → length (filter live-tri l) ≤ length l → length (filter live-tri (x ∷ l)) ≤ suc (length l)
-    go true e r = rw (filter-hit live-tri x l e) (omega arith)
-    go false e r = rw (filter-miss live-tri x l e) (omega arith)
+    go true e r = rw (filter-yes live-tri x l e) (omega arith)
+    go false e r = rw (filter-no live-tri x l e) (omega arith)
 
 not-both : (n t : ℕ) → (n ≡ 2 → t ≡ 2 → ⊥) → false ≡ (eqb n 2 && eqb t 2)
 not-both n t h = go (decide n 2)
@@ -50,7 +50,7 @@ module _ (m : Mesh) (e : Edge) where
       shared-not refl
       (λ a b.
       let z : length (owners m e) ≡ suc (length l) = ap length q in
-      let y : length (filter live-tri (owners m e)) ≡ length (filter live-tri l) = ap (λ (k : List Live). length (filter live-tri k)) q ∙ ap length (filter-miss live-tri x l t) in
+      let y : length (filter live-tri (owners m e)) ≡ length (filter live-tri l) = ap (λ (k : List Live). length (filter live-tri k)) q ∙ ap length (filter-no live-tri x l t) in
       omega (arith, few l))
 
   pub shared-second : (x y : Live) (l : List Live) → owners m e ≡ x ∷ y ∷ l → live-tri y ≡ false → false ≡ shared-by-tris m e
@@ -59,15 +59,15 @@ module _ (m : Mesh) (e : Edge) where
       (λ a b.
       let z : length (owners m e) ≡ suc (suc (length l)) = ap length q in
       let g : length (filter live-tri (owners m e)) ≡ length (filter live-tri (x ∷ y ∷ l)) = ap (λ (k : List Live). length (filter live-tri k)) q in
-      let h : length (filter live-tri (y ∷ l)) ≡ length (filter live-tri l) = ap length (filter-miss live-tri y l t) in
+      let h : length (filter live-tri (y ∷ l)) ≡ length (filter live-tri l) = ap length (filter-no live-tri y l t) in
       omega (arith, few l, longer x (y ∷ l)))
     where
       longer : (v : Live) (k : List Live) → length (filter live-tri (v ∷ k)) ≤ suc (length (filter live-tri k))
       longer v k = go (live-tri v) refl
         where
           go : (b : Bool) → live-tri v ≡ b → length (filter live-tri (v ∷ k)) ≤ suc (length (filter live-tri k))
-          go true r = rw (filter-hit live-tri v k r) (omega arith)
-          go false r = rw (filter-miss live-tri v k r) (omega arith)
+          go true r = rw (filter-yes live-tri v k r) (omega arith)
+          go false r = rw (filter-no live-tri v k r) (omega arith)
 
   pub shared-more : (x y z : Live) (l : List Live) → owners m e ≡ x ∷ y ∷ z ∷ l → false ≡ shared-by-tris m e
   shared-more x y z l q = shared-not refl (λ a b. let g : length (owners m e) ≡ suc (suc (suc (length l))) = ap length q in omega arith)

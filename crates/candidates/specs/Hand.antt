@@ -8,9 +8,10 @@ use lib.Ieee.{Float}
 use Rattle.definition.specs.Plane.{Edge}
 use Rattle.definition.specs.Cells.{Live, Mesh}
 use Rattle.definition.specs.Candidates.{shared-by-tris, passes-by}
+use Rattle.laws.specs.Lists.{Stored}
 use Rattle.cells.specs.Layout.{list-at}
 use Rattle.cells.specs.Rep.{Rep, Pts, slots}
-use Rattle.lives.specs.Stack.{Stored, Inner}
+use Rattle.lives.specs.Stack.{Inner}
 
 -- the slices stand for the mesh, and the list has the n triangles of the region
 pub record InHand (w : List ℕ) (q : List Float) (s p n : ℕ) (m : Mesh) (region : List Live) : Type 0 where

@@ -1,18 +1,17 @@
 -- The corners of a list of nodes, and of cells.
-use mathlib.Core.Path.{_≡_, refl, ap, sym, _∙_, subst}
+use mathlib.Core.Path.{_≡_, refl, ap, sym, _∙_}
 use mathlib.Core.Logic.{_≢_}
-use mathlib.Core.Bool.{Bool, true, false, not, cond}
 use mathlib.Core.List.{List, [], _∷_, _++_, append-nil, append-assoc}
-use Prim.Native.Nat.{ℕ, zero, suc, _+_, _-_, _*_, _/_, _≤_, _<_}
+use Prim.Native.Nat.{ℕ, zero, suc, _+_, _*_, _/_, _≤_, _<_}
 use native.Mathlib.Omega.{arith}
 use lib.Dec.{eqb}
 use lib.ListN.{length, getD}
-use borrow.Author.Tests.{eq-eqb, ne-eqb}
-use Rattle.rings.specs.Rings.{Out, Distinct, Below, without, pick}
-use Rattle.rings.proofs.Lists.{Same, same, differ, decide, out-append, below-append}
+use borrow.Author.Tests.{eq-eqb}
+use Rattle.rings.specs.Rings.{Out, Below, pick}
+use Rattle.rings.proofs.Lists.{out-append, below-append}
 use Rattle.rings.proofs.Families.{pick-below, pick-out}
-use Rattle.definition.specs.Cells.{Tri, Quad, Cell, tri, quad, Live, nodes, tri-nodes, quad-nodes}
-use Rattle.cells.specs.Rep.{Shape, CellAt, Held, Cells, slots, at-node, cell-corners, corners}
+use Rattle.definition.specs.Cells.{Cell, tri, quad, Live, nodes, tri-nodes, quad-nodes}
+use Rattle.cells.specs.Rep.{Shape, Held, Cells, slots, at-node, cell-corners, corners}
 
 -- a cell has three or four nodes
 pub node-count : (t : Cell) → (3 ≤ length (nodes t)) × (length (nodes t) ≤ 4)

@@ -1,27 +1,18 @@
 -- When a cell has the edge u-v, in the nodes' own order.
-use mathlib.Core.Path.{_≡_, refl, ap, sym, _∙_, subst}
-use mathlib.Core.Logic.{_≢_}
+use mathlib.Core.Path.{_≡_, refl, sym, _∙_}
 use mathlib.Core.Bool.{Bool, true, false, _&&_, _||_, and-comm, or-false, false≢true}
-use mathlib.Core.List.{List, [], _∷_}
 use Prim.Native.Nat.{ℕ, min, max, _≤_, _<_}
 use native.Mathlib.Omega.{arith}
 use lib.Dec.{eqb}
 use borrow.Author.Tests.{eq-eqb, ne-eqb, eqb-true}
 use Rattle.rings.proofs.Lists.{Same, same, differ, decide}
 use Rattle.definition.specs.Lists.{any}
-use Rattle.definition.specs.Cells.{Tri, Quad, Cell, tri, quad, key, tri-has, has-side, has-edge-in, same-edge, quad-edges}
+use Rattle.definition.specs.Cells.{Tri, Quad, tri, quad, key, tri-has, has-side, has-edge-in, same-edge, quad-edges}
+use Rattle.laws.specs.Bools.{and-left, and-right, fails}
 
 -- the edge a-b is the edge u-v
 abbrev pub joins : ℕ → ℕ → ℕ → ℕ → Bool
 joins u v a b = eqb a u && eqb b v || eqb a v && eqb b u
-
-both-left : (a b : Bool) → (a && b) ≡ true → a ≡ true
-both-left true b h = refl
-both-left false b h = h
-
-both-right : (a b : Bool) → (a && b) ≡ true → b ≡ true
-both-right true b h = h
-both-right false b h = absurd (false≢true h)
 
 data Ends (u v a b : ℕ) : Type 0 where
   forth : a ≡ u → b ≡ v → Ends u v a b
@@ -39,12 +30,8 @@ ends : (u v a b : ℕ) → joins u v a b ≡ true → Ends u v a b
 ends u v a b h = go (either (eqb a u && eqb b v) (eqb a v && eqb b u) h)
   where
     go : Either (eqb a u && eqb b v) (eqb a v && eqb b u) → Ends u v a b
-    go (first k) = forth (eqb-true a u (both-left (eqb a u) (eqb b v) k)) (eqb-true b v (both-right (eqb a u) (eqb b v) k))
-    go (second k) = back (eqb-true a v (both-left (eqb a v) (eqb b u) k)) (eqb-true b u (both-right (eqb a v) (eqb b u) k))
-
-not-true : (b : Bool) → (b ≡ true → ⊥) → b ≡ false
-not-true true h = absurd (h refl)
-not-true false h = refl
+    go (first k) = forth (eqb-true a u (and-left (eqb a u) (eqb b v) k)) (eqb-true b v (and-right (eqb a u) (eqb b v) k))
+    go (second k) = back (eqb-true a v (and-left (eqb a v) (eqb b u) k)) (eqb-true b u (and-right (eqb a v) (eqb b u) k))
 
 -- an edge with its smaller node first: the same test
 pub keys : (u v a b : ℕ) → same-edge (key u v) (key a b) ≡ joins u v a b
@@ -61,8 +48,8 @@ keys u v a b = go (joins u v a b) refl
 
     go : (r : Bool) → joins u v a b ≡ r → (eqb (min u v) (min a b) && eqb (max u v) (max a b)) ≡ r
     go true h = yes-key (ends u v a b h)
-    go false h = not-true (eqb (min u v) (min a b) && eqb (max u v) (max a b))
-        (λ t. false≢true (sym h ∙ join (decide a u) (eqb-true (min u v) (min a b) (both-left (eqb (min u v) (min a b)) (eqb (max u v) (max a b)) t)) (eqb-true (max u v) (max a b) (both-right (eqb (min u v) (min a b)) (eqb (max u v) (max a b)) t))))
+    go false h = fails (eqb (min u v) (min a b) && eqb (max u v) (max a b))
+        (λ t. false≢true (sym h ∙ join (decide a u) (eqb-true (min u v) (min a b) (and-left (eqb (min u v) (min a b)) (eqb (max u v) (max a b)) t)) (eqb-true (max u v) (max a b) (and-right (eqb (min u v) (min a b)) (eqb (max u v) (max a b)) t))))
 
 -- an edge is the same from both ends
 pub key-swap : (u v : ℕ) → key u v ≡ key v u

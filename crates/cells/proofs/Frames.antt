@@ -2,61 +2,33 @@
 use mathlib.Core.Path.{_≡_, refl, ap, sym, _∙_, subst}
 use mathlib.Core.Logic.{_≢_}
 use mathlib.Core.Bool.{Bool, true, false, cond}
-use mathlib.Core.List.{List, [], _∷_, _++_}
-use Prim.Native.Nat.{ℕ, zero, suc, _+_, _-_, _*_, _/_, _≤_, _<_}
+use mathlib.Core.List.{List, [], _∷_}
+use Prim.Native.Nat.{ℕ, zero, suc, _+_, _*_, _≤_, _<_}
 use native.Mathlib.Omega.{arith}
 use lib.Dec.{eqb, ltb}
-use lib.ListN.{length, getD, set, length-set}
+use lib.ListN.{length, getD, set}
 use borrow.Author.Tests.{eqb-true, ltb-true}
 use Rattle.rings.specs.Rings.{nx, Below, Out, Distinct, Kept, Family}
-use Rattle.rings.proofs.Rings.{on, off}
 use Rattle.rings.proofs.Families.{family-kept}
 use Rattle.definition.specs.Lists.{filter}
 use Rattle.definition.specs.Cells.{Cell, Live, Mesh, nodes, key, owns, owners, tris-of}
 use Rattle.definition.specs.Components.{odd-one}
+use Rattle.laws.specs.Frames.{on, Under, Keeps, under-less, under-set}
 use Rattle.cells.specs.Layout.{nodes-at, rings-at, codes, notes-at, even-at, mesh-end}
 use Rattle.cells.specs.Rep.{CellAt, Held, Cells, corners, Room, NoneOdd, Rep, slots}
-use Rattle.cells.specs.Walk.{From, Pos, Sought, nobody, somebody, At, Next, steps, left}
-use Rattle.cells.specs.Frames.{Under, Keeps}
-use Rattle.cells.proofs.Notes.{Spared, note-spared, SameAt, Grown, note-mesh}
+use Rattle.cells.specs.Walk.{From, Pos, Sought, nobody, somebody, At, steps, left}
+use Rattle.cells.proofs.Notes.{note-spared, Grown, note-mesh}
 use Rattle.cells.proofs.Corners.{corners-below, node-count, cells-weaken}
 
 -- ---- the words below an offset
 
-pub under-refl : (w : List ℕ) (b : ℕ) → Under w w b
-under-refl w b = record { len = refl; low = λ i h. refl }
-
-pub under-sym : (w w' : List ℕ) (b : ℕ) → Under w w' b → Under w' w b
-under-sym w w' b h = record { len = sym (h .len); low = λ i l. sym (h .low i l) }
-
-pub under-trans : (w w1 w2 : List ℕ) (b : ℕ) → Under w w1 b → Under w1 w2 b → Under w w2 b
-under-trans w w1 w2 b h k = record { len = k .len ∙ h .len; low = λ i l. k .low i l ∙ h .low i l }
-
-pub under-less : (w w' : List ℕ) (a b : ℕ) → a ≤ b → Under w w' b → Under w w' a
-under-less w w' a b h k = record { len = k .len; low = λ i l. k .low i (omega arith) }
-
-pub under-set : (w : List ℕ) (b i v : ℕ) → b ≤ i → Under w (set w i v) b
-under-set w b i v h = record { len = simp length-set; low = λ j l. off w i v j (omega arith) }
-
 pub under-kept : (w w' : List ℕ) (a b n : ℕ) → a ≤ b → Kept w w' b n → Under w w' a
-under-kept w w' a b n h k = record { len = k .len; low = λ j l. k .before j (omega arith) }
+under-kept w w' a b n h k = record { len = k .len; low = λ j l. k .low j (omega arith) }
 
 -- ---- the words from an offset on
 
-pub keeps-refl : (w : List ℕ) (b : ℕ) → Keeps w w b
-keeps-refl w b = record { len = refl; high = λ i h. refl }
-
-pub keeps-trans : (w w1 w2 : List ℕ) (b : ℕ) → Keeps w w1 b → Keeps w1 w2 b → Keeps w w2 b
-keeps-trans w w1 w2 b h k = record { len = k .len ∙ h .len; high = λ i l. k .high i l ∙ h .high i l }
-
-pub keeps-more : (w w' : List ℕ) (a b : ℕ) → a ≤ b → Keeps w w' a → Keeps w w' b
-keeps-more w w' a b h k = record { len = k .len; high = λ i l. k .high i (omega arith) }
-
-pub keeps-set : (w : List ℕ) (b i v : ℕ) → i < b → Keeps w (set w i v) b
-keeps-set w b i v h = record { len = simp length-set; high = λ j l. off w i v j (omega arith) }
-
 pub keeps-kept : (w w' : List ℕ) (b n e : ℕ) → b + n + n ≤ e → Kept w w' b n → Keeps w w' e
-keeps-kept w w' b n e h k = record { len = k .len; high = λ j l. k .after j (omega arith) }
+keeps-kept w w' b n e h k = record { len = k .len; high = λ j l. k .high j (omega arith) }
 
 -- ---- cells
 
@@ -130,7 +102,7 @@ module _ (w w' : List ℕ) (s p : ℕ) (k : Under w w' (mesh-end s p)) where
   from-kept (x ∷ l) c z b h =
       (h .0, subst (λ (y : ℕ). From (nx w' (rings-at s)) y l z) (sym (next-kept x (omega (arith, b .0)))) (from-kept l (nx w (rings-at s) x) z (b .1) (h .1)))
 
-  pos-under : (u c : ℕ) (l : List Live) → Pos w s p u c l → Pos w' s p u c l
+  pub pos-under : (u c : ℕ) (l : List Live) → Pos w s p u c l → Pos w' s p u c l
   pos-under u c l h =
       record {
         room = room-under (h .room);

@@ -1,17 +1,16 @@
 -- Owners counted, and the first triangle among them.
 use mathlib.Core.Path.{_≡_, refl, ap, sym, _∙_, subst}
-use mathlib.Core.Logic.{_≢_}
-use mathlib.Core.Bool.{Bool, true, false, cond, _&&_, _||_}
-use mathlib.Core.List.{List, [], _∷_, _++_}
-use mathlib.Core.Option.{Option, none, some}
-use Prim.Native.Nat.{ℕ, zero, suc, _+_, _-_, _*_, _/_, _%_, _≤_, _<_}
+use mathlib.Core.Bool.{Bool, true, false, _&&_, _||_}
+use mathlib.Core.List.{List, [], _∷_}
+use Prim.Native.Nat.{ℕ, suc, _+_, _*_, _/_, _≤_, _<_}
 use native.Mathlib.Omega.{arith}
 use lib.Dec.{eqb, ltb, leb}
 use lib.ListN.{length, getD}
-use borrow.Author.Tests.{eq-eqb, ne-eqb, lt-ltb, le-ltb, le-leb, lt-leb, ltb-true, ltb-false}
+use borrow.Author.Tests.{eq-eqb, ne-eqb, le-leb, lt-leb, ltb-true, ltb-false}
 use Rattle.definition.specs.Lists.{filter, any, first}
 use Rattle.definition.specs.Cells.{Cell, tri, quad, Live, Mesh, nodes, tri-nodes, quad-nodes, key, is-tri, live-tri, owns, owners, tri-owners, tri-owner, front-owners, is-front, has-edge}
-use Rattle.cells.specs.Rep.{CellAt, Held, Rep}
+use Rattle.laws.specs.Lists.{any-none, filter-yes, filter-no}
+use Rattle.cells.specs.Rep.{CellAt, Held}
 use Rattle.cells.specs.Walk.{At, Next, one-if, slot-or}
 use Rattle.cells.proofs.Owners.{Here, at-here, at-end}
 
@@ -25,20 +24,12 @@ pub held-tri : (w : List ℕ) (s k n : ℕ) (x : Live) → Held w s k n x → eq
 unfolding live-tri
 held-tri w s k n x h = kind-tri w s (x .slot) (x .cell) (h .at)
 
-pub filter-hit : {A : Type 0} (f : A → Bool) (x : A) (l : List A) → f x ≡ true → filter f (x ∷ l) ≡ x ∷ filter f l
-unfolding filter
-filter-hit f x l h = rw h
-
-pub filter-miss : {A : Type 0} (f : A → Bool) (x : A) (l : List A) → f x ≡ false → filter f (x ∷ l) ≡ filter f l
-unfolding filter
-filter-miss f x l h = rw h
-
 pub tri-more : (x : Live) (l : List Live) → length (filter live-tri (x ∷ l)) ≡ one-if (live-tri x) + length (filter live-tri l)
 tri-more x l = go (live-tri x) refl
   where
     go : (b : Bool) → live-tri x ≡ b → length (filter live-tri (x ∷ l)) ≡ one-if b + length (filter live-tri l)
-    go true e = rw (filter-hit live-tri x l e) (omega arith)
-    go false e = rw (filter-miss live-tri x l e) (omega arith)
+    go true e = rw (filter-yes live-tri x l e) (omega arith)
+    go false e = rw (filter-no live-tri x l e) (omega arith)
 
 -- some owner is an owner
 any-filter : (f : Live → Bool) (l k : List Live) (x : Live) → filter f l ≡ x ∷ k → any f l ≡ true
@@ -48,16 +39,7 @@ any-filter f (y ∷ l) k x h = go (f y) refl (any-filter f l k x)
   where
     go : (b : Bool) → f y ≡ b → (filter f l ≡ x ∷ k → any f l ≡ true) → (f y || any f l) ≡ true
     go true e r = rw e
-    go false e r = rw e (r (sym (filter-miss f y l e) ∙ h))
-
-any-none : (f : Live → Bool) (l : List Live) → filter f l ≡ [] → any f l ≡ false
-unfolding any filter
-any-none f [] h = refl
-any-none f (y ∷ l) h = go (f y) refl (any-none f l)
-  where
-    go : (b : Bool) → f y ≡ b → (filter f l ≡ [] → any f l ≡ false) → (f y || any f l) ≡ false
-    go true e r = let z : _≡_ {A = ℕ} (suc (length (filter f l))) 0 = ap length (sym (filter-hit f y l e) ∙ h) in absurd (omega arith)
-    go false e r = rw e (r (sym (filter-miss f y l e) ∙ h))
+    go false e r = rw e (r (sym (filter-no f y l e) ∙ h))
 
 no-both : (b : Bool) → false ≡ (b && false)
 no-both true = refl
@@ -149,7 +131,7 @@ module _ (w : List ℕ) (s p u v c : ℕ) (m : Mesh) where
   no-tri-hit h z k =
       let g = at-here w s p u v c (k .xs) (k .at) h in
       let q : live-tri (g .x) ≡ true = sym (held-tri w s s p (g .x) (g .held)) ∙ eq-eqb (getD w (g .x .slot) 0) 3 (rw (← g .slot) z) in
-      let e : tri-owners m (key u v) ≡ g .x ∷ filter live-tri (g .more) = k .tris ∙ ap (filter live-tri) (g .is) ∙ filter-hit live-tri (g .x) (g .more) q in
+      let e : tri-owners m (key u v) ≡ g .x ∷ filter live-tri (g .more) = k .tris ∙ ap (filter live-tri) (g .is) ∙ filter-yes live-tri (g .x) (g .more) q in
       rw e (g .slot)
 
   pub no-tri-more : (r : ℕ) → c < 4 * s → (getD w (c / 4) 0 ≡ 3 → ⊥) → NoTri w s p u v c m → Next w s p u v c r → NoTri w s p u v r m
@@ -159,7 +141,7 @@ module _ (w : List ℕ) (s p u v c : ℕ) (m : Mesh) where
       record {
         xs = g .more;
         at = f .at (g .x) (g .more) (subst (λ (l : List Live). At w s p u v c l) (g .is) (k .at));
-        tris = k .tris ∙ ap (filter live-tri) (g .is) ∙ filter-miss live-tri (g .x) (g .more) q;
+        tris = k .tris ∙ ap (filter live-tri) (g .is) ∙ filter-no live-tri (g .x) (g .more) q;
       }
 
   pub no-tri-end : 4 * s ≤ c → NoTri w s p u v c m → s ≡ slot-or s (tri-owner m (key u v))

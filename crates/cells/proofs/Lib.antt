@@ -10,3 +10,4 @@ pub mod Frames
 pub mod Clears
 pub mod Slots
 pub mod Points
+pub mod Near

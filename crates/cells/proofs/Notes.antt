@@ -1,19 +1,17 @@
 -- Notes stay true: where their words are the same, and where the owners of the node's edges are.
 use mathlib.Core.Path.{_≡_, refl, ap, sym, _∙_, subst}
-use mathlib.Core.Logic.{_≢_, _⊎_, inl, inr}
+use mathlib.Core.Logic.{_≢_, inl, inr}
 use mathlib.Core.Bool.{Bool, true, false, cond, _||_}
-use mathlib.Core.List.{List, [], _∷_, _++_}
-use Prim.Native.Nat.{ℕ, zero, suc, _+_, _-_, _*_, _/_, _%_, _≤_, _<_}
+use mathlib.Core.List.{List, [], _∷_}
+use Prim.Native.Nat.{ℕ, zero, suc, _+_, _*_, _%_, _≤_, _<_}
 use native.Mathlib.Omega.{arith}
 use lib.Dec.{eqb, ltb}
 use lib.ListN.{length, getD}
 use borrow.Author.Tests.{eq-eqb, ne-eqb, ltb-true, ltb-false}
 use Rattle.rings.proofs.Lists.{Same, same, differ, decide}
 use Rattle.definition.specs.Lists.{filter, any, contains}
-use Rattle.definition.specs.Floats.{_≼_}
-use Rattle.definition.specs.Plane.{Node}
-use Rattle.definition.specs.Cells.{Live, Mesh, key, owns, owners, front-owners, is-front, has-edge, node-at}
-use Rattle.cells.specs.Layout.{notes-at, fronts-at, boxes-at, even-at}
+use Rattle.definition.specs.Cells.{Mesh, key, owns, owners, front-owners, is-front, has-edge, node-at}
+use Rattle.cells.specs.Layout.{fronts-at, boxes-at, even-at}
 use Rattle.cells.specs.Notes.{note, ends, noted, bound, Fronts, Near, Box, NoteAt, IsNoted}
 
 -- nothing is noted
@@ -27,38 +25,42 @@ pub record Spared (w w' : List ℕ) (s p u : ℕ) : Type 0 where
   pub same : note w' s p u ≡ note w s p u
   pub more : u < s → (i : ℕ) → fronts-at s p ≤ i → i < even-at s p → getD w' i 0 ≡ getD w i 0
 
-ends-few : (k a b a' b' : ℕ) → k ≤ 1 → ends (k % 4) a' b' ≡ ends (k % 4) a b
+pub ends-few : (k a b a' b' : ℕ) → k ≤ 1 → ends (k % 4) a' b' ≡ ends (k % 4) a b
 ends-few zero a b a' b' h = refl
 ends-few (suc zero) a b a' b' h = refl
 ends-few (suc (suc k)) a b a' b' h = absurd (omega arith)
 
-module _ (w w' : List ℕ) (s p u : ℕ) (k : Spared w w' s p u) where
+module _ (w w' : List ℕ) (s p u : ℕ) (word : note w' s p u ≡ note w s p u)
+    (first : u < s → getD w' (fronts-at s p + 2 * u) 0 ≡ getD w (fronts-at s p + 2 * u) 0)
+    (second : u < s → getD w' (fronts-at s p + 2 * u + 1) 0 ≡ getD w (fronts-at s p + 2 * u + 1) 0)
+    (sides : u < s → (j : ℕ) → j < 4 → bound w' s p u j ≡ bound w s p u j) where
   noted-same : (1 < note w s p u → u < s) → noted w' s p u ≡ noted w s p u
   noted-same h = go (ltb 1 (note w s p u)) refl
     where
       go : (c : Bool) → ltb 1 (note w s p u) ≡ c → noted w' s p u ≡ noted w s p u
-      go true e =
-          let us : u < s = h (ltb-true 1 (note w s p u) e) in
-          rw (k .same, k .more us (fronts-at s p + 2 * u) (omega arith) (omega arith), k .more us (fronts-at s p + 2 * u + 1) (omega arith) (omega arith))
+      go true e = let us : u < s = h (ltb-true 1 (note w s p u) e) in rw (word, first us, second us)
       go false e =
-          rw (k .same)
+          rw word
           (ends-few (note w s p u) (getD w (fronts-at s p + 2 * u) 0) (getD w (fronts-at s p + 2 * u + 1) 0) (getD w' (fronts-at s p + 2 * u) 0) (getD w' (fronts-at s p + 2 * u + 1) 0)
           (ltb-false 1 (note w s p u) e))
 
-  bound-same : u < s → (j : ℕ) → j < 4 → bound w' s p u j ≡ bound w s p u j
-  bound-same h j l = k .more h (boxes-at s p + 4 * u + j) (omega arith) (omega arith)
+  -- a note whose words are the same is true as before
+  pub note-same : (m : Mesh) → NoteAt w s p m u → NoteAt w' s p m u
+  note-same m n =
+      record {
+        inside = λ h. n .inside (rw (← word) h);
+        fronts = λ h. subst (λ (vs : List ℕ). Fronts m u vs) (sym (noted-same (n .inside))) (n .fronts (rw (← word) h));
+        box = λ h.
+            let h' : 4 ≤ note w s p u = rw (← word) h in
+            let us : u < s = n .inside (omega arith) in
+            rw (sides us 0 (omega arith), sides us 1 (omega arith), sides us 2 (omega arith), sides us 3 (omega arith)) (n .box h');
+      }
 
+module _ (w w' : List ℕ) (s p u : ℕ) (k : Spared w w' s p u) where
   pub note-spared : (m : Mesh) → NoteAt w s p m u → NoteAt w' s p m u
   note-spared m n =
-      let e = k .same in
-      record {
-        inside = λ h. n .inside (rw (← e) h);
-        fronts = λ h. subst (λ (vs : List ℕ). Fronts m u vs) (sym (noted-same (n .inside))) (n .fronts (rw (← e) h));
-        box = λ h.
-            let h' : 4 ≤ note w s p u = rw (← e) h in
-            let us : u < s = n .inside (omega arith) in
-            rw (bound-same us 0 (omega arith), bound-same us 1 (omega arith), bound-same us 2 (omega arith), bound-same us 3 (omega arith)) (n .box h');
-      }
+      note-same w w' s p u (k .same) (λ us. k .more us (fronts-at s p + 2 * u) (omega arith) (omega arith)) (λ us. k .more us (fronts-at s p + 2 * u + 1) (omega arith) (omega arith))
+      (λ us j l. k .more us (boxes-at s p + 4 * u + j) (omega arith) (omega arith)) m n
 
 -- ---- the same owners
 

@@ -1,16 +1,15 @@
 -- The laws of a walk over an edge's owners: where it starts, what stands at a corner, where it ends.
 use mathlib.Core.Path.{_≡_, refl, ap, sym, _∙_, subst}
-use mathlib.Core.Logic.{_≢_}
-use mathlib.Core.List.{List, [], _∷_, _++_}
-use Prim.Native.Nat.{ℕ, zero, suc, _+_, _-_, _*_, _/_, _≤_, _<_}
+use mathlib.Core.List.{List, [], _∷_}
+use Prim.Native.Nat.{ℕ, suc, _+_, _*_, _/_, _≤_, _<_}
 use native.Mathlib.Omega.{arith}
-use lib.ListN.{length, getD}
+use lib.ListN.{length}
 use Rattle.rings.specs.Rings.{nx}
 use Rattle.definition.specs.Cells.{Live, Mesh, key, owners}
-use Rattle.cells.specs.Layout.{rings-at, codes}
+use Rattle.cells.specs.Layout.{rings-at}
 use Rattle.cells.specs.Rep.{Held, Rep}
-use Rattle.cells.specs.Walk.{own, Pos, left, Sought, nobody, somebody, At, Next, IsEdge}
-use Rattle.cells.proofs.Walks.{start, Got, got, ended, sought-walk}
+use Rattle.cells.specs.Walk.{own, Pos, Sought, nobody, somebody, At, Next}
+use Rattle.cells.proofs.Walks.{start, got, ended, sought-walk}
 
 -- what stands at a corner of the walk: the first of the owners still to come
 pub record Here (w : List ℕ) (s p c : ℕ) (xs : List Live) : Type 0 where

@@ -1,7 +1,7 @@
 -- What is read of the lent points slice is the mesh's point.
-use mathlib.Core.Path.{_≡_, refl, ap, sym, _∙_, subst}
+use mathlib.Core.Path.{_≡_, refl, ap, sym, _∙_}
 use mathlib.Core.List.{List, [], _∷_, _++_}
-use Prim.Native.Nat.{ℕ, zero, suc, _+_, _-_, _*_, _≤_, _<_}
+use Prim.Native.Nat.{ℕ, zero, suc, _+_, _*_, _≤_, _<_}
 use native.Mathlib.Numerals.{add-one}
 use native.Mathlib.Omega.{arith}
 use lib.ListN.{length, getD, length-append}
@@ -12,19 +12,8 @@ use Rattle.definition.specs.Plane.{Node, point, flat}
 use Rattle.definition.specs.Cells.{Mesh, node-at}
 use Rattle.definition.specs.Call.{point-at, first-points}
 use Rattle.definition.specs.Insertion.{with-point}
+use Rattle.laws.specs.Lists.{getD-any, table-at, numbers-snoc}
 use Rattle.cells.specs.Rep.{Pts}
-
--- an element of a list is the same whatever stands for those beyond it
-pub any-default : {A : Type 0} (l : List A) (i : ℕ) (a b : A) → i < length l → getD l i a ≡ getD l i b
-any-default [] i a b h = absurd (omega (arith, h))
-any-default (x ∷ l) zero a b h = refl
-any-default (x ∷ l) (suc i) a b h = any-default l i a b (omega arith)
-
-table-at : {B : Type 0} (f : ℕ → B) (a n v : ℕ) (d : B) → v < n → getD (table f (numbers a n)) v d ≡ f (a + v)
-unfolding table numbers
-table-at f a zero v d h = absurd (omega (arith, h))
-table-at f a (suc n) zero d h = let e : a + 0 ≡ a = omega arith in rw e
-table-at f a (suc n) (suc v) d h = let e : suc a + v ≡ a + suc v = omega arith in table-at f (suc a) n v d (omega arith) ∙ (rw e)
 
 -- point v as it is read
 abbrev pub read-point : List Float → ℕ → Node
@@ -35,7 +24,7 @@ unfolding point first-points below point-at
 point-is q n v f h =
     let e : 0 + v ≡ v = omega arith in
     table-at (point-at q) 0 n v (flat 0·0 0·0) h
-    ∙ (rw (e, any-default q (3 * v) 0·0 nan (omega arith), any-default q (3 * v + 1) 0·0 nan (omega arith), any-default q (3 * v + 2) 0·0 nan (omega arith)))
+    ∙ (rw (e, getD-any q (3 * v) 0·0 nan (omega arith), getD-any q (3 * v + 1) 0·0 nan (omega arith), getD-any q (3 * v + 2) 0·0 nan (omega arith)))
 
 pub pts-node : (q : List Float) (p : ℕ) (m : Mesh) → Pts q p m → (v : ℕ) → v < length (m .points) → node-at m v ≡ read-point q v
 unfolding node-at
@@ -48,11 +37,6 @@ pub pts-as : (q : List Float) (p : ℕ) (m m' : Mesh) → m .points ≡ m' .poin
 pts-as q p m m' e r =
     let l : length (m .points) ≡ length (m' .points) = ap length e in
     record { fits = r .fits; few = omega (arith, r .few); are = sym e ∙ r .are ∙ ap (λ (n : ℕ). first-points n q) l }
-
-pub numbers-snoc : (a n : ℕ) → numbers a (suc n) ≡ numbers a n ++ (a + n) ∷ []
-unfolding numbers
-numbers-snoc a zero = let e : a + 0 ≡ a = omega arith in rw e
-numbers-snoc a (suc n) = let e : suc a + n ≡ a + suc n = omega arith in ap (λ (l : List ℕ). a ∷ l) (numbers-snoc (suc a) n ∙ (rw e))
 
 pub table-snoc : {B : Type 0} (f : ℕ → B) (l : List ℕ) (x : ℕ) → table f (l ++ x ∷ []) ≡ table f l ++ f x ∷ []
 unfolding table
@@ -68,7 +52,7 @@ table-ext {B} f g a (suc n) h =
 
 at-read : (q : List Float) (v : ℕ) → 3 * v + 3 ≤ length q → point-at q v ≡ read-point q v
 unfolding point-at
-at-read q v h = rw (any-default q (3 * v) 0·0 nan (omega arith), any-default q (3 * v + 1) 0·0 nan (omega arith), any-default q (3 * v + 2) 0·0 nan (omega arith))
+at-read q v h = rw (getD-any q (3 * v) 0·0 nan (omega arith), getD-any q (3 * v + 1) 0·0 nan (omega arith), getD-any q (3 * v + 2) 0·0 nan (omega arith))
 
 -- a point written behind the others
 pub pts-more : (q q' : List Float) (p : ℕ) (m : Mesh) (x : Node) → Pts q p m → length (m .points) < p → length q' ≡ length q
@@ -92,3 +76,7 @@ pts-more q q' p m x r h l k e =
   where
     same-point : (v : ℕ) → v < length (m .points) → read-point q' v ≡ read-point q v
     same-point v h = rw (k (3 * v) (omega arith), k (3 * v + 1) (omega arith), k (3 * v + 2) (omega arith))
+
+-- the three numbers of a node are in the slice
+pub node-within : (q : List Float) (p : ℕ) (m : Mesh) → Pts q p m → (v : ℕ) → v < length (m .points) → 3 * v + 2 < length q
+node-within q p m k v h = omega (arith, k .fits, k .few)

@@ -1,24 +1,23 @@
 -- What the kind and the nodes in a slot say of the mesh, and what an answer of `tri_owner` does.
 use mathlib.Core.Path.{_≡_, refl, ap, sym, _∙_, subst}
-use mathlib.Core.Logic.{_≢_}
-use mathlib.Core.Bool.{Bool, true, false, cond, false≢true}
+use mathlib.Core.Logic.{_≢_, inl, inr}
+use mathlib.Core.Bool.{Bool, true, false, false≢true}
 use mathlib.Core.List.{List, [], _∷_, _++_}
 use mathlib.Core.Option.{Option, none, some}
-use Prim.Native.Nat.{ℕ, zero, suc, _+_, _-_, _*_, _≤_, _<_}
+use Prim.Native.Nat.{ℕ, suc, _+_, _≤_, _<_}
 use native.Mathlib.Omega.{arith}
-use lib.Dec.{eqb}
 use lib.ListN.{length, getD, length-append, List·getD-append}
 use borrow.Author.Tests.{eq-eqb, ne-eqb}
-use Rattle.rings.specs.Rings.{Out, Distinct}
-use Rattle.rings.proofs.Lists.{Same, same, differ, decide}
+use Rattle.rings.specs.Rings.{Out, Distinct, without, Below}
+use Rattle.rings.proofs.Lists.{Same, same, differ, decide, without-hit, without-miss}
 use Rattle.definition.specs.Plane.{Node, Edge, point}
 use Rattle.definition.specs.Lists.{filter, find, first}
-use Rattle.definition.specs.Cells.{Tri, Quad, Cell, tri, quad, Live, Mesh, node-at, nodes, tri-nodes, quad-nodes, new-live, is-tri, live-tri, in-slot, cell-of, owns, owners, tri-owners, tri-owner}
+use Rattle.definition.specs.Cells.{Tri, Quad, Cell, tri, quad, Live, Mesh, node-at, nodes, tri-nodes, quad-nodes, new-live, is-tri, live-tri, in-slot, cell-of, owns, owners, tri-owners, tri-owner, without as without-slot}
 use Rattle.definition.specs.Insertion.{with-point}
+use Rattle.laws.specs.Lists.{filter-yes, filter-no, In}
 use Rattle.cells.specs.Layout.{Sizes}
-use Rattle.cells.specs.Rep.{Shape, CellAt, Held, slots, Has, here, there, Room, Rep, TriIn, QuadIn}
+use Rattle.cells.specs.Rep.{CellAt, Held, slots, Has, here, there, Room, Rep, TriIn, QuadIn, Cells}
 use Rattle.cells.specs.Walk.{node-in, CanSee, slot-or}
-use Rattle.cells.proofs.Fronts.{filter-hit, filter-miss}
 use Rattle.cells.proofs.Members.{Lookup, absent, present, lookup, has-held}
 use Rattle.cells.proofs.Frames.{rep-as}
 
@@ -37,8 +36,8 @@ unfolding filter
 has-filter f {x} (y ∷ l) h = go (f y) refl (has-filter f l)
   where
     go : (b : Bool) → f y ≡ b → (Has x (filter f l) → Has x l × (f x ≡ true)) → Has x (y ∷ l) × (f x ≡ true)
-    go true e r = has-step f x y l (filter f l) (rw (filter-hit f y l e) at h) e r
-    go false e r = let z = r (rw (filter-miss f y l e) at h) in (there (z .0), z .1)
+    go true e r = has-step f x y l (filter f l) (rw (filter-yes f y l e) at h) e r
+    go false e r = let z = r (rw (filter-no f y l e) at h) in (there (z .0), z .1)
 
 first-has : (l : List Live) {x : Live} → first l ≡ some x → Has x l
 unfolding first
@@ -50,7 +49,7 @@ pub owner-live : (m : Mesh) (e : Edge) {x : Live} → Has x (owners m e) → Has
 unfolding owners
 owner-live m e h = has-filter (owns e) (m .live) h .0
 
-out-has : (i : ℕ) {x : Live} {l : List Live} → Out i (slots l) → Has x l → x .slot ≢ i
+pub out-has : (i : ℕ) {x : Live} {l : List Live} → Out i (slots l) → Has x l → x .slot ≢ i
 out-has i o here = o .0
 out-has i o (there h) = out-has i (o .1) h
 
@@ -194,3 +193,35 @@ module _ (w : List ℕ) (s p : ℕ) (m : Mesh) (r : Rep w s p m) where
           let k = has-filter live-tri (owners m e) (first-has (tri-owners m e) z) in
           let y : i ≡ x .slot = q ∙ ap (slot-or s) z in
           absurd (omega (arith, rep-held (owner-live m e (k .0)) .inside, r .used))
+
+-- ---- live cells and their slots
+
+pub slots-length : (l : List Live) → length (slots l) ≡ length l
+slots-length [] = refl
+slots-length (x ∷ l) = ap suc (slots-length l)
+
+pub slots-below : (w : List ℕ) (s k n : ℕ) (l : List Live) → Cells w s k n l → Below k (slots l)
+slots-below w s k n [] h = tt
+slots-below w s k n (x ∷ l) h = (h .0 .inside, slots-below w s k n l (h .1))
+
+pub slot-hit : (i : ℕ) (x : Live) (l : List Live) → x .slot ≡ i → without-slot i (x ∷ l) ≡ without-slot i l
+unfolding without-slot filter in-slot
+slot-hit i x l q = rw (eq-eqb i (x .slot) (sym q))
+
+pub slot-miss : (i : ℕ) (x : Live) (l : List Live) → x .slot ≢ i → without-slot i (x ∷ l) ≡ x ∷ without-slot i l
+unfolding without-slot filter in-slot
+slot-miss i x l q = rw (ne-eqb i (x .slot) (λ e. q (sym e)))
+
+pub slots-without : (c : ℕ) (l : List Live) → slots (without-slot c l) ≡ without c (slots l)
+unfolding without without-slot filter
+slots-without c [] = refl
+slots-without c (e ∷ l) = go (decide (e .slot) c) (slots-without c l)
+  where
+    go : Same (e .slot) c → slots (without-slot c l) ≡ without c (slots l) → slots (without-slot c (e ∷ l)) ≡ without c (slots (e ∷ l))
+    go (same q) r = ap slots (slot-hit c e l q) ∙ r ∙ sym (without-hit c (e .slot) (slots l) q)
+    go (differ q) r = ap slots (slot-miss c e l q) ∙ ap (λ (k : List ℕ). e .slot ∷ k) r ∙ sym (without-miss c (e .slot) (slots l) q)
+
+-- two words for a member
+pub in-has : (x : Live) (l : List Live) → In x l → Has x l
+in-has x (y ∷ l) (inl e) = subst (λ (z : Live). Has x (z ∷ l)) e here
+in-has x (y ∷ l) (inr i) = there (in-has x l i)

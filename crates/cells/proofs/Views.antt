@@ -1,19 +1,19 @@
 -- A cell seen from a node: it has no corner there, or one, whose neighbours decide whether it has an edge.
-use mathlib.Core.Path.{_≡_, refl, ap, sym, _∙_, subst}
+use mathlib.Core.Path.{_≡_, sym, _∙_}
 use mathlib.Core.Logic.{_≢_}
-use mathlib.Core.Bool.{Bool, true, false, cond, _||_, _&&_, and-false, and-true, or-false, or-comm}
-use mathlib.Core.List.{List, [], _∷_, _++_}
-use Prim.Native.Nat.{ℕ, zero, suc, _+_, _-_, _*_, _/_, _%_, _≤_, _<_}
+use mathlib.Core.Bool.{true, false, _||_, and-false, and-true, or-false, or-comm}
+use mathlib.Core.List.{List, [], _∷_}
+use Prim.Native.Nat.{ℕ, _+_, _*_, _/_, _%_, _<_}
 use native.Mathlib.Omega.{arith}
 use lib.Dec.{eqb}
-use lib.ListN.{length, getD}
+use lib.ListN.{getD}
 use borrow.Author.Tests.{eq-eqb, ne-eqb}
-use Rattle.rings.specs.Rings.{Distinct, Out, pick}
+use Rattle.rings.specs.Rings.{Distinct}
 use Rattle.rings.proofs.Lists.{Same, same, differ, decide}
 use Rattle.definition.specs.Cells.{Tri, Quad, Cell, tri, quad, Live, nodes, tri-nodes, quad-nodes, key, has-side, tri-has}
-use Rattle.cells.specs.Rep.{Shape, CellAt, Held, at-node, cell-corners}
+use Rattle.cells.specs.Rep.{CellAt, Held, at-node, cell-corners}
 use Rattle.cells.specs.Walk.{after, before, beside, node-after, node-before}
-use Rattle.cells.proofs.Edges.{joins, tri-side, quad-side}
+use Rattle.cells.proofs.Edges.{tri-side, quad-side}
 
 pub data View (w : List ℕ) (s u i : ℕ) (t : Cell) : Type 0 where
   off : cell-corners u i t ≡ [] → ((v : ℕ) → u ≢ v → has-side (key u v) t ≡ false) → View w s u i t

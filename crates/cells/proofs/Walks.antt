@@ -1,20 +1,19 @@
 -- The ring of a node, walked: what stands at a place, and how many links are left.
-use mathlib.Core.Path.{_≡_, refl, ap, sym, _∙_, subst}
+use mathlib.Core.Path.{_≡_, refl, ap, _∙_, subst}
 use mathlib.Core.Logic.{_≢_}
-use mathlib.Core.Bool.{Bool, true, false, cond}
-use mathlib.Core.List.{List, [], _∷_, _++_}
-use Prim.Native.Nat.{ℕ, zero, suc, _+_, _-_, _*_, _/_, _%_, _≤_, _<_}
+use mathlib.Core.Bool.{true, false}
+use mathlib.Core.List.{List, [], _∷_}
+use Prim.Native.Nat.{ℕ, zero, suc, _+_, _*_, _/_, _≤_, _<_}
 use native.Mathlib.Omega.{arith}
-use lib.Dec.{eqb, ltb}
 use lib.ListN.{length, getD}
-use borrow.Author.Tests.{eq-eqb, ne-eqb, lt-ltb, le-ltb}
-use Rattle.rings.specs.Rings.{nx, pv, Linked, Below, Out, Distinct, Ring}
-use Rattle.rings.proofs.Lists.{Same, same, differ, decide, room}
+use borrow.Author.Tests.{lt-ltb, le-ltb}
+use Rattle.rings.specs.Rings.{nx, pv, Linked, Below}
+use Rattle.rings.proofs.Lists.{same, room}
 use Rattle.definition.specs.Lists.{filter}
-use Rattle.definition.specs.Cells.{Cell, tri, quad, Live, Mesh, nodes, key, has-side, owns, owners}
+use Rattle.definition.specs.Cells.{Live, Mesh, nodes, key, has-side, owns}
 use Rattle.cells.specs.Layout.{rings-at, codes}
-use Rattle.cells.specs.Rep.{CellAt, Held, Cells, cell-corners, corners, Room, Rep}
-use Rattle.cells.specs.Walk.{own, beside, CanRead, IsEdge, From, Pos, steps, left, Sought, nobody, somebody, At, Next}
+use Rattle.cells.specs.Rep.{Held, Cells, cell-corners, corners, Rep}
+use Rattle.cells.specs.Walk.{own, beside, CanRead, From, Pos, steps, left, Sought, nobody, somebody}
 use Rattle.cells.proofs.Corners.{node-count, corners-below, cells-weaken}
 use Rattle.cells.proofs.Views.{View, off, on, view}
 

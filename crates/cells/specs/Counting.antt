@@ -1,7 +1,6 @@
 -- The counters stand for the mesh.
 use mathlib.Core.Path.{_≡_}
-use mathlib.Core.List.{List}
-use Prim.Native.Nat.{ℕ, _+_, _^_, _<_, _≤_}
+use Prim.Native.Nat.{ℕ, _+_, _^_, _<_}
 use lib.ListN.{length}
 use Rattle.definition.specs.Cells.{Mesh, live-tris}
 use Rattle.cells.specs.declared.counters.Counters.{Counters}

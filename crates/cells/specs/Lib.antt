@@ -2,5 +2,4 @@ pub mod Layout
 pub mod Notes
 pub mod Rep
 pub mod Walk
-pub mod Frames
 pub mod Counting

@@ -3,11 +3,10 @@ use mathlib.Core.Path.{_≡_}
 use mathlib.Core.Logic.{_⊎_}
 use mathlib.Core.Bool.{true}
 use mathlib.Core.List.{List, [], _∷_}
-use Prim.Native.Nat.{ℕ, zero, suc, _+_, _*_, _/_, _%_, _<_, _≤_}
+use Prim.Native.Nat.{ℕ, zero, suc, _+_, _*_, _%_, _<_, _≤_}
 use lib.ListN.{length, getD}
 use Rattle.definition.specs.Floats.{_≼_}
 use Rattle.definition.specs.Lists.{contains}
-use Rattle.definition.specs.Plane.{Node}
 use Rattle.definition.specs.Cells.{Mesh, key, is-front, has-edge, node-at}
 use Rattle.definition.specs.Account.{Pairwise}
 use Rattle.cells.specs.Layout.{notes-at, fronts-at, boxes-at}

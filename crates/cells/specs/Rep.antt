@@ -1,13 +1,12 @@
 -- The memory stands for the mesh, for s slots and p points of capacity.
 use mathlib.Core.Path.{_≡_}
-use mathlib.Core.Bool.{Bool, true, false}
+use mathlib.Core.Bool.{false}
 use mathlib.Core.List.{List, [], _∷_, _++_}
-use Prim.Native.Nat.{ℕ, zero, suc, _+_, _*_, _^_, _<_, _≤_}
+use Prim.Native.Nat.{ℕ, suc, _+_, _*_, _^_, _<_, _≤_}
 use lib.Dec.{eqb}
 use lib.ListN.{length, getD}
 use lib.Ieee.{Float}
 use Rattle.rings.specs.Rings.{Out, Distinct, Below, Family, pick}
-use Rattle.definition.specs.Plane.{Node}
 use Rattle.definition.specs.Cells.{Tri, Quad, Cell, tri, quad, Live, Mesh, nodes, new-live, tris-of}
 use Rattle.definition.specs.Components.{odd-one}
 use Rattle.definition.specs.Call.{first-points}

@@ -1,14 +1,14 @@
 -- A walk over the owners of an edge u-v, in their order, along the ring of u.
 use mathlib.Core.Path.{_≡_}
 use mathlib.Core.Bool.{Bool, true, false, cond, _||_}
-use mathlib.Core.List.{List, [], _∷_, _++_}
+use mathlib.Core.List.{List, [], _∷_}
 use mathlib.Core.Option.{Option, none, some}
 use Prim.Native.Nat.{ℕ, zero, suc, _+_, _*_, _/_, _%_, _-_, _<_, _≤_}
 use lib.Dec.{eqb, ltb}
 use lib.ListN.{length, getD}
 use Rattle.rings.specs.Rings.{nx}
 use Rattle.definition.specs.Lists.{filter}
-use Rattle.definition.specs.Cells.{Live, Mesh, key, owns}
+use Rattle.definition.specs.Cells.{Live, key, owns}
 use Rattle.cells.specs.Layout.{nodes-at, rings-at, codes}
 use Rattle.cells.specs.Rep.{Held, Cells, Room, corners}
 

@@ -4,7 +4,7 @@ ghost use Prim.Native.Nat.{_≤_};
 ghost use lib.ListN.{length};
 ghost use Rattle.definition.specs.Call.{all-of};
 ghost use Rattle.definition.specs.Floats.{0·0};
-ghost use Rattle.cells.specs.Frames.{Zeros};
+ghost use Rattle.laws.specs.Frames.{Zeros};
 
 // The first n words are cleared.
 pub fn clear_first(w: &mut [u32], n: usize)

@@ -1,6 +1,6 @@
 // Where each area of the work slice stands, for s slots and p points of capacity; the mesh's own areas come first.
 ghost use mathlib.Core.Path.{_≡_};
-ghost use Rattle.cells.specs.Layout.{Sizes, notes-at, fronts-at, boxes-at, even-at, mesh-end, marks-at, list-at, refused-at, birth-at, after-at, first-at, touched-at, front-u-at, front-v-at, front-links-at, front-used-at, order-at, starts-at, done-at, tried-at, heads-at, near-at, far-at, stack-at};
+ghost use Rattle.cells.specs.Layout.{Sizes, notes-at, fronts-at, boxes-at, even-at, mesh-end, marks-at, list-at, refused-at, front-u-at, front-v-at, front-links-at, front-used-at, order-at, starts-at, done-at, tried-at, heads-at, near-at, far-at, stack-at};
 
 // Corners of a slot: corner k of slot i has the code CORNERS * i + k, and its node stands behind the kinds at that place.
 pub const CORNERS: usize = 4;
@@ -73,38 +73,6 @@ pub fn refused_at(s: usize, p: usize) -> usize
     ensures { λ r. ⌜ r ≡ refused-at s p ⌝ }
 {
     22 * s + 3 * p
-}
-
-// How many quads there were when the edge was refused.
-pub fn birth_at(s: usize, p: usize) -> usize
-    requires { ⌜ Sizes s p ⌝ }
-    ensures { λ r. ⌜ r ≡ birth-at s p ⌝ }
-{
-    25 * s + 3 * p
-}
-
-// Next record.
-pub fn after_at(s: usize, p: usize) -> usize
-    requires { ⌜ Sizes s p ⌝ }
-    ensures { λ r. ⌜ r ≡ after-at s p ⌝ }
-{
-    28 * s + 3 * p
-}
-
-// The first record of each point.
-pub fn first_at(s: usize, p: usize) -> usize
-    requires { ⌜ Sizes s p ⌝ }
-    ensures { λ r. ⌜ r ≡ first-at s p ⌝ }
-{
-    31 * s + 3 * p
-}
-
-// How many quads there were when one last touched the point.
-pub fn touched_at(s: usize, p: usize) -> usize
-    requires { ⌜ Sizes s p ⌝ }
-    ensures { λ r. ⌜ r ≡ touched-at s p ⌝ }
-{
-    31 * s + 4 * p
 }
 
 // First node.

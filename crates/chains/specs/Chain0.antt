@@ -1,20 +1,20 @@
 -- From the oracle's case fans-0005: one theorem for each attempt, and a chain of them. Made by tools/computed/chains.py.
 use mathlib.Core.Path.{_≡_, refl, ap, _∙_}
-use mathlib.Core.Bool.{Bool, true, false}
-use mathlib.Core.List.{List, [], _∷_, map}
-use Prim.Native.Nat.{ℕ, suc}
-use lib.IntN.{ℤ, pos, negsuc}
-use lib.Ieee.{Float, nan, inf, fin}
+use mathlib.Core.Bool.{true, false}
+use mathlib.Core.List.{List, [], _∷_}
+use Prim.Native.Nat.{ℕ}
+use lib.IntN.{pos, negsuc}
+use lib.Ieee.{Float, fin}
 use Rattle.vectors.specs.Opened.{opened-attempts}
-use Rattle.vectors.specs.Steps.{edges-none, edges-stuck, edges-progressed, edges-limited, edges-stopped, loops-none, loops-stuck, loops-progressed, loops-limited, loops-stopped, round-loops, run-progressed, run-stuck, run-limited, run-stopped}
-use Rattle.definition.specs.Cells.{front, Tri, Quad, Cell, tri, quad, Live, Mesh}
+use Rattle.vectors.specs.Steps.{edges-none, edges-stuck, loops-none, loops-stuck, round-loops, run-stuck}
+use Rattle.definition.specs.Cells.{front, Tri, Quad, Cell, tri, Live}
 use Rattle.definition.specs.Loops.{front-loops}
-use Rattle.definition.specs.Front.{attempt, open-edges, try-edges, round, front-loop, outcome, counting, State, Progress, stuck, progressed, limited, stopped}
+use Rattle.definition.specs.Front.{attempt, open-edges, try-edges, round, front-loop, outcome, State, stuck}
 use Rattle.definition.specs.Call.{after-run}
 use Rattle.definition.specs.Text.{bytes, reply, show-returned, lent-for, Bytes, Input}
-use Rattle.definition.specs.Plane.{Node, Edge}
+use Rattle.definition.specs.Plane.{Node}
 use Rattle.definition.specs.Numbers.{base, max-attempts, Settings}
-use Rattle.definition.specs.Counts.{tally, _⊞_, emptied, of-points, of-slots}
+use Rattle.definition.specs.Counts.{tally}
 
 abbrev pt : Float → Float → Float → Node
 pt a b c = record { x = a; y = b; z = c }

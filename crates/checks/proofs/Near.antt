@@ -1,30 +1,23 @@
 -- The magnitude by two comparisons, and a point as the code reads it.
-use mathlib.Core.Path.{_≡_, refl, sym, _∙_}
-use mathlib.Core.Bool.{Bool, true, false, _&&_, _||_}
-use mathlib.Core.List.{List, [], _∷_}
-use Prim.{absurd}
-use Prim.Native.Nat.{ℕ, zero, suc, _+_, _*_, _<_}
-use native.Mathlib.Nat.{le-of-suc-le-suc, not-suc-le-zero}
+use mathlib.Core.Path.{_≡_, refl}
+use mathlib.Core.Bool.{true, false, _&&_, _||_, and-true}
+use mathlib.Core.List.{List}
+use Prim.Native.Nat.{ℕ, _+_, _*_, _<_}
 use native.Mathlib.Decide.{ℕ-discrete}
 use native.Mathlib.Omega.{arith}
 use lib.IntN.{ℤ}
 use lib.Dec.{eqb, ltb}
 use lib.ListN.{length, getD}
 use lib.Ieee.{Float, nan, inf, fin, binary64, up, down, neg, lt, eq, le, ofBits}
-use borrow.Author.Tests.{lt-ltb, le-ltb, eq-eqb, ne-eqb}
+use borrow.Author.Tests.{lt-ltb, le-ltb, eq-eqb}
 use Rattle.definition.specs.Floats.{abs, 0·0}
 use Rattle.definition.specs.Call.{point-at}
+use Rattle.laws.specs.Numbers.{eqb-swap}
+use Rattle.laws.specs.Lists.{getD-any}
 use Rattle.checks.specs.Stated.{spot}
-
-eqb-sym : (a b : ℕ) → eqb a b ≡ eqb b a
-eqb-sym a b = elim (ℕ-discrete a b) [ yes e ↦ eq-eqb a b e ∙ sym (eq-eqb b a (sym e)) | no d ↦ ne-eqb a b d ∙ sym (ne-eqb b a (λ e. d (sym e))) ]
 
 ltb-zero : (a : ℕ) → a ≡ 0 → ltb 0 a ≡ false
 ltb-zero a e = le-ltb 0 a (omega arith)
-
-and-true : (b : Bool) → (b && true) ≡ b
-and-true true = refl
-and-true false = refl
 
 -- -a ≤ b, as `le` computes it
 opposite : (a b : ℕ) → (ltb 0 (a + b) || (eqb a b && (false || eqb a 0))) ≡ true
@@ -39,19 +32,13 @@ between-fin nan n d = refl
 between-fin (inf true) n d = refl
 between-fin (inf false) n d = refl
 between-fin (fin true m e) n d =
-    rw (opposite (m * up e * down d) (n * up d * down e), eqb-sym (n * up d * down e) (m * up e * down d)) (and-true _)
+    rw (opposite (m * up e * down d) (n * up d * down e), eqb-swap (n * up d * down e) (m * up e * down d)) (and-true _)
 between-fin (fin false m e) n d = rw (opposite (n * up d * down e) (m * up e * down d))
 
 -- a float lies between -8 and 8 where its magnitude is at most 8
 pub between : (x : Float) → (le (neg (ofBits binary64 0x4020000000000000)) x && le x (ofBits binary64 0x4020000000000000)) ≡ le (abs x) (ofBits binary64 0x4020000000000000)
 unfolding neg ofBits
 between x = between-fin x _ _
-
--- what stands in a list's place does not turn on the default
-getD-any : {A : Type 0} (l : List A) (i : ℕ) (d e : A) → i < length l → getD l i d ≡ getD l i e
-getD-any [] i d e h = absurd (not-suc-le-zero h)
-getD-any (x ∷ xs) zero d e h = refl
-getD-any (x ∷ xs) (suc i) d e h = getD-any xs i d e (le-of-suc-le-suc h)
 
 -- point i as the code reads its x and y
 pub read-point : (ps : List Float) (i : ℕ) → 3 * i + 1 < length ps

@@ -15,7 +15,8 @@ use Rattle.definition.specs.Floats.{_≼_, abs, 0·0}
 use Rattle.definition.specs.Lists.{any}
 use Rattle.definition.specs.Cells.{Tri, new-tri, tri-nodes}
 use Rattle.definition.specs.Call.{Asked, Lent, point-at, tri-at, first-points, first-tris, given-points, given-tris, most-given, most-capacity, most-slots, most-coordinate, slot-words, point-words, slot-floats, over-limit, bad-size, bad-stop, too-short, unknown-node, twice, repeated-node, outside, far-point}
-use Rattle.checks.specs.Tests.{which, neither, none-below, below-none, by-thirds}
+use Rattle.laws.specs.Bools.{which, or-none}
+use Rattle.checks.specs.Tests.{none-below, below-none, by-thirds}
 
 -- ---- 1
 
@@ -30,9 +31,9 @@ module _ (a : Asked) where
   pub limited : over-limit a ≡ false → Limited a
   unfolding over-limit most-given most-capacity most-slots
   limited e =
-      let h3 = neither _ (ltb 16384 (a .slots)) e in
-      let h2 = neither _ (ltb 8192 (a .capacity)) (h3 .0) in
-      let h1 = neither (ltb 4096 (a .count)) (ltb 4096 (a .given)) (h2 .0) in
+      let h3 = or-none _ (ltb 16384 (a .slots)) e in
+      let h2 = or-none _ (ltb 8192 (a .capacity)) (h3 .0) in
+      let h1 = or-none (ltb 4096 (a .count)) (ltb 4096 (a .given)) (h2 .0) in
       record {
         count = ltb-false 4096 (a .count) (h1 .0);
         given = ltb-false 4096 (a .given) (h1 .1);
@@ -80,14 +81,14 @@ module _ (a : Asked) (l : Lent) where
   pub roomy : too-short a l ≡ false → Roomy a l
   unfolding too-short slot-words point-words slot-floats
   roomy e =
-      let h8 = neither _ (ltb (a .slots) (a .count)) e in
-      let h7 = neither _ (ltb (a .capacity) (a .given)) (h8 .0) in
-      let h6 = neither _ (ltb (length (l .float-work)) (4 * a .slots)) (h7 .0) in
-      let h5 = neither _ (ltb (length (l .work)) (64 * a .slots + 8 * a .capacity)) (h6 .0) in
-      let h4 = neither _ (ltb (length (l .components)) (a .slots)) (h5 .0) in
-      let h3 = neither _ (ltb (length (l .triangles-out)) (3 * a .slots)) (h4 .0) in
-      let h2 = neither _ (ltb (length (l .quads)) (4 * a .slots)) (h3 .0) in
-      let h1 = neither (ltb (length (l .points)) (3 * a .capacity)) (ltb (length (l .triangles)) (3 * a .count)) (h2 .0) in
+      let h8 = or-none _ (ltb (a .slots) (a .count)) e in
+      let h7 = or-none _ (ltb (a .capacity) (a .given)) (h8 .0) in
+      let h6 = or-none _ (ltb (length (l .float-work)) (4 * a .slots)) (h7 .0) in
+      let h5 = or-none _ (ltb (length (l .work)) (64 * a .slots + 8 * a .capacity)) (h6 .0) in
+      let h4 = or-none _ (ltb (length (l .components)) (a .slots)) (h5 .0) in
+      let h3 = or-none _ (ltb (length (l .triangles-out)) (3 * a .slots)) (h4 .0) in
+      let h2 = or-none _ (ltb (length (l .quads)) (4 * a .slots)) (h3 .0) in
+      let h1 = or-none (ltb (length (l .points)) (3 * a .capacity)) (ltb (length (l .triangles)) (3 * a .count)) (h2 .0) in
       record {
         points = ltb-false _ _ (h1 .0);
         triangles = ltb-false _ _ (h1 .1);
@@ -130,9 +131,9 @@ module _ (a : Asked) (l : Lent) where
   unfolding unknown any tri-nodes tri-at new-tri
   three-known j e =
       let t = l .triangles in
-      let h0 = neither (leb (a .given) (getD t (3 * j) 0)) _ e in
-      let h1 = neither (leb (a .given) (getD t (3 * j + 1) 0)) _ (h0 .1) in
-      let h2 = neither (leb (a .given) (getD t (3 * j + 2) 0)) false (h1 .1) in
+      let h0 = or-none (leb (a .given) (getD t (3 * j) 0)) _ e in
+      let h1 = or-none (leb (a .given) (getD t (3 * j + 1) 0)) _ (h0 .1) in
+      let h2 = or-none (leb (a .given) (getD t (3 * j + 2) 0)) false (h1 .1) in
       (leb-false _ _ (h0 .0), leb-false _ _ (h1 .0), leb-false _ _ (h2 .0))
 
   pub known : unknown-node a l ≡ false → Known (a .given) (a .count) (l .triangles)
@@ -162,8 +163,8 @@ module _ (a : Asked) (l : Lent) where
   unfolding repeated-node given-tris first-tris twice tri-at new-tri
   apart e i k =
       let t = l .triangles in
-      let h1 = neither _ (eqb (getD t (3 * i) 0) (getD t (3 * i + 2) 0)) (below-none twice (tri-at t) (a .count) e i k) in
-      let h0 = neither (eqb (getD t (3 * i) 0) (getD t (3 * i + 1) 0)) (eqb (getD t (3 * i + 1) 0) (getD t (3 * i + 2) 0)) (h1 .0) in
+      let h1 = or-none _ (eqb (getD t (3 * i) 0) (getD t (3 * i + 2) 0)) (below-none twice (tri-at t) (a .count) e i k) in
+      let h0 = or-none (eqb (getD t (3 * i) 0) (getD t (3 * i + 1) 0)) (eqb (getD t (3 * i + 1) 0) (getD t (3 * i + 2) 0)) (h1 .0) in
       record { d01 = eqb-false _ _ (h0 .0); d12 = eqb-false _ _ (h0 .1); d02 = eqb-false _ _ (h1 .1) }
 
   -- no triangle has a node twice

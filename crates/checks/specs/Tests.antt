@@ -1,32 +1,13 @@
 -- Laws on tests, and on a test of every entry of a table.
 use mathlib.Core.Path.{_≡_, refl, sym, ap, _∙_, subst}
-use mathlib.Core.Bool.{Bool, true, false, _||_}
-use mathlib.Core.Logic.{_⊎_, inl, inr}
+use mathlib.Core.Bool.{Bool, false}
 use Prim.{absurd}
 use Prim.Native.Nat.{ℕ, zero, suc, _+_, _*_, _/_, _≤_, _<_}
 use native.Mathlib.Nat.{not-suc-le-zero, le-of-suc-le-suc}
 use native.Mathlib.Decide.{ℕ-discrete}
 use native.Mathlib.Omega.{arith}
 use Rattle.definition.specs.Lists.{any, table, numbers, below}
-
--- a test passes or fails
-pub which : (b : Bool) → (b ≡ true) ⊎ (b ≡ false)
-which true = inl refl
-which false = inr refl
-
--- a test that can't fail passes
-pub passes : (b : Bool) → (b ≡ false → ⊥) → b ≡ true
-passes true h = refl
-passes false h = absurd (h refl)
-
--- a test does not do both
-pub never : (b : Bool) → b ≡ true → b ≡ false → ⊥
-never b e f = let z : _≡_ {A = ℕ} 0 1 = cc in omega arith
-
--- neither
-pub neither : (a b : Bool) → (a || b) ≡ false → (a ≡ false) × (b ≡ false)
-neither true b h = absurd (let z : _≡_ {A = ℕ} 0 1 = cc in omega arith)
-neither false b h = (refl, h)
+use Rattle.laws.specs.Bools.{or-none}
 
 -- a length that is measured as b: too small, and large enough
 pub too-small : {a b c : ℕ} → a ≤ c → c ≡ b → b < a → ⊥
@@ -46,9 +27,9 @@ module _ {A : Type 0} (p : A → Bool) where
   from-any : (f : ℕ → A) (k n : ℕ) → any p (table f (numbers k n)) ≡ false → (i : ℕ) → i < n → p (f (k + i)) ≡ false
   unfolding any table numbers
   from-any f k zero h i l = absurd (not-suc-le-zero l)
-  from-any f k (suc n) h zero l = ap (λ i. p (f i)) (omega arith) ∙ neither (p (f k)) (any p (table f (numbers (suc k) n))) h .0
+  from-any f k (suc n) h zero l = ap (λ i. p (f i)) (omega arith) ∙ or-none (p (f k)) (any p (table f (numbers (suc k) n))) h .0
   from-any f k (suc n) h (suc i) l =
-      ap (λ i. p (f i)) (omega arith) ∙ from-any f (suc k) n (neither (p (f k)) (any p (table f (numbers (suc k) n))) h .1) i (le-of-suc-le-suc l)
+      ap (λ i. p (f i)) (omega arith) ∙ from-any f (suc k) n (or-none (p (f k)) (any p (table f (numbers (suc k) n))) h .1) i (le-of-suc-le-suc l)
 
   -- no entry below n passes
   pub none-below : (f : ℕ → A) (n : ℕ) → ((i : ℕ) → i < n → p (f i) ≡ false) → any p (table f (below n)) ≡ false

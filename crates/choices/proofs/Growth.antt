@@ -6,10 +6,10 @@ use mathlib.Core.List.{List, [], _∷_}
 use mathlib.Core.Option.{none}
 use Prim.Native.Nat.{ℕ, _+_, _*_, _≤_, _<_, min, max}
 use native.Mathlib.Omega.{arith}
-use lib.Dec.{eqb, ltb}
+use lib.Dec.{ltb}
 use lib.ListN.{length}
 use lib.Ieee.{Float}
-use borrow.Author.Tests.{ne-eqb, lt-ltb, le-ltb, ltb-false}
+use borrow.Author.Tests.{ne-eqb, le-ltb, ltb-false}
 use Rattle.rings.specs.Rings.{nx}
 use Rattle.rings.proofs.Lists.{Same, same, differ, decide}
 use Rattle.definition.specs.Lists.{filter, any, first}
@@ -17,10 +17,10 @@ use Rattle.definition.specs.Numbers.{Turn, base}
 use Rattle.definition.specs.Plane.{Vec}
 use Rattle.definition.specs.Cells.{Tri, Live, Mesh, key, owns, owners, tri-owners, tri-owner, has-node, tri-has, has-edge}
 use Rattle.definition.specs.Candidates.{walls, side-candidate}
+use Rattle.laws.specs.Lists.{any-none}
 use Rattle.cells.specs.Layout.{rings-at}
 use Rattle.cells.specs.Rep.{Rep}
 use Rattle.cells.specs.Walk.{node-after, node-before, CanRead, left}
-use Rattle.cells.proofs.Fronts.{filter-hit}
 use Rattle.candidates.specs.Hand.{InHand}
 use Rattle.candidates.proofs.Scans.{Scan, Spot, scan-start, spot-has}
 use Rattle.ideals.specs.Wanted.{by-edge}
@@ -163,16 +163,6 @@ stray-wider m a g r v f h = go (has-edge m a v) refl
 
 stray-not : (m : Mesh) (a : ℕ) (g : Span) (v : ℕ) → stray m a g v ≡ false → has-edge m a v ≡ true → In g v
 stray-not m a g v h e = not-in g v (rw e at h)
-
--- an edge with an owner, and one with none
-any-none : (f : Live → Bool) (l : List Live) → filter f l ≡ [] → any f l ≡ false
-unfolding any filter
-any-none f [] h = refl
-any-none f (x ∷ l) h = go (f x) refl (any-none f l)
-  where
-    go : (b : Bool) → f x ≡ b → (filter f l ≡ [] → any f l ≡ false) → any f (x ∷ l) ≡ false
-    go true e r = let z : _≡_ {A = ℕ} (length (x ∷ filter f l)) 0 = ap length (sym (filter-hit f x l e) ∙ h) in absurd (omega arith)
-    go false e r = rw e (r (rw e at h))
 
 none-any : (f : Live → Bool) (l : List Live) → any f l ≡ false → filter f l ≡ []
 unfolding any filter

@@ -9,18 +9,17 @@ use lib.ListN.{length, getD, set, take, drop, length-append}
 use lib.Seq.{drop-cons}
 use lib.Ieee.{Float}
 use Rattle.rings.specs.Rings.{Below}
-use Rattle.rings.proofs.Rings.{on, off}
 use Rattle.definition.specs.Lists.{filter, numbers, below}
 use Rattle.definition.specs.Cells.{Live, Mesh}
+use Rattle.laws.specs.Lists.{numbers-snoc, filter-yes, filter-no, Stored, stored-kept, stored-snoc}
+use Rattle.laws.specs.Frames.{on, off, Under}
+use Rattle.candidates.proofs.Scans.{in-hand}
+use Rattle.cells.proofs.Slots.{slots-length}
 use Rattle.cells.specs.Layout.{mesh-end, list-at, near-at, stack-at}
 use Rattle.cells.specs.Rep.{slots}
-use Rattle.cells.specs.Frames.{Under}
 use Rattle.cells.proofs.Corners.{below-at}
 use Rattle.cells.proofs.Frames.{rep-under}
-use Rattle.cells.proofs.Fronts.{filter-hit, filter-miss}
-use Rattle.cells.proofs.Points.{numbers-snoc}
-use Rattle.lives.specs.Stack.{Lent, LiveTo, Stored}
-use Rattle.lives.proofs.Lists.{stored-kept, stored-snoc, slots-length}
+use Rattle.lives.specs.Stack.{LiveTo}
 use Rattle.lives.proofs.Scratches.{scratch-rep}
 use Rattle.candidates.specs.Hand.{InHand}
 use Rattle.ideals.specs.Wishes.{Besides, AddedTo, CanList, WishedTo}
@@ -36,8 +35,8 @@ filter-append f [] k = refl
 filter-append f (x ∷ l) k = go (f x) refl (filter-append f l k)
   where
     go : (b : Bool) → f x ≡ b → filter f (l ++ k) ≡ filter f l ++ filter f k → filter f (x ∷ (l ++ k)) ≡ filter f (x ∷ l) ++ filter f k
-    go true e r = filter-hit f x (l ++ k) e ∙ ap (λ (z : List ℕ). x ∷ z) r ∙ ap (λ (z : List ℕ). z ++ filter f k) (sym (filter-hit f x l e))
-    go false e r = filter-miss f x (l ++ k) e ∙ r ∙ ap (λ (z : List ℕ). z ++ filter f k) (sym (filter-miss f x l e))
+    go true e r = filter-yes f x (l ++ k) e ∙ ap (λ (z : List ℕ). x ∷ z) r ∙ ap (λ (z : List ℕ). z ++ filter f k) (sym (filter-yes f x l e))
+    go false e r = filter-no f x (l ++ k) e ∙ r ∙ ap (λ (z : List ℕ). z ++ filter f k) (sym (filter-no f x l e))
 
 filter-below : (n : ℕ) (f : ℕ → Bool) (l : List ℕ) → Below n l → Below n (filter f l)
 unfolding filter
@@ -45,8 +44,8 @@ filter-below n f [] h = tt
 filter-below n f (x ∷ l) h = go (f x) refl (filter-below n f l (h .1))
   where
     go : (b : Bool) → f x ≡ b → Below n (filter f l) → Below n (filter f (x ∷ l))
-    go true e r = subst (Below n) (sym (filter-hit f x l e)) ((h .0, r))
-    go false e r = subst (Below n) (sym (filter-miss f x l e)) r
+    go true e r = subst (Below n) (sym (filter-yes f x l e)) ((h .0, r))
+    go false e r = subst (Below n) (sym (filter-no f x l e)) r
 
 numbers-below : (n a k : ℕ) → a + k ≤ n → Below n (numbers a k)
 unfolding numbers
@@ -62,11 +61,11 @@ grow f v = ap (filter f) (next-numbers v) ∙ filter-append f (numbers 0 v) (v �
 
 grow-hit : (f : ℕ → Bool) (v : ℕ) → f v ≡ true → filter f (numbers 0 (v + 1)) ≡ filter f (numbers 0 v) ++ v ∷ []
 unfolding filter
-grow-hit f v h = grow f v ∙ ap (λ (l : List ℕ). filter f (numbers 0 v) ++ l) (filter-hit f v [] h)
+grow-hit f v h = grow f v ∙ ap (λ (l : List ℕ). filter f (numbers 0 v) ++ l) (filter-yes f v [] h)
 
 grow-miss : (f : ℕ → Bool) (v : ℕ) → f v ≡ false → filter f (numbers 0 (v + 1)) ≡ filter f (numbers 0 v)
 unfolding filter
-grow-miss f v h = grow f v ∙ ap (λ (l : List ℕ). filter f (numbers 0 v) ++ l) (filter-miss f v [] h) ∙ append-nil (filter f (numbers 0 v))
+grow-miss f v h = grow f v ∙ ap (λ (l : List ℕ). filter f (numbers 0 v) ++ l) (filter-no f v [] h) ∙ append-nil (filter f (numbers 0 v))
 
 -- numbers from v on that are not chosen change nothing
 grow-none : (f : ℕ → Bool) (v d : ℕ) → ((u : ℕ) → v ≤ u → u < v + d → f u ≡ false) → filter f (numbers 0 (v + d)) ≡ filter f (numbers 0 v)
@@ -151,10 +150,6 @@ hand-kept w w' q s p k b n m g h f z =
 
 -- ---- the whole search
 
-pub live-hand : (w w' : List ℕ) (q : List Float) (s p used k : ℕ) (m : Mesh) (g : List Live) → Lent w q s p used m → LiveTo w w' s p k m g → InHand w' q s p k m g
-live-hand w w' q s p used k m g l h =
-    record { rep = scratch-rep w w' s p m (h .scratch) (l .rep); pts = l .pts; len = h .len; few = h .few; stored = h .stored; inner = h .inner }
-
 module _ (w w1 : List ℕ) (q : List Float) (s p used n at a other seed k : ℕ) (m : Mesh) (g : List Live) (c : CanChoose w q s p used n at a other seed m) (h : LiveTo w w1 s p k m g) (i : ℕ) (e : i ≡ stack-at s p) where
   -- what is wanted may be listed from the stack on
   pub can-wish : CanList w1 q s p a other i m
@@ -172,7 +167,7 @@ module _ (w w1 : List ℕ) (q : List Float) (s p used n at a other seed k : ℕ)
   pub can-scan : (w2 : List ℕ) (o : Wish) → WishedTo w1 w2 q s i o m a other → CanScan w2 q s p k n at a other i o m g
   can-scan w2 o z =
       record {
-        hand = hand-kept w1 w2 q s p k i (6 * s) m g (live-hand w w1 q s p used k m g (c .lent) h) (omega (arith, e)) (z .besides);
+        hand = hand-kept w1 w2 q s p k i (6 * s) m g (in-hand w w1 q s p used k m g (c .lent) h) (omega (arith, e)) (z .besides);
         count = c .count;
         first = c .first;
         second = c .second;

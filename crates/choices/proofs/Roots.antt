@@ -16,8 +16,8 @@ use Rattle.definition.specs.Floats.{_≺_, _⊕_, _⊗_, 0·0, f64}
 use Rattle.definition.specs.Numbers.{base, edge-high}
 use Rattle.definition.specs.Plane.{Vec, norm}
 use Rattle.definition.specs.Root.{sqrt}
+use Rattle.laws.specs.Bools.{of-T, and-left, and-right}
 use Rattle.choices.specs.Choice.{too-far, square, FarFrom}
-use Rattle.choices.proofs.Tests.{both-left, both-right}
 use Rattle.rounding.specs.Nearest.{ulps, Nearer}
 use Rattle.rounding.specs.Near.{half-unit, nearest, ulps-exact}
 use Rattle.rounding.specs.Root.{sqrt-is, doubled, scaled}
@@ -215,8 +215,8 @@ far-from x target f o h =
     record {
       beyond = λ z g l.
           both (edge-high ⊗ target ≺ sqrt z) (base .side-high ⊗ target ≺ sqrt z)
-          (root-beyond (edge-high ⊗ target) x z f g o (both-left (edge-high ⊗ target ≺ sqrt x) (base .side-high ⊗ target ≺ sqrt x) (sym h)) l)
-          (root-beyond (base .side-high ⊗ target) x z f g o (both-right (edge-high ⊗ target ≺ sqrt x) (base .side-high ⊗ target ≺ sqrt x) (sym h)) l);
+          (root-beyond (edge-high ⊗ target) x z f g o (and-left (edge-high ⊗ target ≺ sqrt x) (base .side-high ⊗ target ≺ sqrt x) (sym h)) l)
+          (root-beyond (base .side-high ⊗ target) x z f g o (and-right (edge-high ⊗ target ≺ sqrt x) (base .side-high ⊗ target ≺ sqrt x) (sym h)) l);
     }
 
 pub far-endless : (target : Float) → FarFrom (inf false) target
@@ -232,10 +232,6 @@ pub endless : div binary64 (f64 0x3ff0000000000000) (f64 0) ≡ inf false
 unfolding f64 ofBits div
 endless = refl
 
-holds : (b : Bool) → T b → b ≡ true
-holds true h = refl
-holds false h = absurd h
-
 pub square-fits : (d : Vec) → fits binary64 (square d) ≡ true
 unfolding _⊕_
-square-fits d = holds (fits binary64 (square d)) (add-fits binary64 (d .dx ⊗ d .dx) (d .dy ⊗ d .dy))
+square-fits d = of-T (fits binary64 (square d)) (add-fits binary64 (d .dx ⊗ d .dx) (d .dy ⊗ d .dy))

@@ -1,6 +1,6 @@
 -- One node: too far, by an edge, or from the region.
-use mathlib.Core.Path.{_≡_, refl, ap, sym, _∙_}
-use mathlib.Core.Bool.{Bool, true, false, _&&_, and-false, false≢true}
+use mathlib.Core.Path.{_≡_, ap, sym, _∙_}
+use mathlib.Core.Bool.{Bool, true, false, and-false}
 use mathlib.Core.List.{List}
 use Prim.Native.Nat.{ℕ, _<_}
 use lib.ListN.{length}
@@ -12,19 +12,12 @@ use Rattle.definition.specs.Plane.{Node, Vec, flat, norm, from-to}
 use Rattle.definition.specs.Cells.{Live, Mesh, node-at}
 use Rattle.definition.specs.Candidates.{ahead, walls, side-candidate, toward, edge-candidate, live-region, candidates}
 use Rattle.definition.specs.Call.{point-at}
+use Rattle.laws.specs.Bools.{and-left, and-right}
 use Rattle.cells.specs.Rep.{Pts}
 use Rattle.lives.proofs.Steps.{region-flat}
 use Rattle.plane.specs.Points.{node-of}
 use Rattle.ideals.specs.Wanted.{by-edge}
 use Rattle.choices.specs.Choice.{too-far, is-choice}
-
-pub both-left : (a b : Bool) → (a && b) ≡ true → a ≡ true
-both-left true b h = refl
-both-left false b h = h
-
-pub both-right : (a b : Bool) → (a && b) ≡ true → b ≡ true
-both-right true b h = h
-both-right false b h = absurd (false≢true h)
 
 module _ (t : Turn) (m : Mesh) (a other : ℕ) (n : Vec) (target : Float) (g : List Live) (v : ℕ) where
   edge-off : (edge-high ⊗ target ≺ norm (toward m a v)) ≡ true → by-edge t m a other target v ≡ false
@@ -41,8 +34,8 @@ module _ (t : Turn) (m : Mesh) (a other : ℕ) (n : Vec) (target : Float) (g : L
 
   pub choice-far : true ≡ too-far (norm (toward m a v)) target → false ≡ is-choice t m a other n target g v
   choice-far h =
-      let x = both-left (edge-high ⊗ target ≺ norm (toward m a v)) (base .side-high ⊗ target ≺ norm (toward m a v)) (sym h) in
-      let y = both-right (edge-high ⊗ target ≺ norm (toward m a v)) (base .side-high ⊗ target ≺ norm (toward m a v)) (sym h) in
+      let x = and-left (edge-high ⊗ target ≺ norm (toward m a v)) (base .side-high ⊗ target ≺ norm (toward m a v)) (sym h) in
+      let y = and-right (edge-high ⊗ target ≺ norm (toward m a v)) (base .side-high ⊗ target ≺ norm (toward m a v)) (sym h) in
       rw (edge-off x, side-off y)
 
   pub choice-edge : true ≡ by-edge t m a other target v → true ≡ is-choice t m a other n target g v

@@ -12,8 +12,9 @@ use Rattle.definition.specs.Root.{sqrt}
 use Rattle.definition.specs.Plane.{Vec}
 use Rattle.definition.specs.Cells.{Live, Mesh}
 use Rattle.definition.specs.Candidates.{walls, side-candidate}
+use Rattle.laws.specs.Lists.{Stored}
 use Rattle.cells.specs.Layout.{marks-at, refused-at, near-at, stack-at}
-use Rattle.lives.specs.Stack.{Lent, Stored}
+use Rattle.lives.specs.Stack.{Lent}
 use Rattle.candidates.specs.Hand.{InHand}
 use Rattle.ideals.specs.Wanted.{by-edge}
 use Rattle.ideals.specs.Wishes.{Besides, Wished}

@@ -12,9 +12,10 @@ use borrow.Author.Tests.{eqb-true}
 use Rattle.rings.specs.Rings.{Out, Distinct}
 use Rattle.rings.proofs.Lists.{out-append}
 use Rattle.definition.specs.Lists.{filter}
-use Rattle.definition.specs.Cells.{Tri, Live, Mesh, live-tri, among, tris-of, without-all}
+use Rattle.definition.specs.Cells.{Tri, Live, Mesh, live-tri, tris-of, without-all}
 use Rattle.definition.specs.Components.{meets, classes, component-sizes, odd-one, removing-leaves-odd-component}
-use Rattle.account.specs.Lists.{which, In, in-left, in-right, in-either, in-filter, filter-in, in-map, map-in, sort-in, any-in, filter-yes, filter-no}
+use Rattle.laws.specs.Bools.{which}
+use Rattle.laws.specs.Lists.{In, in-left, in-right, in-either, filter-yes, filter-no, in-filter, filter-in, sort-in, any-in, map-in, in-map}
 use Rattle.account.specs.Rearranged.{number, number-append}
 use Rattle.account.specs.Triangles.{Shares, turned, shares-self, Distinct as Three}
 use Rattle.account.specs.Even.{Closed, odd}

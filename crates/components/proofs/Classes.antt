@@ -1,22 +1,24 @@
 -- Components of a list of triangles, by closed sets: any two partitions into components have the same sizes.
 use mathlib.Core.Path.{_≡_, refl, sym, ap, _∙_, subst}
-use mathlib.Core.Bool.{Bool, true, false, _&&_}
+use mathlib.Core.Bool.{Bool, true, false, _&&_, and-true, and-false}
 use mathlib.Core.Logic.{inl, inr}
 use mathlib.Core.List.{List, [], _∷_, _++_, map}
-use Prim.Native.Nat.{ℕ, suc, _+_, _%_, _<_}
+use Prim.Native.Nat.{ℕ, suc, _+_, _%_}
 use native.Mathlib.Omega.{arith}
 use lib.Dec.{eqb, ltb}
 use lib.ListN.{length}
 use borrow.Author.Tests.{eq-eqb, ne-eqb}
-use Rattle.definition.specs.Lists.{filter, any, flat-map, concat}
+use Rattle.definition.specs.Lists.{filter, flat-map, concat}
 use Rattle.definition.specs.Cells.{Tri}
 use Rattle.definition.specs.Components.{meets, classes, component-sizes, odd-one}
-use Rattle.definition.specs.Account.{Rearranged, Reached, itself, across}
-use Rattle.account.specs.Lists.{which, never, In, in-left, in-right, in-either, in-map, map-in, sort-in, in-sort, in-any, any-in, filter-all, filter-yes, filter-no}
-use Rattle.account.specs.Rearranged.{number, number-append, number-cons, same-length, sort-same, same-in-tris, same-back}
-use Rattle.account.specs.Triangles.{turned, share-says, shares-self}
+use Rattle.definition.specs.Account.{Rearranged}
+use Rattle.laws.specs.Bools.{which, never}
+use Rattle.laws.specs.Lists.{In, in-left, in-right, in-either, filter-yes, filter-no, sort-in, in-any, any-in, in-sort, filter-all, map-in, in-map}
+use Rattle.account.specs.Sizes.{along-chain}
+use Rattle.account.specs.Rearranged.{number, number-append, number-cons, same-length, sort-same, same-in-tris, same-back, not-none}
+use Rattle.account.specs.Triangles.{turned, shares-self}
 use Rattle.account.specs.Even.{Closed}
-use Rattle.account.specs.Classes.{No-share, All-apart, Right, All-distinct, reached-in, in-concat, every, only, meets-says, shares-meets, apart-or-same, classes-right, one-class}
+use Rattle.account.specs.Classes.{No-share, All-apart, Right, All-distinct, in-concat, every, only, meets-says, shares-meets, apart-or-same, classes-right, one-class}
 
 -- ---- counting
 
@@ -35,14 +37,6 @@ number-none c (x ∷ xs) h = rw (filter-no c x xs (h x (inl refl))) (number-none
 
 pub number-all : {A : Type 0} (xs : List A) → number (λ x. true) xs ≡ length xs
 number-all xs = ap length (filter-all (λ x. true) xs (λ x i. refl))
-
-and-none : (a : Bool) → (a && false) ≡ false
-and-none true = refl
-and-none false = refl
-
-and-all : (a : Bool) → (a && true) ≡ a
-and-all true = refl
-and-all false = refl
 
 -- ---- one component
 
@@ -83,8 +77,8 @@ module _ (ts : List Tri) (d : All-distinct ts) where
   alone c k [] a h j = absurd j
   alone c k (l ∷ js) a h (inl e) =
       let f : Tri → Bool = λ t. c t && meets t k in
-      let head : number f l ≡ number c l = number-agree f c l (λ t i. ap (λ b. c t && b) (self k (subst (λ z. Class ts z) (sym e) (h l (inl refl))) t (subst (λ z. In t z) (sym e) i)) ∙ and-all (c t)) in
-      let tail : number f (concat js) ≡ 0 = none f js (λ x m t i. ap (λ b. c t && b) (outside k x (h x (inr m)) t i (λ s u p q g. a .0 x m u s (subst (λ z. In u z) e q) p (turned g))) ∙ and-none (c t)) in
+      let head : number f l ≡ number c l = number-agree f c l (λ t i. ap (λ b. c t && b) (self k (subst (λ z. Class ts z) (sym e) (h l (inl refl))) t (subst (λ z. In t z) (sym e) i)) ∙ and-true (c t)) in
+      let tail : number f (concat js) ≡ 0 = none f js (λ x m t i. ap (λ b. c t && b) (outside k x (h x (inr m)) t i (λ s u p q g. a .0 x m u s (subst (λ z. In u z) e q) p (turned g))) ∙ and-false (c t)) in
       let whole : number f (l ++ concat js) ≡ number f l + number f (concat js) = number-append f l (concat js) in
       let last : number c l ≡ number c k = ap (number c) (sym e) in
       omega arith
@@ -97,7 +91,7 @@ module _ (ts : List Tri) (d : All-distinct ts) where
           let both = number-append f x (concat js) in omega arith
   alone c k (l ∷ js) a h (inr m) =
       let f : Tri → Bool = λ t. c t && meets t k in
-      let head : number f l ≡ 0 = number-none f l (λ t i. ap (λ b. c t && b) (outside k l (h l (inl refl)) t i (a .0 k m)) ∙ and-none (c t)) in
+      let head : number f l ≡ 0 = number-none f l (λ t i. ap (λ b. c t && b) (outside k l (h l (inl refl)) t i (a .0 k m)) ∙ and-false (c t)) in
       let tail : number f (concat js) ≡ number c k = alone c k js (a .1) (λ x n. h x (inr n)) m in
       let whole : number f (l ++ concat js) ≡ number f l + number f (concat js) = number-append f l (concat js) in
       omega arith
@@ -119,16 +113,6 @@ pub same-size : (ts : List Tri) (k l : List Tri) → All-distinct ts → Class t
 same-size ts k l d a b p q t i j = sym p ∙ number-agree (λ s. meets s k) (λ s. meets s l) ts (λ s m. agree ts d k l a b t i j s m) ∙ q
 
 -- ---- the definition's classes
-
-along : (c : Tri → Bool) (ts k : List Tri) → All-distinct ts → Closed c ts → ((t : Tri) → In t k → In t ts) → (s t : Tri) → In s k → Reached k s t → c s ≡ c t
-along c ts k d h f s t i itself = refl
-along c ts k d h f s t i (across r u g j e) =
-    let at = f r (reached-in k s r i g) in
-    along c ts k d h f s r i g ∙ h r u at (f u j) (share-says r u (d r at) e)
-
-not-empty : {A : Type 0} (xs : List A) → 0 < length xs → (x : A) × In x xs
-not-empty [] h = absurd (omega arith)
-not-empty (x ∷ xs) h = (x, inl refl)
 
 module _ (ts : List Tri) (d : All-distinct ts) where
   right : Right ts (classes ts)
@@ -156,12 +140,12 @@ module _ (ts : List Tri) (d : All-distinct ts) where
 
   class-of : (k : List Tri) → In k (classes ts) → Class ts k
   class-of k i =
-      let r = not-empty k (right .inhabited k i) in
+      let r = not-none k (right .inhabited k i) in
       record {
         some = r .0;
         has = r .1;
         inside = λ t j. within k t i j;
-        solid = λ c h s t x y. along c ts k d h (λ u j. within k u i j) s t x (right .linked k i s t x y);
+        solid = λ c h s t x y. along-chain c ts k d h (λ u j. within k u i j) s t x (right .linked k i s t x y);
         closed = class-closed k i;
       }
 

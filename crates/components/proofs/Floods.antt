@@ -3,29 +3,27 @@ use mathlib.Core.Path.{_≡_, refl, ap, sym, _∙_, subst}
 use mathlib.Core.Logic.{_⊎_, inl, inr, _≢_}
 use mathlib.Core.Bool.{Bool, true}
 use mathlib.Core.List.{List, [], _∷_, _++_, append-assoc, append-nil}
-use Prim.Native.Nat.{ℕ, suc, _+_, _-_, _≤_, _<_}
+use Prim.Native.Nat.{ℕ, _+_, _≤_, _<_}
 use native.Mathlib.Omega.{arith}
 use lib.ListN.{length, getD, length-append}
 use borrow.Author.Tests.{ne-eqb}
 use Rattle.rings.specs.Rings.{Out}
 use Rattle.definition.specs.Cells.{Tri, Live, Mesh, live-tri, is-tri, new-live}
-use Rattle.account.specs.Lists.{never, In, in-left, in-right, in-either}
+use Rattle.laws.specs.Bools.{never}
+use Rattle.laws.specs.Lists.{In, in-left, in-right, in-either, Stored}
+use Rattle.regions.proofs.Floods.{stored-at}
 use Rattle.account.specs.Triangles.{Shares}
 use Rattle.cells.specs.Layout.{list-at, marks-at}
 use Rattle.cells.specs.Rep.{TriIn, slots}
-use Rattle.cells.proofs.Slots.{tri-in}
-use Rattle.regions.specs.Listing.{Stored, CanList, Aside}
+use Rattle.cells.proofs.Slots.{tri-in, in-has}
+use Rattle.regions.specs.Listing.{CanList, Aside}
 use Rattle.regions.proofs.Listings.{aside-refl, aside-trans}
 use Rattle.regions.proofs.Reaches.{appended}
 use Rattle.components.specs.Flood.{body, tri-live, Marked, Seen, Met, Beside, Whole, Flooding, Flooded, Taken, nothing, component}
-use Rattle.components.proofs.Members.{in-has, has-in, parts-apart, tris-at, live-is}
+use Rattle.components.proofs.Members.{has-in, parts-apart, tris-at, live-is}
 use Rattle.components.proofs.Grows.{few, can-list, fresh, known, kind, more, seen-can, seen-room, Grown, grown}
 
 -- ---- a cell of the list
-
-pub stored-at : (w : List ℕ) (b : ℕ) (done : List Live) (y : Live) (todo : List Live) → Stored w b (slots (done ++ y ∷ todo)) → getD w (b + length done) 0 ≡ y .slot
-stored-at w b [] y todo h = let z : b + 0 ≡ b = omega arith in ap (λ (i : ℕ). getD w i 0) z ∙ h .0
-stored-at w b (x ∷ done) y todo h = let z : b + suc (length done) ≡ b + 1 + length done = omega arith in ap (λ (i : ℕ). getD w i 0) z ∙ stored-at w (b + 1) done y todo (h .1)
 
 unfoldable pub tri-at : (m : Mesh) (j : ℕ) (y : Live) → In y (m .live) → live-tri y ≡ true → j ≡ y .slot → TriIn m j
 tri-at m j y i t e =

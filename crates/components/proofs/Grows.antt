@@ -1,31 +1,30 @@
 -- One triangle more listed and marked.
 use mathlib.Core.Path.{_≡_, refl, ap, sym, _∙_, subst}
 use mathlib.Core.Logic.{inl, inr, _≢_}
-use mathlib.Core.Bool.{Bool, true, false, cond, _||_, or-false}
+use mathlib.Core.Bool.{Bool, true, false, cond}
 use mathlib.Core.List.{List, [], _∷_, _++_}
-use Prim.Native.Nat.{ℕ, _+_, _-_, _*_, _≤_, _<_}
+use Prim.Native.Nat.{ℕ, _+_, _*_, _≤_, _<_}
 use native.Mathlib.Omega.{arith}
 use lib.Dec.{eqb}
-use lib.ListN.{length, getD, set, length-set, length-append}
-use borrow.Author.Tests.{eq-eqb, ne-eqb}
+use lib.ListN.{length, getD, length-append}
 use Rattle.rings.specs.Rings.{Out, Below}
-use Rattle.rings.proofs.Lists.{Same, same, differ, decide, distinct-snoc, below-append, room}
-use Rattle.rings.proofs.Rings.{on, off}
+use Rattle.rings.proofs.Lists.{distinct-snoc, below-append, room}
 use Rattle.definition.specs.Lists.{any}
 use Rattle.definition.specs.Cells.{Live, Mesh, live-tri, in-slot}
-use Rattle.account.specs.Lists.{In, in-either}
+use Rattle.laws.specs.Lists.{In, in-either, stored-kept, stored-snoc}
+use Rattle.laws.specs.Bools.{not-marked}
 use Rattle.cells.specs.Layout.{marks-at, list-at}
 use Rattle.cells.specs.Rep.{Held, slots}
 use Rattle.cells.specs.Walk.{CanSee}
 use Rattle.cells.proofs.Corners.{slots-append}
-use Rattle.cells.proofs.Slots.{rep-held, rep-see}
+use Rattle.cells.proofs.Slots.{rep-held, rep-see, slots-length, in-has}
 use Rattle.cells.proofs.Fronts.{held-tri}
 use Rattle.cells.proofs.Frames.{rep-under}
 use Rattle.regions.specs.Listing.{CanList, Aside}
-use Rattle.regions.proofs.Listings.{slots-length, all-below, any-out, any-snoc, stored-snoc, stored-kept, tris-snoc}
-use Rattle.regions.proofs.Reaches.{appended}
+use Rattle.regions.proofs.Listings.{all-below, any-out, tris-snoc}
+use Rattle.regions.proofs.Reaches.{appended, appended-other, appended-aside, appended-last, appended-marks}
 use Rattle.components.specs.Flood.{Marked, Seen}
-use Rattle.components.proofs.Members.{in-has, has-in, any-has, same-slot}
+use Rattle.components.proofs.Members.{has-in, any-has, same-slot}
 
 -- each of them is in a slot below n
 below-all : (n : ℕ) (l : List Live) → ((x : Live) → In x l → x .slot < n) → Below n (slots l)
@@ -53,11 +52,7 @@ module _ (w : List ℕ) (s p n j : ℕ) (m : Mesh) (xs : List Live) (x : Live) (
   marked-so = rw (h .slot) (h .state .marks (x .slot) (omega (arith, held .inside, h .state .rep .used)))
 
   pub fresh : getD w (marks-at s p + j) 0 ≡ 0 → Out (x .slot) (slots xs)
-  fresh z = any-out (x .slot) xs (go (any (in-slot (x .slot)) xs) refl)
-    where
-      go : (b : Bool) → any (in-slot (x .slot)) xs ≡ b → any (in-slot (x .slot)) xs ≡ false
-      go true q = let y : _≡_ {A = ℕ} 0 1 = sym z ∙ marked-so ∙ rw q in absurd (omega arith)
-      go false q = q
+  fresh z = any-out (x .slot) xs (not-marked (any (in-slot (x .slot)) xs) (sym marked-so ∙ z))
 
   pub known : getD w (marks-at s p + j) 0 ≢ 0 → In x xs
   known z = go (any (in-slot (x .slot)) xs) refl
@@ -95,13 +90,10 @@ module _ (w : List ℕ) (s p n j : ℕ) (m : Mesh) (xs : List Live) (x : Live) (
     pub behind : (i : ℕ) → n < i → i < s → getD (appended w s p n j) (list-at s p + i) 0 ≡ getD w (list-at s p + i) 0
 
   pub grown : Out (x .slot) (slots xs) → live-tri x ≡ true → Grown
-  grown o t = record { state = state; aside = aside; behind = λ i a b. other (list-at s p + i) (λ q. omega arith) (λ q. omega (arith, inside)) }
+  grown o t = record { state = state; aside = aside; behind = λ i a b. appended-other w s p n j (list-at s p + i) (λ q. omega arith) (λ q. omega (arith, inside)) }
     where
-      w1 : List ℕ
-      w1 = set w (marks-at s p + j) 1
-
       w' : List ℕ
-      w' = set w1 (list-at s p + n) j
+      w' = appended w s p n j
 
       js : j < s
       js = inside
@@ -112,36 +104,8 @@ module _ (w : List ℕ) (s p n j : ℕ) (m : Mesh) (xs : List Live) (x : Live) (
       fits : 64 * s + 8 * p ≤ length w
       fits = h .state .rep .room .fits
 
-      len : length w' ≡ length w
-      len = simp length-set
-
-      other : (i : ℕ) → i ≢ list-at s p + n → i ≢ marks-at s p + j → getD w' i 0 ≡ getD w i 0
-      other i a b = off w1 (list-at s p + n) j i a ∙ off w (marks-at s p + j) 1 i b
-
       aside : Aside w w' s p
-      aside =
-          record {
-            under = record { len = len; low = λ i l. other i (λ q. omega arith) (λ q. omega arith) };
-            keeps = record { len = len; high = λ i l. other i (λ q. omega (arith, ns)) (λ q. omega (arith, js)) };
-          }
-
-      last : getD w' (list-at s p + n) 0 ≡ j
-      last = on w1 (list-at s p + n) j (simp length-set (omega (arith, fits, ns)))
-
-      marked : getD w' (marks-at s p + j) 0 ≡ 1
-      marked = off w1 (list-at s p + n) j (marks-at s p + j) (λ q. omega (arith, js)) ∙ on w (marks-at s p + j) 1 (omega (arith, fits, js))
-
-      marks : (i : ℕ) → i < s → getD w' (marks-at s p + i) 0 ≡ cond (any (in-slot i) (xs ++ x ∷ [])) 1 0
-      marks i l = rw (any-snoc i xs x) (go (decide i j))
-        where
-          or-true : (b : Bool) → _≡_ {A = ℕ} 1 (cond (b || true) 1 0)
-          or-true true = refl
-          or-true false = refl
-
-          go : Same i j → getD w' (marks-at s p + i) 0 ≡ cond (any (in-slot i) xs || eqb i (x .slot)) 1 0
-          go (same q) = rw (eq-eqb i (x .slot) (q ∙ h .slot)) (ap (λ (y : ℕ). getD w' (marks-at s p + y) 0) q ∙ marked ∙ or-true (any (in-slot i) xs))
-          go (differ q) = rw (ne-eqb i (x .slot) (λ y. q (y ∙ sym (h .slot))), or-false (any (in-slot i) xs))
-              (other (marks-at s p + i) (λ y. omega (arith, l)) (λ y. q (omega arith)) ∙ h .state .marks i l)
+      aside = appended-aside w s p n j js ns fits
 
       live : (y : Live) → In y (xs ++ x ∷ []) → In y (m .live)
       live y i = elim (in-either y xs (x ∷ []) i) [
@@ -160,7 +124,7 @@ module _ (w : List ℕ) (s p n j : ℕ) (m : Mesh) (xs : List Live) (x : Live) (
             tris = tris-snoc xs x (h .state .tris) t;
             stored = rw (slots-append xs (x ∷ []))
                 (stored-snoc w' (list-at s p) (x .slot) (slots xs)
-                (stored-kept w w' (list-at s p) (slots xs) (λ i a b. other i (λ y. omega (arith, h .state .len, slots-length xs)) (λ y. omega (arith, js))) (h .state .stored))
-                (let y : list-at s p + length (slots xs) ≡ list-at s p + n = omega (arith, h .state .len, slots-length xs) in ap (λ (v : ℕ). getD w' v 0) y ∙ last ∙ h .slot));
-            marks = marks;
+                (stored-kept w w' (list-at s p) (slots xs) (λ i a b. appended-other w s p n j i (λ y. omega (arith, h .state .len, slots-length xs)) (λ y. omega (arith, js))) (h .state .stored))
+                (let y : list-at s p + length (slots xs) ≡ list-at s p + n = omega (arith, h .state .len, slots-length xs) in ap (λ (v : ℕ). getD w' v 0) y ∙ appended-last w s p n j js ns fits ∙ h .slot));
+            marks = appended-marks w s p n j js ns fits xs x (h .slot) (h .state .marks);
           }

@@ -10,17 +10,18 @@ use lib.ListN.{length, getD, length-append}
 use borrow.Author.Tests.{eq-eqb}
 use Rattle.rings.specs.Rings.{Out}
 use Rattle.definition.specs.Cells.{Tri, Live, Mesh, live-tri}
-use Rattle.account.specs.Lists.{In, in-left, in-right, in-either}
+use Rattle.laws.specs.Lists.{In, in-left, in-right, in-either, Stored}
+use Rattle.regions.proofs.Floods.{stored-at}
 use Rattle.account.specs.Triangles.{Shares}
 use Rattle.cells.specs.Layout.{list-at, marks-at}
 use Rattle.cells.specs.Rep.{TriIn, slots}
-use Rattle.regions.specs.Listing.{Stored, CanList}
+use Rattle.regions.specs.Listing.{CanList}
 use Rattle.components.specs.Flood.{body, Marked, Seen, Met, At, Beside}
 use Rattle.components.specs.Near.{BesideOne, Looked, nobody, somebody, Around}
 use Rattle.components.proofs.Members.{Nodes, out-not, out-from, tris-at}
 use Rattle.components.proofs.Grows.{inside, fresh, kind, few, can-list}
 use Rattle.components.proofs.Meets.{met-none, met-both}
-use Rattle.components.proofs.Floods.{stored-at, tri-at}
+use Rattle.components.proofs.Floods.{tri-at}
 
 -- ---- found or not
 

@@ -9,18 +9,19 @@ use lib.ListN.{getD}
 use borrow.Author.Tests.{eq-eqb, ne-eqb}
 use Rattle.rings.specs.Rings.{nx}
 use Rattle.definition.specs.Cells.{Tri, Cell, tri, Live, Mesh, live-tri, tri-has}
-use Rattle.account.specs.Lists.{never, either, In, in-left, in-right, in-either}
+use Rattle.laws.specs.Bools.{either, never}
+use Rattle.laws.specs.Lists.{In, in-left, in-right, in-either}
 use Rattle.account.specs.Triangles.{Has as Corner, has-test, test-has}
 use Rattle.cells.specs.Layout.{marks-at, rings-at}
 use Rattle.cells.specs.Rep.{CellAt}
 use Rattle.cells.specs.Walk.{Pos, left}
 use Rattle.cells.proofs.Walks.{start}
-use Rattle.cells.proofs.Slots.{rep-held}
+use Rattle.cells.proofs.Slots.{rep-held, in-has}
 use Rattle.regions.specs.Listing.{Aside}
 use Rattle.regions.proofs.Listings.{aside-refl, aside-trans}
 use Rattle.regions.proofs.Reaches.{appended}
 use Rattle.components.specs.Flood.{body, Marked, Seen, Met, It, At, Beside}
-use Rattle.components.proofs.Members.{Nodes, in-has, tri-is, tris-at, shares-at, first-shares, second-shares}
+use Rattle.components.proofs.Members.{Nodes, tri-is, tris-at, shares-at, first-shares, second-shares}
 use Rattle.components.proofs.Grows.{fresh, known, kind, grown}
 use Rattle.components.proofs.Spots.{Spot, spot, spot-end}
 

@@ -12,19 +12,15 @@ use Rattle.rings.specs.Rings.{Out, Distinct}
 use Rattle.rings.proofs.Lists.{Same, same, differ, decide}
 use Rattle.definition.specs.Lists.{any}
 use Rattle.definition.specs.Cells.{Tri, Cell, tri, quad, Live, Mesh, live-tri, is-tri, in-slot, nodes, tri-nodes, tri-has, new-live}
-use Rattle.account.specs.Lists.{In, in-right, any-in}
+use Rattle.laws.specs.Lists.{In, in-right, any-in}
 use Rattle.account.specs.Triangles.{Has as Corner, Distinct as Three, has-test}
 use Rattle.cells.specs.Rep.{Shape, slots, Has, here, there, CellAt, at-node, cell-corners, Rep, TriIn}
 use Rattle.cells.proofs.Corners.{corner-in}
-use Rattle.cells.proofs.Slots.{rep-held}
+use Rattle.cells.proofs.Slots.{rep-held, in-has}
 use Rattle.regions.specs.Listing.{Tris}
 use Rattle.components.specs.Flood.{cell-tri, body, tri-live, At, Beside}
 
 -- ---- the two words for membership
-
-pub in-has : (x : Live) (l : List Live) → In x l → Has x l
-in-has x (y ∷ l) (inl e) = subst (λ (z : Live). Has x (z ∷ l)) e here
-in-has x (y ∷ l) (inr i) = there (in-has x l i)
 
 pub has-in : (x : Live) (l : List Live) → Has x l → In x l
 has-in x (y ∷ l) here = inl refl

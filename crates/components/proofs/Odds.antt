@@ -5,20 +5,20 @@ use mathlib.Core.Bool.{true, false}
 use mathlib.Core.List.{List, [], _∷_, _++_, append-nil, map}
 use Prim.Native.Nat.{ℕ, _+_, _-_, _%_, _≤_}
 use native.Mathlib.Omega.{arith}
-use lib.ListN.{length}
+use lib.ListN.{length, length-map}
 use Rattle.definition.specs.Cells.{Tri, Live, Mesh}
 use Rattle.definition.specs.Components.{removing-leaves-odd-component}
-use Rattle.account.specs.Lists.{In, in-map}
+use Rattle.laws.specs.Lists.{In, in-map, Stored}
 use Rattle.cells.specs.Layout.{list-at}
 use Rattle.cells.specs.Rep.{slots, here}
 use Rattle.cells.proofs.Slots.{rep-held}
-use Rattle.regions.specs.Listing.{Stored, Listed, Aside}
+use Rattle.regions.specs.Listing.{Listed, Aside}
 use Rattle.regions.proofs.Listings.{aside-refl, aside-trans}
 use Rattle.components.specs.Flood.{body, Marked, Taken, nothing, component}
 use Rattle.components.specs.Odd.{OddTo}
 use Rattle.components.proofs.Grows.{few}
 use Rattle.components.proofs.Classes.{odd-yes, odd-no}
-use Rattle.components.proofs.Sweeps.{joined, Sweeping, sweep-on, sweep-new, sweep-length, left-tris, left-distinct, piece-class, piece-count, swept, map-length}
+use Rattle.components.proofs.Sweeps.{joined, Sweeping, sweep-on, sweep-new, sweep-length, left-tris, left-distinct, piece-class, piece-count, swept}
 
 -- the components taken are even
 pub record Evens (w₀ w : List ℕ) (s p k i : ℕ) (m : Mesh) (region : List Live) : Type 0 where
@@ -85,7 +85,7 @@ module _ (w₀ w : List ℕ) (s p k i : ℕ) (m : Mesh) (region : List Live) (g 
   odd-found w' r (nothing e h a f) q w1 n l b = absurd (q (let z : r - k ≡ 0 = omega (arith, e) in rw z refl))
   odd-found w' r (component x e f) q w1 n l b =
       let c = sweep-new w₀ w s p k i m region (g .pieces) (g .sweep) w' r x e f in
-      let z : r - k ≡ length (map body (f .new)) = omega (arith, sweep-length w₀ w s p k i m region (g .pieces) (g .sweep) w' r x e f, map-length body (f .new)) in
+      let z : r - k ≡ length (map body (f .new)) = omega (arith, sweep-length w₀ w s p k i m region (g .pieces) (g .sweep) w' r x e f, length-map (f .new) body) in
       record {
         same = sym (odd-yes (left-tris m region) (left-distinct w' s p r m region (f .new ∷ g .pieces) (c .state) (c .pieces)) (map body (f .new))
             (piece-class w' s p r m region (f .new ∷ g .pieces) (c .state) (c .pieces) (f .new) (inl refl))
@@ -102,7 +102,7 @@ module _ (w₀ w : List ℕ) (s p k i : ℕ) (m : Mesh) (region : List Live) (g 
       record {
         same = sym (odd-no (left-tris m region) (left-distinct w s p k m region (g .pieces) (g .sweep .state) (g .sweep .pieces)) (map (map body) (g .pieces))
             (swept w₀ w s p k i m region (g .pieces) (g .sweep) u)
-            (λ x j. let r = in-map (map body) x (g .pieces) j in ap (λ (v : List Tri). length v % 2) (r .2) ∙ ap (λ (v : ℕ). v % 2) (map-length body (r .0)) ∙ g .even (r .0) (r .1)));
+            (λ x j. let r = in-map (map body) x (g .pieces) j in ap (λ (v : List Tri). length v % 2) (r .2) ∙ ap (λ (v : ℕ). v % 2) (length-map (r .0) body) ∙ g .even (r .0) (r .1)));
         list = still-listed w1 w₀ w s p n k i m region (g .pieces) l (g .sweep);
         aside = aside-trans w1 w₀ w s p a (g .sweep .aside);
       }

@@ -5,11 +5,11 @@ use mathlib.Core.Bool.{Bool, true, false}
 use mathlib.Core.List.{List, [], _∷_, _++_, append-nil, append-assoc, map}
 use Prim.Native.Nat.{ℕ, _+_, _-_, _%_, _≤_, _<_}
 use native.Mathlib.Omega.{arith}
-use lib.ListN.{length, length-append}
+use lib.ListN.{length, length-append, length-map}
 use Rattle.rings.specs.Rings.{Out}
 use Rattle.definition.specs.Cells.{Tri, Live, Mesh, live-tri, tris-of}
 use Rattle.definition.specs.Components.{odd-one, removing-leaves-odd-component}
-use Rattle.account.specs.Lists.{In, in-left, in-either}
+use Rattle.laws.specs.Lists.{In, in-left, in-either}
 use Rattle.cells.specs.Rep.{TriIn, slots}
 use Rattle.regions.specs.Listing.{Listed, Aside}
 use Rattle.regions.proofs.Listings.{aside-refl, aside-trans}
@@ -22,7 +22,7 @@ use Rattle.components.proofs.Grows.{few}
 use Rattle.components.proofs.Floods.{flood-start, begun, begun-state, flood-end}
 use Rattle.components.proofs.Looks.{none-found}
 use Rattle.components.proofs.Classes.{odd-yes}
-use Rattle.components.proofs.Sweeps.{joined, Piece, Sweeping, new-piece, left-tris, left-distinct, piece-class, piece-count, map-length}
+use Rattle.components.proofs.Sweeps.{joined, Piece, Sweeping, new-piece, left-tris, left-distinct, piece-class, piece-count}
 use Rattle.components.proofs.Odds.{kept-listed, one-odd}
 use Rattle.components.proofs.Beside.{Cut, cut-even}
 
@@ -209,7 +209,7 @@ module _ (w₀ w : List ℕ) (s p k t : ℕ) (m : Mesh) (region : List Live) (g 
       unfolding removing-leaves-odd-component
       odd-piece q w1 n h a =
           let c = sweeps in
-          let z : r - k ≡ length (map body (f .new)) = omega (arith, pieced-length, map-length body (f .new)) in
+          let z : r - k ≡ length (map body (f .new)) = omega (arith, pieced-length, length-map (f .new) body) in
           record {
             same = sym (odd-yes (left-tris m region) (left-distinct w' s p r m region (f .new ∷ g .pieces) (c .state) (c .pieces)) (map body (f .new))
                 (piece-class w' s p r m region (f .new ∷ g .pieces) (c .state) (c .pieces) (f .new) (inl refl))

@@ -8,7 +8,7 @@ use native.Mathlib.Omega.{arith}
 use lib.ListN.{length}
 use Rattle.rings.specs.Rings.{nx}
 use Rattle.definition.specs.Cells.{Live, live-tri}
-use Rattle.account.specs.Lists.{In}
+use Rattle.laws.specs.Lists.{In}
 use Rattle.account.specs.Triangles.{Has as Corner}
 use Rattle.cells.specs.Layout.{rings-at}
 use Rattle.cells.specs.Rep.{Cells, cell-corners, corners}

@@ -1,28 +1,29 @@
 -- The sweep over the slots: the components taken so far, and what they say of the definition's.
 use mathlib.Core.Path.{_≡_, refl, ap, sym, _∙_, subst}
 use mathlib.Core.Logic.{_⊎_, inl, inr, _≢_}
-use mathlib.Core.Bool.{Bool, true, false, not}
+use mathlib.Core.Bool.{Bool, true, not}
 use mathlib.Core.List.{List, [], _∷_, _++_, append-assoc, map}
-use Prim.Native.Nat.{ℕ, suc, _+_, _-_, _≤_, _<_}
+use Prim.Native.Nat.{ℕ, suc, _+_, _≤_, _<_}
 use native.Mathlib.Omega.{arith}
 use native.Mathlib.Decide.{ℕ-discrete}
-use lib.ListN.{length, length-append}
+use lib.ListN.{length, length-append, length-map}
 use borrow.Author.Tests.{eq-eqb, not-true}
 use Rattle.rings.specs.Rings.{Distinct}
 use Rattle.definition.specs.Lists.{filter, flat-map, concat}
 use Rattle.definition.specs.Cells.{Tri, Cell, tri, quad, Live, Mesh, live-tri, is-tri, in-slot, tri-of, tris-of, among, without-all, new-live}
 use Rattle.definition.specs.Components.{meets}
 use Rattle.definition.specs.Account.{Pairwise}
-use Rattle.account.specs.Lists.{which, never, In, all-from, in-left, in-right, in-either, in-filter, filter-in, in-map, map-in, in-any, filter-yes, filter-no, filter-all, no-more}
+use Rattle.laws.specs.Bools.{which, never, same-bool}
+use Rattle.laws.specs.Lists.{In, all-from, in-left, in-right, in-either, filter-yes, filter-no, in-filter, filter-in, in-any, filter-all, map-in, in-map, no-more}
 use Rattle.account.specs.Rearranged.{number, number-append}
 use Rattle.account.specs.Triangles.{Shares, turned, shares-self}
 use Rattle.account.specs.Classes.{All-apart, All-distinct, meets-says, shares-meets}
 use Rattle.cells.specs.Rep.{slots}
-use Rattle.cells.proofs.Slots.{rep-held}
+use Rattle.cells.proofs.Slots.{rep-held, in-has}
 use Rattle.regions.specs.Listing.{Aside}
 use Rattle.regions.proofs.Listings.{aside-trans}
-use Rattle.components.specs.Flood.{body, Marked, Whole, Flooded, nothing, component}
-use Rattle.components.proofs.Members.{in-has, out-not, out-from, any-has, same-slot, parts-apart, tris-at, body-three}
+use Rattle.components.specs.Flood.{body, Marked, Whole, Flooded}
+use Rattle.components.proofs.Members.{out-not, out-from, any-has, same-slot, parts-apart, tris-at, body-three}
 use Rattle.components.proofs.Classes.{Class, Parted}
 
 -- ---- the components taken, the latest first
@@ -172,15 +173,6 @@ tris-body (x ∷ l) = go (x .cell) (tris-body l)
     go (tri t) h = ap (λ (k : List Tri). t ∷ k) h
     go (quad q) h = h
 
-bool-same : (a b : Bool) → (a ≡ true → b ≡ true) → (b ≡ true → a ≡ true) → a ≡ b
-bool-same true b f g = sym (f refl)
-bool-same false true f g = g refl
-bool-same false false f g = refl
-
-pub map-length : {A B : Type 0} (f : A → B) (l : List A) → length (map f l) ≡ length l
-map-length f [] = refl
-map-length f (x ∷ l) = ap suc (map-length f l)
-
 -- the live cells that are left
 unfoldable pub left-over : Mesh → List Live → List Live
 left-over m region = filter live-tri (without-all region (m .live))
@@ -303,7 +295,7 @@ module _ (w : List ℕ) (s p n : ℕ) (m : Mesh) (region : List Live) (ks : List
               let v = tri-over m region b y in
               let g : Shares (body (u .0)) (body (v .0)) = subst (λ (z : Tri). Shares z (body (v .0))) (u .2) (subst (λ (z : Tri). Shares a z) (v .2) q) in
               ap (λ (z : Tri). meets z (map body k)) (u .2)
-              ∙ bool-same (meets (body (u .0)) (map body k)) (meets (body (v .0)) (map body k)) (pass (u .0) (v .0) (u .1) (v .1) g) (pass (v .0) (u .0) (v .1) (u .1) (turned g))
+              ∙ same-bool (meets (body (u .0)) (map body k)) (meets (body (v .0)) (map body k)) (pass (u .0) (v .0) (u .1) (v .1) g) (pass (v .0) (u .0) (v .1) (u .1) (turned g))
               ∙ sym (ap (λ (z : Tri). meets z (map body k)) (v .2));
         }
 
@@ -314,7 +306,7 @@ module _ (w : List ℕ) (s p n : ℕ) (m : Mesh) (region : List Live) (ks : List
         ∙ number-map body (λ t. meets t (map body k)) (left-over m region)
         ∙ same-number (λ y. meets (body y) (map body k)) (λ y. true) (left-over m region) k (over-distinct m region (state .rep .distinct)) (distinct-piece ks k (distinct-right region (joined ks) (state .distinct)) i)
         (λ y j e. (members y j e, refl)) (λ y j e. (piece-over k y i j, members-meet y j))
-        ∙ ap length (filter-all (λ y. true) k (λ y j. refl)) ∙ sym (map-length body k)
+        ∙ ap length (filter-all (λ y. true) k (λ y j. refl)) ∙ sym (length-map k body)
 
 -- components with no edge in common
 pieces-apart : (m : Mesh) (region : List Live) (ks : List (List Live)) → Distinct (slots (region ++ joined ks)) → ((y : Live) → In y (joined ks) → In y (m .live) × (live-tri y ≡ true))

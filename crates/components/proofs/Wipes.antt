@@ -8,19 +8,19 @@ use native.Mathlib.Omega.{arith}
 use lib.ListN.{length, getD, set, length-set, length-append}
 use Rattle.rings.specs.Rings.{Out, Distinct}
 use Rattle.rings.proofs.Lists.{Same, same, differ, decide}
-use Rattle.rings.proofs.Rings.{on, off}
 use Rattle.definition.specs.Lists.{any}
 use Rattle.definition.specs.Cells.{Live, Mesh, live-tri}
-use Rattle.account.specs.Lists.{In, in-right}
+use Rattle.laws.specs.Lists.{In, in-right, Stored, stored-kept}
+use Rattle.laws.specs.Frames.{on, off, Under, Keeps, under-refl, under-trans, keeps-refl, keeps-trans, keeps-more}
+use Rattle.cells.proofs.Slots.{slots-length, in-has}
 use Rattle.cells.specs.Layout.{marks-at, list-at, refused-at}
 use Rattle.cells.specs.Rep.{slots, Rep}
-use Rattle.cells.specs.Frames.{Under, Keeps}
-use Rattle.cells.proofs.Frames.{under-refl, under-trans, keeps-refl, keeps-trans, keeps-more, rep-under}
-use Rattle.regions.specs.Listing.{Stored, Listed, CanList, CanMark, Aside}
-use Rattle.regions.proofs.Listings.{aside-refl, aside-trans, stored-kept, slots-length}
+use Rattle.cells.proofs.Frames.{rep-under}
+use Rattle.regions.specs.Listing.{Listed, CanList, CanMark, Aside}
+use Rattle.regions.proofs.Listings.{aside-refl, aside-trans}
 use Rattle.regions.proofs.Reaches.{appended}
 use Rattle.components.specs.Flood.{Marked, Seen, MarkedTo, Wiped}
-use Rattle.components.proofs.Members.{in-has, has-in, tris-at}
+use Rattle.components.proofs.Members.{has-in, tris-at}
 use Rattle.components.proofs.Grows.{can-list, seen-can, seen-room, grown}
 
 -- ---- cleared

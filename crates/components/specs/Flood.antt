@@ -8,12 +8,12 @@ use lib.ListN.{length, getD}
 use Rattle.rings.specs.Rings.{Distinct}
 use Rattle.definition.specs.Lists.{any}
 use Rattle.definition.specs.Cells.{Tri, Cell, tri, quad, Live, Mesh, new-tri, new-live, live-tri, in-slot}
-use Rattle.account.specs.Lists.{In}
+use Rattle.laws.specs.Lists.{In, Stored}
+use Rattle.laws.specs.Frames.{Under, Keeps}
 use Rattle.account.specs.Triangles.{Has as Corner, Shares}
 use Rattle.cells.specs.Layout.{marks-at, list-at}
 use Rattle.cells.specs.Rep.{Rep, slots}
-use Rattle.cells.specs.Frames.{Under, Keeps}
-use Rattle.regions.specs.Listing.{Stored, Tris, Aside}
+use Rattle.regions.specs.Listing.{Tris, Aside}
 
 -- ---- triangles
 

@@ -6,7 +6,7 @@ use Prim.Native.Nat.{ℕ, _≤_, _<_}
 use lib.ListN.{length}
 use Rattle.rings.specs.Rings.{Out}
 use Rattle.definition.specs.Cells.{Tri, Live, Mesh, live-tri}
-use Rattle.account.specs.Lists.{In}
+use Rattle.laws.specs.Lists.{In}
 use Rattle.account.specs.Triangles.{Shares}
 use Rattle.cells.specs.Rep.{slots}
 use Rattle.regions.specs.Listing.{Aside}

@@ -5,7 +5,7 @@ use mathlib.Core.Bool.{Bool, true, false, _||_, or-true, false≢true}
 use mathlib.Core.List.{List}
 use Prim.Native.Nat.{ℕ, _+_, _*_, _≤_, _<_}
 use native.Mathlib.Omega.{arith}
-use lib.Dec.{T, eqb, ltb}
+use lib.Dec.{eqb, ltb}
 use lib.ListN.{length}
 use lib.Ieee.{Float, lt, le}
 use borrow.Author.Tests.{eq-eqb, ne-eqb, ltb-true, ltb-false}
@@ -15,6 +15,7 @@ use Rattle.definition.specs.Floats.{_≺_, _≼_}
 use Rattle.definition.specs.Plane.{Node}
 use Rattle.definition.specs.Cells.{Live, Mesh, key, has-side, has-edge, node-at}
 use Rattle.definition.specs.Call.{point-at}
+use Rattle.laws.specs.Bools.{of-T, to-T}
 use Rattle.rounding.specs.Order.{le-or-lt, real-left, real-right}
 use Rattle.rounding.specs.Keys.{le-trans, lt-le}
 use Rattle.plane.specs.Points.{Within, node-of}
@@ -34,25 +35,18 @@ use Rattle.crossings.proofs.Crosses.{some-in, edge-some, own-hit, own-m
 
 -- ---- coordinates
 
-passed : (b : Bool) → T b → b ≡ true
-passed true t = refl
-passed false t = absurd t
-
-holds : {b : Bool} → b ≡ true → T b
-holds e = subst T (sym e) tt
-
 -- what compares to another compares to itself
 self-left : (x y : Float) → (x ≼ y) ≡ true → (x ≼ x) ≡ true
 unfolding _≼_ _≺_
 self-left x y h =
-    let r = real-left x y (holds h) in
-    elim (le-or-lt x x r r) [ inl l ↦ passed (le x x) l | inr l ↦ lt-le x x (passed (lt x x) l) ]
+    let r = real-left x y (to-T h) in
+    elim (le-or-lt x x r r) [ inl l ↦ of-T (le x x) l | inr l ↦ lt-le x x (of-T (lt x x) l) ]
 
 self-right : (x y : Float) → (x ≼ y) ≡ true → (y ≼ y) ≡ true
 unfolding _≼_ _≺_
 self-right x y h =
-    let r = real-right x y (holds h) in
-    elim (le-or-lt y y r r) [ inl l ↦ passed (le y y) l | inr l ↦ lt-le y y (passed (lt y y) l) ]
+    let r = real-right x y (to-T h) in
+    elim (le-or-lt y y r r) [ inl l ↦ of-T (le y y) l | inr l ↦ lt-le y y (of-T (lt y y) l) ]
 
 -- ---- one side
 

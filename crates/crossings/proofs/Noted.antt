@@ -1,25 +1,23 @@
 -- The memory with a box noted stands for the same mesh.
-use mathlib.Core.Path.{_≡_, refl, ap, sym, _∙_, subst}
+use mathlib.Core.Path.{_≡_, ap, sym, _∙_, subst}
 use mathlib.Core.Logic.{_≢_}
-use mathlib.Core.Bool.{Bool, true, false}
+use mathlib.Core.Bool.{true}
 use mathlib.Core.List.{List}
 use Prim.Native.Nat.{ℕ, zero, suc, _+_, _*_, _%_, _^_, _≤_, _<_}
 use native.Mathlib.Omega.{arith}
-use lib.Dec.{ltb}
 use lib.ListN.{length, getD, set, length-set}
 use lib.Ieee.{Float, le}
-use borrow.Author.Tests.{ltb-true, ltb-false}
 use Rattle.rings.proofs.Lists.{Same, same, differ, decide}
-use Rattle.rings.proofs.Rings.{on, off}
 use Rattle.rings.proofs.Families.{family-kept}
 use Rattle.definition.specs.Floats.{_≼_}
 use Rattle.definition.specs.Cells.{Mesh, node-at}
 use Rattle.cells.specs.Layout.{rings-at, codes, notes-at, fronts-at, boxes-at, even-at, mesh-end}
 use Rattle.cells.specs.Notes.{note, ends, noted, bound, Fronts, Near, Box, NoteAt}
 use Rattle.cells.specs.Rep.{Rep, corners}
-use Rattle.cells.specs.Frames.{Under, Keeps}
-use Rattle.cells.proofs.Frames.{under-less, cells-under}
+use Rattle.cells.proofs.Frames.{cells-under}
 use Rattle.definition.specs.Call.{point-at}
+use Rattle.laws.specs.Frames.{on, off, Under, Keeps, under-less}
+use Rattle.cells.proofs.Notes.{note-same}
 use Rattle.plane.specs.Points.{Within, node, ground, node-of, spot-x, spot-y}
 use Rattle.plane.specs.declared.points.Spot.{Spot}
 use Rattle.rounding.specs.Keys.{le-trans}
@@ -36,33 +34,9 @@ record Apart (w w' : List ℕ) (s p u : ℕ) : Type 0 where
   pub second : u < s → getD w' (fronts-at s p + 2 * u + 1) 0 ≡ getD w (fronts-at s p + 2 * u + 1) 0
   pub sides : u < s → (j : ℕ) → j < 4 → bound w' s p u j ≡ bound w s p u j
 
-ends-few : (k a b a' b' : ℕ) → k ≤ 1 → ends (k % 4) a' b' ≡ ends (k % 4) a b
-ends-few zero a b a' b' h = refl
-ends-few (suc zero) a b a' b' h = refl
-ends-few (suc (suc k)) a b a' b' h = absurd (omega arith)
-
 module _ (w w' : List ℕ) (s p u : ℕ) (k : Apart w w' s p u) where
-  noted-same : (1 < note w s p u → u < s) → noted w' s p u ≡ noted w s p u
-  noted-same h = go (ltb 1 (note w s p u)) refl
-    where
-      go : (c : Bool) → ltb 1 (note w s p u) ≡ c → noted w' s p u ≡ noted w s p u
-      go true e = let us : u < s = h (ltb-true 1 (note w s p u) e) in rw (k .same, k .first us, k .second us)
-      go false e =
-          rw (k .same)
-          (ends-few (note w s p u) (getD w (fronts-at s p + 2 * u) 0) (getD w (fronts-at s p + 2 * u + 1) 0) (getD w' (fronts-at s p + 2 * u) 0) (getD w' (fronts-at s p + 2 * u + 1) 0)
-          (ltb-false 1 (note w s p u) e))
-
   note-apart : (m : Mesh) → NoteAt w s p m u → NoteAt w' s p m u
-  note-apart m n =
-      let e = k .same in
-      record {
-        inside = λ h. n .inside (rw (← e) h);
-        fronts = λ h. subst (λ (vs : List ℕ). Fronts m u vs) (sym (noted-same (n .inside))) (n .fronts (rw (← e) h));
-        box = λ h.
-            let h' : 4 ≤ note w s p u = rw (← e) h in
-            let us : u < s = n .inside (omega arith) in
-            rw (k .sides us 0 (omega arith), k .sides us 1 (omega arith), k .sides us 2 (omega arith), k .sides us 3 (omega arith)) (n .box h');
-      }
+  note-apart m n = note-same w w' s p u (k .same) (k .first) (k .second) (k .sides) m n
 
 -- ---- the five words
 

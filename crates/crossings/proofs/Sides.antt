@@ -7,15 +7,17 @@ use Prim.Native.Nat.{ℕ, _<_}
 use native.Mathlib.Omega.{arith}
 use lib.Dec.{eqb}
 use lib.ListN.{length}
-use borrow.Author.Tests.{eq-eqb, eqb-true}
+use borrow.Author.Tests.{eq-eqb}
 use Rattle.definition.specs.Plane.{Edge}
 use Rattle.definition.specs.Lists.{any, flat-map}
 use Rattle.definition.specs.Cells.{Tri, Quad, Cell, tri, quad, Live, Mesh, nodes, quad-nodes, key, edges, tri-edges, quad-edges, same-edge, tri-has, has-side, has-edge-in, has-edge, owns, all-edges}
+use Rattle.laws.specs.Bools.{and-left, and-right}
+use Rattle.laws.specs.Cells.{same-self, same-is}
 use Rattle.cells.specs.Rep.{Shape, Has, here, there, Rep}
 use Rattle.cells.proofs.Edges.{key-up, key-down, tri-side}
 use Rattle.cells.proofs.Slots.{rep-held}
 use Rattle.crossings.proofs.Sorts.{Or, left, right, In, in-left, in-right, in-append}
-use Rattle.crossings.proofs.Tris.{TriOk, tri-ok, Which, is0, is1, is2, which, and-left, and-right}
+use Rattle.crossings.proofs.Tris.{TriOk, tri-ok, Which, is0, is1, is2, which}
 
 -- ---- lists
 
@@ -52,20 +54,9 @@ any-has f (x ∷ l) h = go (f x) refl (any-has f l)
     go true e r = record { x = x; has = here; is = e }
     go false e r = on (r (sym (rw e) ∙ h))
 
-same-yes : (e f : Edge) → same-edge e f ≡ true → e ≡ f
-unfolding same-edge
-same-yes e f h =
-    let p = eqb-true (e .0) (f .0) (and-left (eqb (e .0) (f .0)) (eqb (e .1) (f .1)) h) in
-    let q = eqb-true (e .1) (f .1) (and-right (eqb (e .0) (f .0)) (eqb (e .1) (f .1)) h) in
-    λ k. (p k, q k)
-
-same-refl : (e : Edge) → same-edge e e ≡ true
-unfolding same-edge
-same-refl e = rw (eq-eqb (e .0) (e .0) refl, eq-eqb (e .1) (e .1) refl)
-
 in-any : (e : Edge) (l : List Edge) → In e l → any (same-edge e) l ≡ true
 in-any e [] h = absurd h
-in-any e (f ∷ l) (left q) = any-hit (same-edge e) f l (subst (λ (g : Edge). same-edge e g ≡ true) (sym q) (same-refl e))
+in-any e (f ∷ l) (left q) = any-hit (same-edge e) f l (subst (λ (g : Edge). same-edge e g ≡ true) (sym q) (same-self e))
 in-any e (f ∷ l) (right h) = any-more (same-edge e) f l (in-any e l h)
 
 any-in : (e : Edge) (l : List Edge) → any (same-edge e) l ≡ true → In e l
@@ -74,7 +65,7 @@ any-in e [] h = absurd (false≢true h)
 any-in e (f ∷ l) h = go (same-edge e f) refl (any-in e l)
   where
     go : (b : Bool) → same-edge e f ≡ b → (any (same-edge e) l ≡ true → In e l) → In e (f ∷ l)
-    go true q r = left (sym (same-yes e f q))
+    go true q r = left (sym (same-is e f q))
     go false q r = right (r (sym (rw q) ∙ h))
 
 -- ---- an edge of a cell

@@ -6,6 +6,8 @@ use mathlib.Core.Option.{Option, none, some}
 use Prim.Native.Nat.{ℕ}
 use native.Mathlib.Omega.{arith}
 use Rattle.definition.specs.Lists.{filter, first, insert, sort}
+use Rattle.laws.specs.Lists.{filter-yes, filter-no}
+use Rattle.laws.specs.Sorts.{insert-yes, insert-no}
 
 -- one or the other
 pub data Or (A B : Type 0) : Type 0 where
@@ -24,14 +26,6 @@ module _ {A : Type 0} where
   -- ---- sort
 
   module _ (before : A → A → Bool) where
-    insert-yes : (x y : A) (l : List A) → before y x ≡ true → insert before x (y ∷ l) ≡ y ∷ insert before x l
-    unfolding insert
-    insert-yes x y l h = rw h
-
-    insert-no : (x y : A) (l : List A) → before y x ≡ false → insert before x (y ∷ l) ≡ x ∷ y ∷ l
-    unfolding insert
-    insert-no x y l h = rw h
-
     in-insert : (x z : A) (l : List A) → In z (insert before x l) → In z (x ∷ l)
     unfolding insert
     in-insert x z [] h = h
@@ -46,8 +40,8 @@ module _ {A : Type 0} where
         on (right k) r = swap (r k)
 
         go : (b : Bool) → before y x ≡ b → (In z (insert before x l) → In z (x ∷ l)) → In z (x ∷ y ∷ l)
-        go true e r = on (subst (λ (k : List A). In z k) (insert-yes x y l e) h) r
-        go false e r = subst (λ (k : List A). In z k) (insert-no x y l e) h
+        go true e r = on (subst (λ (k : List A). In z k) (insert-yes before x y l e) h) r
+        go false e r = subst (λ (k : List A). In z k) (insert-no before x y l e) h
 
     -- what a sorted list has, the list has
     pub in-sort : (z : A) (l : List A) → In z (sort before l) → In z l
@@ -69,12 +63,12 @@ module _ {A : Type 0} where
         top : z ≡ x → (k : List A) → sort before l ≡ k → first (insert before z k) ≡ some x
         top e [] q = ap some e
         top e (y ∷ k) q =
-            ap first (insert-no z y k (subst (λ (v : A). before y v ≡ false) (sym e) (least y (right (in-sort y l (subst (λ (j : List A). In y j) (sym q) (left refl)))))))
+            ap first (insert-no before z y k (subst (λ (v : A). before y v ≡ false) (sym e) (least y (right (in-sort y l (subst (λ (j : List A). In y j) (sym q) (left refl)))))))
             ∙ ap some e
 
         at : (y : A) (k : List A) → y ≡ x → (b : Bool) → before y z ≡ b → first (insert before z (y ∷ k)) ≡ some x
-        at y k e true q = ap first (insert-yes z y k q) ∙ ap some e
-        at y k e false q = ap first (insert-no z y k q) ∙ ap some (total z x (least z (left refl)) (subst (λ (v : A). before v z ≡ false) e q))
+        at y k e true q = ap first (insert-yes before z y k q) ∙ ap some e
+        at y k e false q = ap first (insert-no before z y k q) ∙ ap some (total z x (least z (left refl)) (subst (λ (v : A). before v z ≡ false) e q))
 
         deep : (k : List A) → first k ≡ some x → first (insert before z k) ≡ some x
         deep [] e = let y : _≡_ {A = ℕ} 0 1 = cc in absurd (omega arith)
@@ -93,14 +87,6 @@ module _ {A : Type 0} where
   -- ---- filter
 
   module _ (f : A → Bool) where
-    filter-true : (x : A) (l : List A) → f x ≡ true → filter f (x ∷ l) ≡ x ∷ filter f l
-    unfolding filter
-    filter-true x l h = rw h
-
-    filter-false : (x : A) (l : List A) → f x ≡ false → filter f (x ∷ l) ≡ filter f l
-    unfolding filter
-    filter-false x l h = rw h
-
     pub in-filter : (x : A) (l : List A) → In x (filter f l) → In x l × (f x ≡ true)
     unfolding filter
     in-filter x [] h = absurd h
@@ -111,18 +97,18 @@ module _ {A : Type 0} where
         on e (right k) r = let z = r k in (right (z .0), z .1)
 
         go : (b : Bool) → f y ≡ b → (In x (filter f l) → In x l × (f x ≡ true)) → In x (y ∷ l) × (f x ≡ true)
-        go true e r = on e (subst (λ (k : List A). In x k) (filter-true y l e) h) r
-        go false e r = let z = r (subst (λ (k : List A). In x k) (filter-false y l e) h) in (right (z .0), z .1)
+        go true e r = on e (subst (λ (k : List A). In x k) (filter-yes f y l e) h) r
+        go false e r = let z = r (subst (λ (k : List A). In x k) (filter-no f y l e) h) in (right (z .0), z .1)
 
     pub filter-in : (x : A) (l : List A) → In x l → f x ≡ true → In x (filter f l)
     filter-in x [] h e = absurd h
     filter-in x (y ∷ l) h e = go (f y) refl h (filter-in x l)
       where
         go : (b : Bool) → f y ≡ b → Or (y ≡ x) (In x l) → (In x l → f x ≡ true → In x (filter f l)) → In x (filter f (y ∷ l))
-        go true q (left p) r = subst (λ (k : List A). In x k) (sym (filter-true y l q)) (left p)
-        go true q (right k) r = subst (λ (j : List A). In x j) (sym (filter-true y l q)) (right (r k e))
+        go true q (left p) r = subst (λ (k : List A). In x k) (sym (filter-yes f y l q)) (left p)
+        go true q (right k) r = subst (λ (j : List A). In x j) (sym (filter-yes f y l q)) (right (r k e))
         go false q (left p) r = let z : _≡_ {A = Bool} false true = sym q ∙ ap f p ∙ e in absurd (false≢true z)
-        go false q (right k) r = subst (λ (j : List A). In x j) (sym (filter-false y l q)) (r k e)
+        go false q (right k) r = subst (λ (j : List A). In x j) (sym (filter-no f y l q)) (r k e)
 
   -- ---- append
 

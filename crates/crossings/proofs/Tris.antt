@@ -1,7 +1,7 @@
 -- The nodes of a triangle, and a node that is no end of an edge.
 use mathlib.Core.Path.{_≡_, refl, sym}
 use mathlib.Core.Logic.{_≢_}
-use mathlib.Core.Bool.{Bool, true, false, not, _&&_, _||_, and-false, false≢true}
+use mathlib.Core.Bool.{Bool, true, false, not, _||_, and-false, false≢true}
 use Prim.Native.Nat.{ℕ, _<_}
 use lib.Dec.{eqb}
 use borrow.Author.Tests.{eq-eqb, ne-eqb, eqb-true}
@@ -47,14 +47,6 @@ which t n h = go (eqb (t .n0) n) refl (eqb (t .n1) n) refl (eqb (t .n2) n) refl 
     go false e true f c g k = is1 (eqb-true (t .n1) n f)
     go false e false f true g k = is2 (eqb-true (t .n2) n g)
     go false e false f false g k = absurd (false≢true k)
-
-pub and-left : (x y : Bool) → (x && y) ≡ true → x ≡ true
-and-left true y h = refl
-and-left false y h = h
-
-pub and-right : (x y : Bool) → (x && y) ≡ true → y ≡ true
-and-right true y h = h
-and-right false y h = absurd (false≢true h)
 
 -- ---- off an edge
 

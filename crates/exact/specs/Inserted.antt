@@ -4,7 +4,7 @@ use mathlib.Core.Logic.{inl, inr}
 use mathlib.Core.Bool.{Bool, true, false, _&&_, _||_, cond}
 use mathlib.Core.List.{List, _∷_}
 use Prim.Native.Nat.{ℕ, _+_, _*_, _^_, _≤_, _<_}
-use native.Mathlib.Nat.{le-trans, mul-le-mul-right, le-of-mul-le-mul-right}
+use native.Mathlib.Nat.{le-trans, le-of-mul-le-mul-right}
 use native.Mathlib.Omega.{arith}
 use lib.Dec.{T, lit≤, eqb, eqb→eq}
 use lib.Ieee.{Float, nan, inf, fin, binary64, ofBits, up, down, mul, neg, lt, le, eq}
@@ -18,16 +18,17 @@ use Rattle.definition.specs.Insertion.{along}
 use Rattle.definition.specs.Attempt.{target-of, inward-normal}
 use Rattle.definition.specs.Account.{All, _∈_}
 use Rattle.definition.specs.Call.{Asked, bad-size, least-size, most-size}
+use Rattle.laws.specs.Bools.{T-or}
 use Rattle.exact.specs.Near.{Whole, Near, abs, abs-turned, _⊖_, _⊙_}
 use Rattle.exact.specs.Values.{whole, sign, signed, mag, Ok, ok-finite}
 use Rattle.exact.specs.Sums.{Number, mag-cut, neg-whole}
-use Rattle.exact.specs.Order.{_⊏_, or-split, not-le}
+use Rattle.exact.specs.Order.{_⊏_, not-le}
 use Rattle.exact.specs.Room.{room64}
 use Rattle.exact.specs.Dot.{dot, Comp, comp}
 use Rattle.exact.specs.Corner.{norm, Length}
 use Rattle.exact.specs.Units.{wx, wy}
 use Rattle.exact.specs.Lengths.{length-root}
-use Rattle.exact.specs.Points.{At, not-false, le-numbers, tiny-ok, tiny-is, tiny-units}
+use Rattle.exact.specs.Points.{At, not-false, le-numbers, tiny-ok, tiny-is, tiny-units, cut-small}
 use Rattle.exact.specs.Strict.{Doubles}
 use Rattle.exact.specs.Along.{long, span-most, unit, share, moved}
 
@@ -39,9 +40,6 @@ Size k x = Number x × (mag binary64 x ≤ k * 2 ^ 1074)
 
 none : (a d X L : ℕ) → 0 < d → a * 1 ≡ 0 → X * d ≤ a * L → X ≤ 8 * L
 none a d X L P h k = le-of-mul-le-mul-right (omega (arith, ap (λ (z : ℕ). z * L) h)) P
-
-some : (a d X L : ℕ) → 0 < d → a * 1 ≤ 8 * d → X * d ≤ a * L → X ≤ 8 * L
-some a d X L P h k = le-of-mul-le-mul-right (omega (arith, mul-le-mul-right L h)) P
 
 nothing : (a d : ℕ) → a ≡ 0 * 1 * d → a ≡ 0
 nothing a d h = omega arith
@@ -58,13 +56,13 @@ unfolding _≼_ eq le lt least-size most-size 0·0 1/64 8·0 f64 ofBits
 size-of nan t = absurd t
 size-of (inf false) t = absurd t
 size-of (inf true) t = absurd t
-size-of (fin s m e) t = elim (or-split (eq (fin s m e) 0·0) (least-size ≼ fin s m e && fin s m e ≼ most-size) t) [
+size-of (fin s m e) t = elim (T-or (eq (fin s m e) 0·0) (least-size ≼ fin s m e && fin s m e ≼ most-size) t) [
   | inl z ↦ (tt, none (m * up e) (down e) (mag binary64 (fin s m e)) (2 ^ 1074) (down-pos e) (nothing (m * up e * 1) (down e) (eqb→eq (m * up e * 1) (0 * 1 * down e) (and-l (eqb (m * up e * 1) (0 * 1 * down e)) _ z))) (mag-cut binary64 (fin s m e) .0))
   | inr z ↦ go s (and-l (least-size ≼ fin s m e) (fin s m e ≼ most-size) z) (and-r (least-size ≼ fin s m e) (fin s m e ≼ most-size) z)
 ]
   where
     go : (s : Bool) → T (least-size ≼ fin s m e) → T (fin s m e ≼ most-size) → Size 8 (fin s m e)
-    go false l h = (tt, some (m * up e) (down e) (mag binary64 (fin false m e)) (2 ^ 1074) (down-pos e) (le-numbers (m * up e * 1) (8 * down e) h) (mag-cut binary64 (fin false m e) .0))
+    go false l h = (tt, cut-small (m * up e) (down e) (mag binary64 (fin false m e)) (2 ^ 1074) (down-pos e) (le-numbers (m * up e * 1) (8 * down e) h) (mag-cut binary64 (fin false m e) .0))
     go true l h = absurd (not-minus (1 * 1 * down e) (eqb (1 * 1 * down e) (m * up e * 2 ^ 6)) (one-times (down e) (down-pos e)) l)
 
 -- the shares are from 0.3 to 1

@@ -10,10 +10,11 @@ use lib.Ieee.{Float, nan, inf, fin, binary64, ofBits, lt, le, eq, fits}
 use Rattle.definition.specs.Floats.{_≺_, _≼_, f64, 0·0, 0·5, 1·0, 0·90630778703665}
 use Rattle.definition.specs.Metrics.{Corner}
 use Rattle.definition.specs.Exact.{signed, units, Wide-enough}
+use Rattle.laws.specs.Bools.{of-T, to-T}
 use Rattle.exact.specs.Near.{Whole, Near}
 use Rattle.exact.specs.Parts.{billion}
 use Rattle.exact.specs.Values.{whole, Ok, one-sided}
-use Rattle.exact.specs.Order.{_⊏_, _⊑_, lt-whole, le-whole, whole-lt, whole-le, is, yes-is}
+use Rattle.exact.specs.Order.{_⊏_, _⊑_, lt-whole, le-whole, whole-lt, whole-le}
 use Rattle.exact.specs.Units.{ofℤ, units-is}
 use Rattle.exact.specs.Cosine.{Cosine-at-most, weaken}
 use Rattle.exact.specs.Points.{zero-ok, zero-is}
@@ -46,9 +47,9 @@ under z L e h = omega arith
 pub limit-below : (t : Float) → Limit t → Below-one t
 unfolding _≼_ _≺_
 limit-below t l =
-    let o = limit-ok t (is (l .double)) (is (l .from-zero)) (is (l .below-one)) in
-    let n = not-negative (whole binary64 t) (one-sided binary64 t) (rw zero-is at (le-whole binary64 0·0 t zero-ok o (is (l .from-zero)))) in
-    (o, n, under (whole binary64 t) (2 ^ 1074) n (rw one-is at (lt-whole binary64 t 1·0 o one-ok (is (l .below-one)))))
+    let o = limit-ok t (to-T (l .double)) (to-T (l .from-zero)) (to-T (l .below-one)) in
+    let n = not-negative (whole binary64 t) (one-sided binary64 t) (rw zero-is at (le-whole binary64 0·0 t zero-ok o (to-T (l .from-zero)))) in
+    (o, n, under (whole binary64 t) (2 ^ 1074) n (rw one-is at (lt-whole binary64 t 1·0 o one-ok (to-T (l .below-one)))))
 
 natAbs-is : (z : ℤ) (w : Whole) → Near (ofℤ z) w 0 → w .1 ≡ 0 → natAbs z ≡ w .0
 natAbs-is (pos n) w h e = omega arith
@@ -91,15 +92,15 @@ range-ok (fin s m e) f l h = f
 pub limit-range : (t : Float) → fits binary64 t ≡ true → (0·5 ≼ t) ≡ true → (t ≼ 0·99) ≡ true → Limit t
 unfolding _≼_ _≺_
 limit-range t f l h =
-    let o = range-ok t (is f) (is l) (is h) in
+    let o = range-ok t (to-T f) (to-T l) (to-T h) in
     let z = whole binary64 t in
     let n = most-is in
-    let lo : (2 ^ 1073, 0) ⊑ z = rw half-is at (le-whole binary64 0·5 t half-ok o (is l)) in
-    let hi : z ⊑ (n .0, 0) = rw (n .1) at (le-whole binary64 t 0·99 o most-ok (is h)) in
+    let lo : (2 ^ 1073, 0) ⊑ z = rw half-is at (le-whole binary64 0·5 t half-ok o (to-T l)) in
+    let hi : z ⊑ (n .0, 0) = rw (n .1) at (le-whole binary64 t 0·99 o most-ok (to-T h)) in
     record {
       double = f;
-      from-zero = yes-is (le 0·0 t) (whole-le binary64 0·0 t zero-ok o (rw zero-is (from z (2 ^ 1073) lo)));
-      below-one = yes-is (lt t 1·0) (whole-lt binary64 t 1·0 o one-ok (rw one-is (up z (n .0) (2 ^ 1074) hi (n .2))));
+      from-zero = of-T (le 0·0 t) (whole-le binary64 0·0 t zero-ok o (rw zero-is (from z (2 ^ 1073) lo)));
+      below-one = of-T (lt t 1·0) (whole-lt binary64 t 1·0 o one-ok (rw one-is (up z (n .0) (2 ^ 1074) hi (n .2))));
     }
   where
     from : (z : Whole) (a : ℕ) → (a, 0) ⊑ z → (0, 0) ⊑ z

@@ -6,13 +6,15 @@ use Prim.Native.Nat.{ℕ, _+_, _*_, _^_, _<_, _≤_}
 use native.Mathlib.Omega.{arith}
 use lib.Dec.{T}
 use lib.Ieee.{Float, inf, fin, binary64, ofBits, lt, neg, fits}
-use Rattle.definition.specs.Floats.{_⊘_, _≺_, _≼_, f64, finite, greater, 0·0, 1·0, 1e-12}
+use borrow.Author.Tests.{not-true}
+use Rattle.definition.specs.Floats.{_⊘_, _≺_, _≼_, f64, finite, greater, 0·0, 1·0}
 use Rattle.definition.specs.Lists.{any}
 use Rattle.definition.specs.Numbers.{Quality, tiny-cross}
 use Rattle.definition.specs.Plane.{Node, twice-area}
 use Rattle.definition.specs.Metrics.{Metrics, absent, measured, Corner, corner-of, corners, not-convex, angle-of, clamp, cosine, largest-cosine, min-scaled-jacobian, quad-metrics, passes}
 use Rattle.definition.specs.Exact.{Turns-left}
 use Rattle.definition.specs.Account.{All}
+use Rattle.laws.specs.Bools.{both, or-none}
 use Rattle.exact.specs.Near.{Whole}
 use Rattle.exact.specs.Parts.{billion}
 use Rattle.exact.specs.Values.{whole, Ok}
@@ -112,10 +114,6 @@ largest-of a b c d oa ob oc od =
 
 -- ---- the tests
 
-or-none : (a b : Bool) → (a || b) ≡ false → (a ≡ false) × (b ≡ false)
-or-none false b e = (refl, e)
-or-none true b e = absurd (is-not e tt)
-
 pub any-none : {A : Type 0} (p : A → Bool) (a b c d : A) → any p (a ∷ b ∷ c ∷ d ∷ []) ≡ false → (p a ≡ false) × (p b ≡ false) × (p c ≡ false) × (p d ≡ false)
 unfolding any
 any-none p a b c d e =
@@ -123,14 +121,6 @@ any-none p a b c d e =
     let j = or-none (p b) (p c || (p d || false)) (i .1) in
     let k = or-none (p c) (p d || false) (j .1) in
     (i .0, j .0, k .0, or-none (p d) false (k .1) .0)
-
-not-true : (b : Bool) → not b ≡ true → b ≡ false
-not-true false e = refl
-not-true true e = sym e
-
-and-true : (a b : Bool) → (a && b) ≡ true → (a ≡ true) × (b ≡ true)
-and-true true b e = (refl, e)
-and-true false b e = absurd (is-not (sym e) tt)
 
 -- what passing says of the quad's metrics
 record Passed (y : Quality) (a b c d : Node) : Type 0 where
@@ -147,8 +137,8 @@ unfolding passes
 both-pass y sj k e =
     let p = not (sj ≺ y .least-jacobian) in
     let q = not (y .largest-cosine ≺ k) in
-    let i = and-true (finite sj && finite k && p) q e in
-    (not-true (sj ≺ y .least-jacobian) (and-true (finite sj && finite k) p (i .0) .1), not-true (y .largest-cosine ≺ k) (i .1))
+    let i = both (finite sj && finite k && p) q e in
+    (not-true (sj ≺ y .least-jacobian) (both (finite sj && finite k) p (i .0) .1), not-true (y .largest-cosine ≺ k) (i .1))
 
 passed : (y : Quality) (a b c d : Node) → passes y (quad-metrics a b c d) ≡ true → Passed y a b c d
 unfolding quad-metrics

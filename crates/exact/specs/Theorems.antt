@@ -7,7 +7,7 @@ use Prim.Native.Nat.{ℕ, _^_, _≤_}
 use lib.IntN.{pos, _*ℤ_}
 use lib.ListN.{length}
 use lib.Ieee.{Float, fin, binary64}
-use Rattle.definition.specs.Floats.{_⊗_, _≼_, finite, 1e-12}
+use Rattle.definition.specs.Floats.{_⊗_, _≼_, finite}
 use Rattle.definition.specs.Numbers.{Quality, Settings, base, insert-shares, tiny-length}
 use Rattle.definition.specs.Plane.{Node, Edge, cross, side, from-to, norm, dist, edge-length, point-strictly-inside, segments-cross}
 use Rattle.definition.specs.Metrics.{corners, quad-metrics, passes, score}

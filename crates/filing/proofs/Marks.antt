@@ -12,7 +12,7 @@ use lib.Ieee.{Float, nan}
 use lib.ListN.{length, getD}
 use Rattle.definition.specs.Floats.{0·0}
 use Rattle.definition.specs.Call.{point-at}
-use Rattle.account.specs.Lists.{which}
+use Rattle.laws.specs.Bools.{which}
 use Rattle.filing.specs.declared.Order.{Order}
 use Rattle.filing.specs.declared.Order.the-variants.{Before, Same, After}
 use Rattle.sorting.specs.Rows.{row, row-next, row-none}

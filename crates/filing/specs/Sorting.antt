@@ -6,7 +6,8 @@ use mathlib.Core.List.{List, [], _∷_, map}
 use Prim.{tt}
 use Rattle.definition.specs.Lists.{insert, sort}
 use Rattle.definition.specs.Account.{All}
-use Rattle.account.specs.Lists.{which, never, all-from, all-at, sort-in}
+use Rattle.laws.specs.Bools.{which, never}
+use Rattle.laws.specs.Lists.{all-from, all-at, sort-in}
 use Rattle.sorting.specs.Ascending.{Strict}
 use Rattle.filing.specs.declared.Order.{Order}
 use Rattle.filing.specs.declared.Order.the-variants.{Before, Same, After}

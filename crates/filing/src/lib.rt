@@ -1,11 +1,11 @@
 // The filing order of two meshes, in lent memory.
+mod conditions;
 mod meshes;
 mod orders;
 mod places;
-mod conditions;
 
-use crate::meshes::order_meshes;
 use crate::conditions::refusal;
+use crate::meshes::order_meshes;
 use cells::clear::clear_words;
 ghost use mathlib.Core.Path.{_≡_};
 ghost use Rattle.filing.specs.Filing.{call};

@@ -16,7 +16,9 @@ use Rattle.definition.specs.Cells.{Tri, Quad, Cell, tri, quad, Live, Mesh, key,
 use Rattle.definition.specs.Components.{component-sizes, odd-one}
 use Rattle.definition.specs.Flips.{flip, flipped}
 use Rattle.definition.specs.Account.{Even}
-use Rattle.account.specs.Lists.{which, In, in-filter, in-any, any-in, all-at}
+use Rattle.laws.specs.Bools.{which}
+use Rattle.laws.specs.Lists.{In, all-at, in-filter, in-any, any-in}
+use Rattle.laws.specs.Frames.{keeps-trans, keeps-set}
 use Rattle.account.specs.Triangles as triangles
 use Rattle.account.specs.Even.{All-even}
 use Rattle.account.specs.Classes.{All-distinct}
@@ -25,10 +27,10 @@ use Rattle.account.specs.Valid.{Slots, Good-tri, Good-quad, Valid, in-tris}
 use Rattle.account.specs.Flips.{flip-made}
 use Rattle.account.specs.FlipKeeps.{flip-kept}
 use Rattle.cells.specs.Layout.{even-at, mesh-end}
-use Rattle.cells.specs.Rep.{Shape, Held, Has, here, there, slots, NoneOdd, Rep}
+use Rattle.cells.specs.Rep.{Shape, Held, Has, slots, NoneOdd, Rep}
 use Rattle.cells.proofs.Edges.{key-up}
-use Rattle.cells.proofs.Slots.{rep-held}
-use Rattle.cells.proofs.Frames.{keeps-trans, keeps-set, rep-even, even-noted}
+use Rattle.cells.proofs.Slots.{rep-held, in-has}
+use Rattle.cells.proofs.Frames.{rep-even, even-noted}
 use Rattle.meshes.specs.Changes.{Turns}
 use Rattle.crossings.proofs.Sorts as sorts
 use Rattle.crossings.proofs.Sorts.{left, right}
@@ -46,10 +48,6 @@ slots-of (x ∷ l) h = (λ y i. out l (h .0) y i, slots-of l (h .1))
     out : (k : List Live) → rings.Out (x .slot) (slots k) → (y : Live) → In y k → x .slot ≢ y .slot
     out (z ∷ k) o y (inl e) q = o .0 (sym (ap (λ (t : Live). t .slot) e) ∙ sym q)
     out (z ∷ k) o y (inr i) q = out k (o .1) y i q
-
-has-in : (x : Live) (l : List Live) → In x l → Has x l
-has-in x (y ∷ l) (inl e) = subst (λ (z : Live). Has x (z ∷ l)) e here
-has-in x (y ∷ l) (inr i) = there (has-in x l i)
 
 tri-good : (n : ℕ) (t : Tri) → TriOk n (t .n0) (t .n1) (t .n2) → Good-tri n t
 tri-good n t o = record { distinct = record { d01 = o .ab; d12 = o .bc; d20 = o .ca }; below = below }
@@ -74,7 +72,7 @@ quad-good n q h =
 valid : (w : List ℕ) (s p : ℕ) (m : Mesh) → Rep w s p m → Valid m
 valid w s p m r =
     let n = length (m .points) in
-    let held : (x : Live) → In x (m .live) → Held w s (m .used) n x = λ x i. rep-held w s p m r (has-in x (m .live) i) in
+    let held : (x : Live) → In x (m .live) → Held w s (m .used) n x = λ x i. rep-held w s p m r (in-has x (m .live) i) in
     let shape : (x : Live) (c : Cell) → In x (m .live) → x .cell ≡ c → Shape n c = λ x c i e. subst (λ (d : Cell). Shape n d) e (held x i .shape) in
     record {
       slots = slots-of (m .live) (r .distinct);

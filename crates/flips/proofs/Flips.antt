@@ -4,7 +4,7 @@ use mathlib.Core.Logic.{_≢_}
 use mathlib.Core.Bool.{Bool, true, false, not, _&&_, false≢true}
 use mathlib.Core.List.{List, [], _∷_}
 use mathlib.Core.Option.{none, some}
-use Prim.Native.Nat.{ℕ, _-_, _*_, _/_, _≤_, _<_}
+use Prim.Native.Nat.{ℕ, _*_, _/_, _≤_, _<_}
 use native.Mathlib.Omega.{arith}
 use lib.Dec.{eqb}
 use lib.ListN.{length, getD}
@@ -15,6 +15,7 @@ use Rattle.definition.specs.Plane.{Edge, side}
 use Rattle.definition.specs.Cells.{Tri, Cell, tri, quad, Live, Mesh, nodes, tri-nodes, quad-nodes, new-tri, new-live, key, tri-has, has-side, owns, owners, set-cell, with-live}
 use Rattle.definition.specs.Call.{point-at}
 use Rattle.definition.specs.Flips.{off-edge, third, is-step, runs, first-turned, second-turned, set-tris, flipped, convex-pair, flip-tris, flip-cells, flip-owners, flip, apart}
+use Rattle.laws.specs.Bools.{and-left, and-right}
 use Rattle.plane.specs.Points.{Within, node-of}
 use Rattle.cells.specs.Rep.{Shape, CellAt, Has, here, there, Rep, Pts}
 use Rattle.cells.specs.Walk.{At, Next}
@@ -23,7 +24,7 @@ use Rattle.cells.proofs.Edges.{key-up, tri-side}
 use Rattle.cells.proofs.Owners.{Here, at-here, at-end}
 use Rattle.cells.proofs.Slots.{has-filter, rep-held, ReadTri, read-tri}
 use Rattle.crossings.specs.Nodes.{Four}
-use Rattle.crossings.proofs.Tris.{TriOk, tri-ok, Which, is0, is1, is2, which, and-left, and-right, off-first, off-second, off-both}
+use Rattle.crossings.proofs.Tris.{TriOk, tri-ok, Which, is0, is1, is2, which, off-first, off-second, off-both}
 use Rattle.flips.specs.Nodes.{tri-read}
 use Rattle.flips.specs.Flip.{Kinds, TwinsAt, CanTurn, FlipTo}
 use Rattle.flips.specs.Twins.{OfKinds, IsTwins}

@@ -8,9 +8,9 @@ use lib.ListN.{length, getD}
 use lib.Ieee.{Float}
 use Rattle.definition.specs.Cells.{Tri, tri, Mesh, new-live, key, owners}
 use Rattle.definition.specs.Flips.{flip, flipped}
+use Rattle.laws.specs.Frames.{Keeps}
 use Rattle.cells.specs.Layout.{mesh-end}
 use Rattle.cells.specs.Rep.{Rep, Pts}
-use Rattle.cells.specs.Frames.{Keeps}
 use Rattle.flips.specs.Nodes.{tri-read}
 
 -- both slots hold triangles

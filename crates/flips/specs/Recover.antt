@@ -6,8 +6,8 @@ use Prim.Native.Nat.{ℕ}
 use lib.Ieee.{Float}
 use Rattle.definition.specs.Cells.{Mesh}
 use Rattle.definition.specs.Flips.{Recovered, recover}
+use Rattle.laws.specs.Frames.{Keeps}
 use Rattle.cells.specs.Layout.{mesh-end}
-use Rattle.cells.specs.Frames.{Keeps}
 use Rattle.crossings.specs.Cross.{Known}
 
 -- the answer, and the mesh afterwards, which has as many points and slots

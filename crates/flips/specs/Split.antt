@@ -8,9 +8,9 @@ use Rattle.definition.specs.Floats.{0·0}
 use Rattle.definition.specs.Plane.{flat}
 use Rattle.definition.specs.Cells.{Mesh}
 use Rattle.definition.specs.Insertion.{split-triangle}
+use Rattle.laws.specs.Frames.{Keeps}
 use Rattle.cells.specs.Layout.{mesh-end}
 use Rattle.cells.specs.Rep.{Rep, TriIn, Pts}
-use Rattle.cells.specs.Frames.{Keeps}
 
 -- the slice with x, y and z 0.0 as point n
 abbrev pub with-spot : List Float → ℕ → Float → Float → List Float

@@ -7,8 +7,8 @@ use native.Mathlib.Omega.{arith}
 use native.Mathlib.Decide.{decLe}
 use lib.ListN.{length, getD, set, length-set}
 use Rattle.rings.proofs.Lists.{Same, same, differ, decide}
-use Rattle.rings.proofs.Rings.{on, off}
 use Rattle.definition.specs.Cells.{Mesh, front-at}
+use Rattle.laws.specs.Frames.{on, off}
 use Rattle.cells.specs.Layout.{fronts-at, front-u-at, front-v-at}
 use Rattle.cells.specs.Notes.{ends, noted, Fronts}
 use Rattle.cells.proofs.Frames.{room-under, rep-under}

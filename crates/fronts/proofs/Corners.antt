@@ -2,56 +2,39 @@
 use mathlib.Core.Path.{_≡_, refl, ap, sym, _∙_, subst}
 use mathlib.Core.Logic.{_≢_, inl, inr}
 use mathlib.Core.Bool.{Bool, true, false, _&&_, _||_}
-use mathlib.Core.List.{List, [], _∷_}
+use mathlib.Core.List.{List, []}
 use Prim.Native.Nat.{ℕ, _+_, _*_, _/_, _≤_, _<_}
 use native.Mathlib.Omega.{arith}
 use native.Mathlib.Decide.{ℕ-discrete}
 use lib.Dec.{eqb, ltb}
 use lib.ListN.{length, getD}
 use borrow.Author.Tests.{eqb-true, eq-eqb, ne-eqb}
-use Rattle.rings.specs.Rings.{nx, Below}
+use Rattle.rings.specs.Rings.{nx}
 use Rattle.definition.specs.Lists.{filter, insert}
 use Rattle.definition.specs.Cells.{Tri, Cell, tri, Live, Mesh, key, live-tri, tri-has, has-side, owns}
 use Rattle.definition.specs.Flips.{third}
-use Rattle.account.specs.Lists.{In, both, either, insert-in}
+use Rattle.laws.specs.Bools.{both, either}
+use Rattle.laws.specs.Lists.{In, insert-in}
+use Rattle.laws.specs.Frames.{Under}
+use Rattle.account.specs.Found.{is-a-tri}
 use Rattle.account.specs.Triangles as triangles
 use Rattle.account.specs.Ends.{third-node}
-use Rattle.cells.specs.Layout.{mesh-end, rings-at, codes}
-use Rattle.cells.specs.Rep.{Shape, corners}
-use Rattle.cells.specs.Frames.{Under}
-use Rattle.cells.specs.Walk.{From, Pos, beside, node-after, node-before, CanRead, CanSee}
+use Rattle.cells.specs.Layout.{mesh-end, rings-at}
+use Rattle.cells.specs.Rep.{Shape}
+use Rattle.cells.specs.Walk.{Pos, beside, node-after, node-before, CanRead, CanSee}
 use Rattle.cells.proofs.Edges.{tri-side}
-use Rattle.cells.proofs.Corners.{corners-below}
 use Rattle.cells.proofs.Fronts.{held-tri}
-use Rattle.cells.proofs.Frames.{under-less, cells-under, room-under, rep-under}
+use Rattle.cells.proofs.Frames.{rep-under, pos-under}
 use Rattle.cells.proofs.Walks.{There, there, seek-end, ended, start, pos-walk, can-read}
 use Rattle.fronts.specs.Runs.{Run, Beyond, Good, CanTry, Tried, Met, CanWalk, Here, StepTo, NodeTo}
 use Rattle.fronts.proofs.Inserts.{insert-length, insert-up}
-use Rattle.fronts.proofs.Members.{valid, tri-distinct, tri-below, tri-cell, all-ends, few-ends}
+use Rattle.fronts.proofs.Members.{valid, tri-distinct, tri-below, all-ends, few-ends}
 use Rattle.fronts.proofs.Puts.{beyond-refl, beyond-trans, beyond-under, Half, half}
 use Rattle.fronts.proofs.Meets.{met-start, met-quad, met-tri, fresh-x, fresh-y, good-more}
 
 -- ---- a place in a ring stays where only the rest of the memory changes
 
 module _ (w w' : List ℕ) (s p : ℕ) (k : Under w w' (mesh-end s p)) where
-  next-kept : (i : ℕ) → i < codes s p → nx w' (rings-at s) i ≡ nx w (rings-at s) i
-  next-kept i h = k .low (rings-at s + i) (omega arith)
-
-  from-kept : (l : List ℕ) (c z : ℕ) → Below (4 * s) l → From (nx w (rings-at s)) c l z → From (nx w' (rings-at s)) c l z
-  from-kept [] c z b h = h
-  from-kept (x ∷ l) c z b h =
-      (h .0, subst (λ (y : ℕ). From (nx w' (rings-at s)) y l z) (sym (next-kept x (omega (arith, b .0)))) (from-kept l (nx w (rings-at s) x) z (b .1) (h .1)))
-
-  pos-under : (u c : ℕ) (l : List Live) → Pos w s p u c l → Pos w' s p u c l
-  pos-under u c l h =
-      record {
-        room = room-under w w' s p k (h .room);
-        node = h .node;
-        cells = cells-under w w' s s p l (omega arith) (under-less w w' (5 * s) (mesh-end s p) (omega arith) k) (h .cells);
-        from = from-kept (corners l u) c (4 * s + u) (corners-below w s s p u l (omega arith) (h .cells)) (h .from);
-        few = h .few;
-      }
-
   walk-under : (u from : ℕ) (m : Mesh) → CanWalk w s p u from m → CanWalk w' s p u from m
   walk-under u from m h = record { rep = rep-under w w' s p k m (h .rep); known = h .known; room = h .room }
 
@@ -97,7 +80,7 @@ module _ (w : List ℕ) (s p u from k c : ℕ) (m : Mesh) (h : Here w s p u from
   on : (w' : List ℕ) (r : ℕ) (vs : List ℕ) → Beyond w w' s p from → Run w' s p u from r vs → Met m u (at .l) vs → StepTo w w' s p u from k c r m
   on w' r vs b run met =
       let k' = beyond-under w w' s p from b in
-      let n = next-kept w w' s p k' c (omega arith) in
+      let n : nx w' (rings-at s) c ≡ nx w (rings-at s) c = k' .low (rings-at s + c) (omega arith) in
       let pos : Pos w' s p u (nx w' (rings-at s) c) (at .l) = subst (λ (z : ℕ). Pos w' s p u z (at .l)) (sym n) (pos-under w w' s p k' u (nx w (rings-at s) c) (at .l) (at .then)) in
       record {
         here = record { can = walk-under w w' s p k' u from m (h .can); rest = at .l; pos = pos; vs = vs; run = run; met = met };
@@ -123,7 +106,7 @@ module _ (w : List ℕ) (s p u from k c : ℕ) (m : Mesh) (h : Here w s p u from
 
     cell : (t : Tri) × (at .e .cell ≡ tri t)
     unfolding live-tri
-    cell = tri-cell (at .e .cell) is-triangle
+    cell = is-a-tri (at .e .cell) is-triangle
 
     shape : Shape p (tri (cell .0))
     shape = subst (λ (z : Cell). Shape p z) (cell .1) (at .held .shape)

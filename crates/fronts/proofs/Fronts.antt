@@ -10,25 +10,21 @@ use Rattle.definition.specs.Lists.{any, flat-map, numbers, below}
 use Rattle.definition.specs.Plane.{Edge}
 use Rattle.definition.specs.Cells.{Mesh, same-edge, has-edge-in, front-at, front}
 use Rattle.definition.specs.Account.{Pairwise}
-use Rattle.account.specs.Lists.{In, which, any-in, all-at, flat-map-append}
-use Rattle.account.specs.Ends.{edge-is}
+use Rattle.laws.specs.Bools.{which}
+use Rattle.laws.specs.Lists.{In, all-at, any-in, flat-map-append, numbers-snoc, Stored}
+use Rattle.laws.specs.Cells.{same-is}
 use Rattle.account.specs.Fronts.{front-in}
 use Rattle.account.specs.Listed.{front-differ, front-number}
 use Rattle.cells.specs.Layout.{front-u-at, front-v-at}
 use Rattle.cells.specs.Rep.{Rep}
 use Rattle.edges.specs.Stored.{Edges, edge-in}
-use Rattle.fronts.specs.Runs.{Stored, pairs, Run, CanWalk}
+use Rattle.fronts.specs.Runs.{pairs, Run, CanWalk}
 use Rattle.fronts.specs.Noting.{Past, EdgesTo}
 use Rattle.fronts.specs.Front.{FrontTo}
 use Rattle.fronts.proofs.Members.{valid, front-ascending}
 use Rattle.fronts.proofs.Noting.{pairs-length}
 
 -- ---- lists
-
-numbers-more : (a n : ℕ) → numbers a (suc n) ≡ numbers a n ++ (a + n) ∷ []
-unfolding numbers
-numbers-more a zero = let z : a ≡ a + 0 = omega arith in ap (λ (i : ℕ). i ∷ []) z
-numbers-more a (suc n) = ap (λ (l : List ℕ). a ∷ l) (numbers-more (suc a) n ∙ (let z : suc a + n ≡ a + suc n = omega arith in ap (λ (i : ℕ). numbers (suc a) n ++ i ∷ []) z))
 
 append-none : (l : List Edge) → l ++ [] ≡ l
 append-none [] = refl
@@ -43,7 +39,7 @@ module _ (f : ℕ → List Edge) where
   unfolding below flat-map
   upto-more n =
       let z : n + 1 ≡ suc n = omega arith in
-      ap (λ (i : ℕ). flat-map f (numbers 0 i)) z ∙ ap (flat-map f) (numbers-more 0 n) ∙ ap (λ (i : ℕ). flat-map f (numbers 0 n ++ i ∷ [])) (let y : 0 + n ≡ n = omega arith in y) ∙ flat-map-append f (numbers 0 n) (n ∷ []) ∙ ap (λ (l : List Edge). upto n ++ l) (append-none (f n))
+      ap (λ (i : ℕ). flat-map f (numbers 0 i)) z ∙ ap (flat-map f) (numbers-snoc 0 n) ∙ ap (λ (i : ℕ). flat-map f (numbers 0 n ++ i ∷ [])) (let y : 0 + n ≡ n = omega arith in y) ∙ flat-map-append f (numbers 0 n) (n ∷ []) ∙ ap (λ (l : List Edge). upto n ++ l) (append-none (f n))
 
   upto-length : (n : ℕ) → length (upto (n + 1)) ≡ length (upto n) + length (f n)
   upto-length n = ap length (upto-more n) ∙ length-append (upto n) (f n)
@@ -174,7 +170,7 @@ module _ (w₀ : List ℕ) (s p : ℕ) (m : Mesh) (r : Rep w₀ s p m) where
         a .0,
         a .1,
         elim (which (any (same-edge e) es)) [
-          | inl y ↦ absurd (let g = any-in (same-edge e) es y in all-at (λ f. e ≢ f) es (d .0) (g .0) (g .1) (edge-is e (g .0) (g .2)))
+          | inl y ↦ absurd (let g = any-in (same-edge e) es y in all-at (λ f. e ≢ f) es (d .0) (g .0) (g .1) (same-is e (g .0) (g .2)))
           | inr y ↦ y
         ],
         edges-from n es (λ f i. h f (inr i)) (d .1),

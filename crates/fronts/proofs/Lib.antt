@@ -1,4 +1,3 @@
-pub mod Near
 pub mod Inserts
 pub mod Members
 pub mod Puts

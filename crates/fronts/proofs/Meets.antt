@@ -10,9 +10,9 @@ use lib.ListN.{length}
 use borrow.Author.Tests.{eqb-true, eq-eqb}
 use Rattle.definition.specs.Lists.{filter}
 use Rattle.definition.specs.Cells.{Live, Mesh, key, live-tri, owns}
+use Rattle.laws.specs.Bools.{which, either, or-second}
+use Rattle.laws.specs.Lists.{In, filter-yes, filter-no}
 use Rattle.cells.specs.Walk.{own}
-use Rattle.cells.proofs.Fronts.{filter-hit, filter-miss}
-use Rattle.account.specs.Lists.{In, which, either}
 use Rattle.fronts.specs.Runs.{Good, tris-on, Met}
 use Rattle.fronts.proofs.Members.{good-one}
 use Rattle.fronts.proofs.Puts.{Tries}
@@ -25,10 +25,6 @@ or-left : (a b : Bool) → a ≡ true → (a || b) ≡ true
 or-left true b h = refl
 or-left false b h = absurd (let z : _≡_ {A = ℕ} 0 1 = cc in omega arith)
 
-or-right : (a b : Bool) → b ≡ true → (a || b) ≡ true
-or-right true b h = refl
-or-right false b h = h
-
 module _ (m : Mesh) (u : ℕ) (rest : List Live) (vs : List ℕ) (k : Met m u rest vs) (e : Live) (l : List Live) (own-is : (v : ℕ) → u ≢ v → own u v rest ≡ own u v (e ∷ l)) where
   abbrev count : List Live → ℕ
   count r = length (filter live-tri r)
@@ -37,14 +33,14 @@ module _ (m : Mesh) (u : ℕ) (rest : List Live) (vs : List ℕ) (k : Met m u re
   apart v g z = omega (arith, g .up, z)
 
   tris-miss : (v : ℕ) → u ≢ v → owns (key u v) e ≡ false → tris-on u v rest ≡ tris-on u v l
-  tris-miss v d h = ap count (own-is v d) ∙ ap count (filter-miss (owns (key u v)) e l h)
+  tris-miss v d h = ap count (own-is v d) ∙ ap count (filter-no (owns (key u v)) e l h)
 
   tris-hit : (v : ℕ) → u ≢ v → owns (key u v) e ≡ true → live-tri e ≡ true → tris-on u v rest ≡ suc (tris-on u v l)
-  tris-hit v d h q = ap count (own-is v d) ∙ ap count (filter-hit (owns (key u v)) e l h) ∙ ap length (filter-hit live-tri e (own u v l) q)
+  tris-hit v d h q = ap count (own-is v d) ∙ ap count (filter-yes (owns (key u v)) e l h) ∙ ap length (filter-yes live-tri e (own u v l) q)
 
   tris-quad : (v : ℕ) → u ≢ v → live-tri e ≡ false → tris-on u v rest ≡ tris-on u v l
   tris-quad v d q = elim (which (owns (key u v) e)) [
-    | inl h ↦ ap count (own-is v d) ∙ ap count (filter-hit (owns (key u v)) e l h) ∙ ap length (filter-miss live-tri e (own u v l) q)
+    | inl h ↦ ap count (own-is v d) ∙ ap count (filter-yes (owns (key u v)) e l h) ∙ ap length (filter-no live-tri e (own u v l) q)
     | inr h ↦ tris-miss v d h
   ]
 
@@ -63,7 +59,7 @@ module _ (m : Mesh) (u : ℕ) (rest : List Live) (vs : List ℕ) (k : Met m u re
     hit-x g = tris-hit x (apart x g) (side x (apart x g) ∙ or-left (eqb x x) (eqb y x) (eq-eqb x x refl)) q
 
     hit-y : Good m u y → tris-on u y rest ≡ suc (tris-on u y l)
-    hit-y g = tris-hit y (apart y g) (side y (apart y g) ∙ or-right (eqb x y) (eqb y y) (eq-eqb y y refl)) q
+    hit-y g = tris-hit y (apart y g) (side y (apart y g) ∙ or-second (eqb x y) (eqb y y) (eq-eqb y y refl)) q
 
     -- the edges of its triangle were not met before
     pub fresh-x : Good m u x → In x vs → ⊥

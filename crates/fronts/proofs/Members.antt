@@ -11,9 +11,12 @@ use borrow.Author.Tests.{eqb-true, eq-eqb, ltb-true, ltb-false, lt-ltb}
 use Rattle.rings.specs.Rings as rings
 use Rattle.definition.specs.Lists.{filter, flat-map, insert, sort, numbers, below}
 use Rattle.definition.specs.Plane.{Edge}
-use Rattle.definition.specs.Cells.{Tri, Quad, Cell, tri, quad, Live, Mesh, key, nodes, tri-nodes, quad-nodes, tri-edges, edge-before, is-tri, live-tri, owns, owners, has-node, cells-at, tris-of, front-owners, front-from, is-front, front-at, front}
+use Rattle.definition.specs.Cells.{Tri, Quad, Cell, tri, quad, Live, Mesh, key, nodes, tri-nodes, quad-nodes, tri-edges, edge-before, live-tri, owns, owners, has-node, cells-at, tris-of, front-owners, front-from, is-front, front-at, front}
 use Rattle.definition.specs.Account.{Pairwise}
-use Rattle.account.specs.Lists.{both, In, in-filter, filter-in, sort-in, in-sort, in-flat-map, flat-map-in, in-left, in-either, all-from, all-at, insert-in, in-map, map-in, no-more, below-in}
+use Rattle.laws.specs.Bools.{both}
+use Rattle.laws.specs.Lists.{In, all-from, all-at, in-left, in-either, in-filter, filter-in, insert-in, sort-in, in-sort, map-in, in-map, in-flat-map, flat-map-in, no-more, below-in}
+use Rattle.cells.proofs.Near.{near-front}
+use Rattle.account.specs.Found.{is-a-tri}
 use Rattle.account.specs.Triangles as triangles
 use Rattle.account.specs.Ends.{tri-ends, tri-owns}
 use Rattle.account.specs.Valid.{Slots, Good-quad, Valid, tris-in, in-tris}
@@ -21,7 +24,6 @@ use Rattle.account.specs.Listed.{front-differ}
 use Rattle.cells.specs.Rep.{Shape, Held, Cells, slots, Rep}
 use Rattle.cells.proofs.Edges.{key-up, key-down}
 use Rattle.fronts.specs.Runs.{Ascending, pairs, Good, tris-on}
-use Rattle.fronts.proofs.Near.{near-front}
 use Rattle.fronts.proofs.Inserts.{ascending-same}
 
 -- ---- the mesh of a memory is valid
@@ -97,11 +99,6 @@ edge-of t a b h i j = go i j
     go (inr (inr e)) (inr (inl f)) = inr (inl (back (t .n1) (t .n2) f e))
     go (inr (inr e)) (inr (inr f)) = absurd (omega arith)
 
-pub tri-cell : (c : Cell) → is-tri c ≡ true → (t : Tri) × (c ≡ tri t)
-unfolding is-tri
-tri-cell (tri t) h = (t, refl)
-tri-cell (quad q) h = absurd (let z : _≡_ {A = ℕ} 0 1 = cc in omega arith)
-
 -- ---- the front edges of u
 
 one-of : {A : Type 0} (l : List A) → length l ≡ 1 → (x : A) × In x l
@@ -146,7 +143,7 @@ module _ (m : Mesh) (ok : Valid m) (u : ℕ) where
       let x = one-of (filter live-tri (filter (owns e) near)) n in
       let i = in-filter live-tri (filter (owns e) near) (x .1) in
       let j = in-filter (owns e) near (i .0) in
-      let t = tri-cell (x .0 .cell) (i .1) in
+      let t = is-a-tri (x .0 .cell) (i .1) in
       let h = tri-owns e (x .0) (t .0) (t .1) (j .1) in
       in-sort edge-before e (filter (front-from u near) all)
       (filter-in (front-from u near) all

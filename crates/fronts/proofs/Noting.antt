@@ -1,7 +1,7 @@
 -- The front edges of a node are noted after a walk.
 use mathlib.Core.Path.{_≡_, refl, ap, sym, _∙_, subst}
 use mathlib.Core.Logic.{_≢_, inl, inr}
-use mathlib.Core.Bool.{Bool, true, false}
+use mathlib.Core.Bool.{true}
 use mathlib.Core.List.{List, [], _∷_}
 use Prim.Native.Nat.{ℕ, suc, _+_, _*_, _%_, _≤_, _<_}
 use native.Mathlib.Omega.{arith}
@@ -9,18 +9,18 @@ use native.Mathlib.Decide.{decLe}
 use lib.Dec.{eqb}
 use lib.ListN.{length, getD, set, length-set}
 use borrow.Author.Tests.{eqb-true, eq-eqb}
-use Rattle.rings.proofs.Rings.{on, off}
 use Rattle.definition.specs.Lists.{contains}
 use Rattle.definition.specs.Plane.{Edge}
 use Rattle.definition.specs.Cells.{Mesh, key, is-front, front-at}
-use Rattle.account.specs.Lists.{In, in-any, any-in, all-at, all-from}
+use Rattle.laws.specs.Lists.{In, all-from, all-at, in-any, any-in, stored-kept}
+use Rattle.laws.specs.Bools.{same-bool}
+use Rattle.laws.specs.Frames.{on, off}
 use Rattle.account.specs.Valid.{Valid}
 use Rattle.cells.specs.Layout.{notes-at, fronts-at, boxes-at, even-at, front-u-at, front-v-at}
 use Rattle.cells.specs.Notes.{note, ends, bound, Fronts, NoteAt}
 use Rattle.cells.proofs.Frames.{rep-under}
 use Rattle.fronts.specs.Runs.{Ascending, pairs, Run, Good, NodeTo}
 use Rattle.fronts.specs.Noting.{CanMark, Marked, CanNote, NoteTo, CanSearch, EdgesTo}
-use Rattle.fronts.proofs.Inserts.{stored-kept}
 use Rattle.fronts.proofs.Members.{valid, at-of, at-in, all-ends}
 use Rattle.fronts.proofs.Puts.{beyond-under}
 use Rattle.fronts.proofs.Notes.{rep-noted}
@@ -34,11 +34,6 @@ contains-in vs v h = let g = any-in (eqb v) vs h in subst (λ (x : ℕ). In x vs
 in-contains : (vs : List ℕ) (v : ℕ) → In v vs → contains vs v ≡ true
 unfolding contains
 in-contains vs v i = in-any (eqb v) vs (v, i, eq-eqb v v refl)
-
-same-bool : (a b : Bool) → (a ≡ true → b ≡ true) → (b ≡ true → a ≡ true) → a ≡ b
-same-bool true b f g = sym (f refl)
-same-bool false true f g = g refl
-same-bool false false f g = refl
 
 pairs-in : (u v : ℕ) (vs : List ℕ) → In v vs → In (u, v) (pairs u vs)
 pairs-in u v (x ∷ vs) (inl e) = inl (ap (λ (z : ℕ). (u, z)) e)

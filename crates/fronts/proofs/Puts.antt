@@ -7,14 +7,13 @@ use native.Mathlib.Omega.{arith}
 use lib.Dec.{ltb}
 use lib.ListN.{getD, set, length-set}
 use Rattle.rings.proofs.Lists.{Same, same, differ, decide}
-use Rattle.rings.proofs.Rings.{on, off}
 use Rattle.definition.specs.Lists.{insert}
 use Rattle.definition.specs.Cells.{Mesh}
+use Rattle.laws.specs.Lists.{In, insert-in, stored-kept}
+use Rattle.laws.specs.Frames.{on, off, Under}
 use Rattle.cells.specs.Layout.{mesh-end, front-u-at, front-v-at}
-use Rattle.cells.specs.Frames.{Under}
-use Rattle.account.specs.Lists.{In, insert-in}
 use Rattle.fronts.specs.Runs.{InsertTo, Run, Beyond, CanPut, PutTo, Good, Tried, passed, taken}
-use Rattle.fronts.proofs.Inserts.{insert-length, insert-new, insert-old, insert-up, stored-kept}
+use Rattle.fronts.proofs.Inserts.{insert-length, insert-new, insert-old, insert-up}
 
 -- ---- what stays
 

@@ -11,16 +11,13 @@ use Rattle.definition.specs.Lists.{filter, insert}
 use Rattle.definition.specs.Plane.{Edge}
 use Rattle.definition.specs.Cells.{Live, Mesh, key, live-tri, is-front, front-at}
 use Rattle.definition.specs.Account.{Pairwise, _∈_}
+use Rattle.laws.specs.Lists.{Stored}
+use Rattle.laws.specs.Frames.{Only}
 use Rattle.cells.specs.Layout.{rings-at, front-u-at, front-v-at, front-links-at}
 use Rattle.cells.specs.Rep.{Room, Rep}
 use Rattle.cells.specs.Walk.{own, Pos, left}
 
 -- ---- numbers in a row
-
--- the numbers of l stand from b on
-abbrev pub Stored : List ℕ → ℕ → List ℕ → Type 0
-Stored w b [] = Unit {0}
-Stored w b (x ∷ l) = (getD w b 0 ≡ x) × Stored w (b + 1) l
 
 -- each is below every later one
 abbrev pub Ascending : List ℕ → Type 0
@@ -30,12 +27,6 @@ Ascending l = Pairwise (λ a b. a < b) l
 pub record CanInsert (w : List ℕ) (from to : ℕ) : Type 0 where
   pub order : from ≤ to
   pub fits : to < length w
-
--- only the words from a up to z changed
-pub record Only (w w' : List ℕ) (a z : ℕ) : Type 0 where
-  pub len : length w' ≡ length w
-  pub low : (i : ℕ) → i < a → getD w' i 0 ≡ getD w i 0
-  pub high : (i : ℕ) → z ≤ i → getD w' i 0 ≡ getD w i 0
 
 -- v came in among the ascending numbers from `from` to `to`
 pub record InsertTo (w w' : List ℕ) (from to v : ℕ) : Type 0 where

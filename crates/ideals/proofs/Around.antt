@@ -12,13 +12,13 @@ use Rattle.rings.specs.Rings.{nx, Below}
 use Rattle.rings.proofs.Lists.{Same, same, differ, decide, room}
 use Rattle.definition.specs.Lists.{any, contains}
 use Rattle.definition.specs.Cells.{Live, Mesh, nodes, key, owns, owners}
+use Rattle.laws.specs.Lists.{filter-no}
+use Rattle.cells.proofs.Near.{side-end}
 use Rattle.cells.specs.Layout.{rings-at}
 use Rattle.cells.specs.Rep.{Rep, Room, corners}
 use Rattle.cells.specs.Walk.{own, node-after, node-before, beside, CanRead, Pos, left}
 use Rattle.cells.proofs.Corners.{cells-weaken}
-use Rattle.cells.proofs.Fronts.{filter-miss}
 use Rattle.cells.proofs.Walks.{start, there, can-read, pos-walk, seek-end, ended}
-use Rattle.ideals.proofs.Near.{side-end}
 
 -- at the place c of the ring of a, the cells of `rest` are still to come; of the end v of an edge that none of them has, P holds
 pub record Around (w : List ℕ) (s a c : ℕ) (m : Mesh) (P : ℕ → Type 0) : Type 0 where
@@ -108,7 +108,7 @@ module _ (w : List ℕ) (s a c : ℕ) (m : Mesh) (P : ℕ → Type 0) (k : Aroun
       go v d o true b = beside-holds P w s c v (subst P ex px) (subst P ey py) b
       go v d o false b =
           let t = there w s (length (m .points)) a c (k .rest) (k .pos) h in
-          k .holds v d (t .own-is v d ∙ filter-miss (owns (key a v)) (t .e) (t .l) (t .edge v d ∙ b) ∙ o)
+          k .holds v d (t .own-is v d ∙ filter-no (owns (key a v)) (t .e) (t .l) (t .edge v d ∙ b) ∙ o)
 
   pub around-end : 4 * s ≤ c → (v : ℕ) → a ≢ v → P v
   around-end h v d = k .holds v d (ended w s (length (m .points)) a v c (k .rest) (seek-end w s (length (m .points)) a c (k .rest) (k .pos) h v d) h)

@@ -10,8 +10,8 @@ use lib.ListN.{length, getD, set, length-set}
 use lib.Ieee.{Float, nan, inf, fin, binary64, isNan, nanBits, ne, fits, toBits}
 use lib.Ieee.Bits.{ofBits-toBits, nanBits-is}
 use lib.Ieee.Compare.{differs-from-itself}
-use Rattle.rings.proofs.Rings.{on, off}
 use Rattle.definition.specs.Floats.{f64}
+use Rattle.laws.specs.Frames.{on, off}
 use Rattle.ideals.specs.Words.{float-at, PutTo}
 
 -- ---- bits

@@ -16,8 +16,8 @@ use Rattle.definition.specs.Numbers.{Turn, tiny-length}
 use Rattle.definition.specs.Plane.{Vec, norm, over}
 use Rattle.definition.specs.Cells.{Live, Mesh, key, live-tri, owns, owners, tri-owners, tri-owner, cells-at, front-owners, is-front}
 use Rattle.definition.specs.Candidates.{toward, ideal-by, turned, or-turned, ideals, edge-candidate}
+use Rattle.cells.proofs.Near.{near-owners}
 use Rattle.ideals.specs.Wanted.{near, wanted-by, every, some-wanted, near-ideal, edge-reach, by-edge}
-use Rattle.ideals.proofs.Near.{near-owners}
 use Rattle.ideals.proofs.Halves.{by-other, by-inner}
 
 -- ---- lists
@@ -140,16 +140,6 @@ live-some m a v x h = live-each m a v ∙ first-any live-tri (owners m (key a v)
 pub live-none : (m : Mesh) (a v : ℕ) → tri-owner m (key a v) ≡ none → any (λ y. live-tri y && owns (key a v) y) (cells-at m a) ≡ false
 unfolding tri-owner tri-owners
 live-none m a v h = live-each m a v ∙ none-any live-tri (owners m (key a v)) h
-
--- ---- tests as they are read
-
-pub not-was : (b : Bool) → not b ≡ true → false ≡ b
-not-was true h = h
-not-was false h = refl
-
-pub was : (b : Bool) → not b ≡ false → true ≡ b
-was true h = refl
-was false h = h
 
 -- ---- an edge candidate, test after test
 

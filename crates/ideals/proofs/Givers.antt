@@ -8,10 +8,10 @@ use lib.Dec.{eqb}
 use lib.ListN.{length, getD, set, length-set}
 use lib.Ieee.{Float}
 use Rattle.rings.specs.Rings.{nx, Below}
-use Rattle.rings.proofs.Rings.{on, off}
 use Rattle.rings.proofs.Lists.{Same, same, differ, decide, room}
 use Rattle.definition.specs.Plane.{Vec}
 use Rattle.definition.specs.Cells.{Live, Mesh}
+use Rattle.laws.specs.Frames.{on, off}
 use Rattle.cells.specs.Layout.{rings-at, mesh-end}
 use Rattle.cells.specs.Rep.{Rep, Cells, corners, slots}
 use Rattle.cells.specs.Walk.{after, before, node-after, node-before, CanRead, left}

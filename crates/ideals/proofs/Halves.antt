@@ -1,10 +1,9 @@
 -- The direction halfway between two units, and the ideal that a front edge gives.
 use mathlib.Core.Path.{_≡_, refl, ap, sym, _∙_}
 use mathlib.Core.Logic.{_≢_}
-use mathlib.Core.Bool.{Bool, true, false, not, cond, _&&_, _||_, or-false, false≢true}
+use mathlib.Core.Bool.{Bool, true, false, not, cond, _&&_, or-false, false≢true}
 use mathlib.Core.List.{List, [], _∷_}
-use Prim.Native.Nat.{ℕ, _<_}
-use native.Mathlib.Omega.{arith}
+use Prim.Native.Nat.{ℕ}
 use lib.Dec.{eqb}
 use lib.ListN.{length}
 use lib.Ieee.{Float}
@@ -16,11 +15,11 @@ use Rattle.definition.specs.Plane.{Node, Vec, norm, over, from-to}
 use Rattle.definition.specs.Cells.{Mesh, key, node-at, owns, cells-at, front-owners, is-front}
 use Rattle.definition.specs.Candidates.{toward, plus, halfway, ideal-by}
 use Rattle.definition.specs.Call.{point-at}
+use Rattle.cells.proofs.Near.{near-front}
 use Rattle.cells.specs.Rep.{Pts}
-use Rattle.plane.specs.Points.{Within, node-of}
+use Rattle.plane.specs.Points.{node-of}
 use Rattle.ideals.specs.Wanted.{wanted-by, every, gives, At}
 use Rattle.ideals.specs.Wishes.{between, ideal, ideal-from}
-use Rattle.ideals.proofs.Near.{near-front}
 
 -- ---- halfway
 
@@ -91,9 +90,6 @@ unfolding toward
 toward-read q p m k a v e d h =
     let r = node-of m (length (m .points)) q (k .are) in
     h ∙ ap (λ (y : Node). from-to y (point-at q v)) (sym (r a (e .node))) ∙ ap (from-to (node-at m a)) (sym (r v (e .end)))
-
-pub within : (q : List Float) (p : ℕ) (m : Mesh) → Pts q p m → (v : ℕ) → v < length (m .points) → Within q v
-within q p m k v h = omega (arith, k .fits, k .few)
 
 pub ideal-read : (q : List Float) (p : ℕ) (m : Mesh) → Pts q p m → (a v : ℕ) → At m a v → (u : Vec) → ideal-from q a u v ≡ ideal m a u v
 ideal-read q p m k a v e u = ap (between u) (toward-read q p m k a v e (from-to (point-at q a) (point-at q v)) refl)

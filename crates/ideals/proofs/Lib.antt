@@ -1,5 +1,4 @@
 pub mod Bits
-pub mod Near
 pub mod Halves
 pub mod Around
 pub mod Closes

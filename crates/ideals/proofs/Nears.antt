@@ -14,14 +14,15 @@ use Rattle.definition.specs.Numbers.{Turn, tiny-length}
 use Rattle.definition.specs.Plane.{Vec, norm, over}
 use Rattle.definition.specs.Cells.{Mesh}
 use Rattle.definition.specs.Candidates.{toward, turned}
+use Rattle.cells.proofs.Points.{node-within}
 use Rattle.cells.specs.Rep.{Pts}
 use Rattle.plane.specs.Vectors.{vec}
 use Rattle.ideals.specs.Words.{float-at, vec-at, Numbers, PutTo}
 use Rattle.ideals.specs.Wanted.{near, wanted-by, every, gives, near-ideal}
-use Rattle.ideals.specs.Wishes.{ideal, ideal-from, Besides, Listed, CanList, ListedTo, Kept, CanTest, CanKeep, KeptTo, Wished, WishedTo, Tested, kept-test, node-test}
+use Rattle.ideals.specs.Wishes.{ideal-from, Besides, Listed, CanList, ListedTo, Kept, CanTest, CanKeep, KeptTo, Wished, WishedTo, Tested, kept-test, node-test}
 use Rattle.ideals.specs.declared.wishes.Wish.{Wish}
 use Rattle.ideals.proofs.Bits.{float-kept}
-use Rattle.ideals.proofs.Halves.{gives-passes, gives-none, ideal-read, within}
+use Rattle.ideals.proofs.Halves.{gives-passes, gives-none, ideal-read}
 use Rattle.ideals.proofs.Closes.{some-hit, some-none, near-some, near-other, near-turned}
 
 -- ---- one ideal more
@@ -115,8 +116,8 @@ can-keep w w1 q s p a other b r m u c l =
     record {
       test = record {
         fits = omega (arith, l .few, l .besides .len, c .to);
-        node = within q p m (c .pts) a (c .ends .node);
-        nodes = λ i h. within q p m (c .pts) (getD w1 (b + i) 0) (l .listed .known i h);
+        node = node-within q p m (c .pts) a (c .ends .node);
+        nodes = λ i h. node-within q p m (c .pts) (getD w1 (b + i) 0) (l .listed .known i h);
       };
       few = l .few;
       to = omega (arith, l .besides .len, c .to);
@@ -170,8 +171,8 @@ module _ (w : List ℕ) (q : List Float) (s p b : ℕ) (o : Wish) (m : Mesh) (a 
   wish-test =
       record {
         fits = omega (arith, z .few, z .to);
-        node = within q p m pts a (z .ends .node);
-        nodes = λ i h. within q p m pts (getD w (b + i) 0) (z .listed .known i h);
+        node = node-within q p m pts a (z .ends .node);
+        nodes = λ i h. node-within q p m pts (getD w (b + i) 0) (z .listed .known i h);
       }
 
   module _ (t : Turn) (e : Vec) where

@@ -3,19 +3,19 @@ use mathlib.Core.Path.{_≡_, refl, ap, sym, _∙_, subst}
 use mathlib.Core.Logic.{_≢_}
 use mathlib.Core.Bool.{Bool, true, false, not, cond, _||_, _&&_}
 use mathlib.Core.List.{List, [], _∷_, _++_}
-use Prim.Native.Nat.{ℕ, zero, suc, _+_, _-_, _*_, _≤_, _<_}
+use Prim.Native.Nat.{ℕ}
 use native.Mathlib.Omega.{arith}
 use lib.Dec.{eqb}
-use lib.ListN.{length, getD}
-use borrow.Author.Tests.{eq-eqb, ne-eqb, eqb-false}
-use Rattle.rings.specs.Rings.{Out, Distinct, Below, without}
+use borrow.Author.Tests.{eq-eqb, ne-eqb}
+use Rattle.rings.specs.Rings.{Out, Distinct, without}
 use Rattle.rings.proofs.Lists.{Same, same, differ, decide, out-append, without-hit, without-miss, without-out, without-append}
 use Rattle.definition.specs.Lists.{any, filter}
 use Rattle.definition.specs.Cells.{Live, Mesh, live-tri, in-slot, among, without as without-slot}
 use Rattle.definition.specs.Candidates.{on-top}
+use Rattle.cells.proofs.Slots.{slot-hit, slot-miss}
 use Rattle.cells.specs.Rep.{slots}
 use Rattle.cells.proofs.Corners.{out-left, out-right}
-use Rattle.lives.specs.Stack.{Stored, Inner, rev, listed, Fresh}
+use Rattle.lives.specs.Stack.{Inner, rev, listed, Fresh}
 
 -- ---- numbers
 
@@ -40,15 +40,6 @@ pub out-rev : (c : ℕ) (l : List ℕ) → Out c l → Out c (rev l)
 out-rev c [] h = tt
 out-rev c (x ∷ l) h = out-append c (rev l) (x ∷ []) (out-rev c l (h .1)) ((h .0, tt))
 
-pub out-self : (c : ℕ) (l : List ℕ) → Out c (without c l)
-unfolding without
-out-self c [] = tt
-out-self c (x ∷ l) = go (decide x c) (out-self c l)
-  where
-    go : Same x c → Out c (without c l) → Out c (without c (x ∷ l))
-    go (same e) r = rw (without-hit c x l e) r
-    go (differ e) r = rw (without-miss c x l e) ((e, r))
-
 pub distinct-last : (l : List ℕ) (x : ℕ) → Distinct (l ++ x ∷ []) → Out x l
 distinct-last [] x h = tt
 distinct-last (y ∷ l) x h = ((λ e. out-right y l (x ∷ []) (h .0) .0 (sym e)), distinct-last l x (h .1))
@@ -57,21 +48,7 @@ pub without-last : (l : List ℕ) (x : ℕ) → Out x l → without x (l ++ x �
 unfolding without
 without-last l x o = without-append x l (x ∷ []) ∙ ap (λ (z : List ℕ). without x l ++ z) (without-hit x x [] refl) ∙ append-none (without x l) ∙ without-out x l o
 
--- ---- stored numbers
-
-pub stored-kept : (w w' : List ℕ) (b : ℕ) (l : List ℕ) → ((i : ℕ) → b ≤ i → i < b + length l → getD w' i 0 ≡ getD w i 0) → Stored w b l → Stored w' b l
-stored-kept w w' b [] k h = tt
-stored-kept w w' b (x ∷ l) k h = (k b (omega arith) (omega arith) ∙ h .0, stored-kept w w' (b + 1) l (λ i p q. k i (omega arith) (omega arith)) (h .1))
-
-pub stored-snoc : (w : List ℕ) (b x : ℕ) (l : List ℕ) → Stored w b l → getD w (b + length l) 0 ≡ x → Stored w b (l ++ x ∷ [])
-stored-snoc w b x [] h e = (let z : b ≡ b + 0 = omega arith in ap (λ (i : ℕ). getD w i 0) z ∙ e, tt)
-stored-snoc w b x (y ∷ l) h e = (h .0, stored-snoc w (b + 1) x l (h .1) (let z : b + 1 + length l ≡ b + suc (length l) = omega arith in ap (λ (i : ℕ). getD w i 0) z ∙ e))
-
 -- ---- live cells
-
-pub slots-length : (l : List Live) → length (slots l) ≡ length l
-slots-length [] = refl
-slots-length (x ∷ l) = ap suc (slots-length l)
 
 pub out-listed : (i : ℕ) (l : List Live) → Out i (slots l) → listed i l ≡ false
 unfolding any in-slot
@@ -86,23 +63,6 @@ listed-out i (e ∷ l) h = go (decide i (e .slot)) (listed-out i l)
     go : Same i (e .slot) → (listed i l ≡ false → Out i (slots l)) → Out i (slots (e ∷ l))
     go (same q) r = let z : _≡_ {A = Bool} true false = (rw (eq-eqb i (e .slot) q) at h) in let y : _≡_ {A = ℕ} 0 1 = cc in absurd (omega arith)
     go (differ q) r = ((λ z. q (sym z)), r (rw (ne-eqb i (e .slot) q) at h))
-
-slot-hit : (c : ℕ) (e : Live) (l : List Live) → e .slot ≡ c → without-slot c (e ∷ l) ≡ without-slot c l
-unfolding without-slot filter in-slot
-slot-hit c e l q = rw (eq-eqb c (e .slot) (sym q))
-
-slot-miss : (c : ℕ) (e : Live) (l : List Live) → e .slot ≢ c → without-slot c (e ∷ l) ≡ e ∷ without-slot c l
-unfolding without-slot filter in-slot
-slot-miss c e l q = rw (ne-eqb c (e .slot) (λ z. q (sym z)))
-
-pub slots-without : (c : ℕ) (l : List Live) → slots (without-slot c l) ≡ without c (slots l)
-unfolding without without-slot filter
-slots-without c [] = refl
-slots-without c (e ∷ l) = go (decide (e .slot) c) (slots-without c l)
-  where
-    go : Same (e .slot) c → slots (without-slot c l) ≡ without c (slots l) → slots (without-slot c (e ∷ l)) ≡ without c (slots (e ∷ l))
-    go (same q) r = ap slots (slot-hit c e l q) ∙ r ∙ sym (without-hit c (e .slot) (slots l) q)
-    go (differ q) r = ap slots (slot-miss c e l q) ∙ ap (λ (k : List ℕ). e .slot ∷ k) r ∙ sym (without-miss c (e .slot) (slots l) q)
 
 pub listed-without : (i c : ℕ) (l : List Live) → i ≢ c → listed i (without-slot c l) ≡ listed i l
 unfolding any in-slot without-slot filter

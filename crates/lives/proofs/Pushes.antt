@@ -3,23 +3,24 @@ use mathlib.Core.Path.{_≡_, refl, ap, sym, _∙_, subst}
 use mathlib.Core.Logic.{_≢_}
 use mathlib.Core.Bool.{Bool, true, false, _||_}
 use mathlib.Core.List.{List, [], _∷_, _++_}
-use Prim.Native.Nat.{ℕ, zero, suc, _+_, _-_, _*_, _/_, _^_, _≤_, _<_}
+use Prim.Native.Nat.{ℕ, _+_, _*_, _≤_, _<_}
 use native.Mathlib.Omega.{arith}
 use lib.Dec.{eqb}
-use lib.ListN.{length, getD, set, length-set}
+use lib.ListN.{length, getD, set}
 use borrow.Author.Tests.{eq-eqb, ne-eqb}
 use Rattle.rings.specs.Rings.{Out, Ring, without, LinkedTo, UnlinkedFrom}
-use Rattle.rings.proofs.Lists.{Same, same, differ, decide, without-out, room}
-use Rattle.rings.proofs.Rings.{on, off}
+use Rattle.rings.proofs.Lists.{Same, same, differ, decide, without-out, room, out-self}
 use Rattle.definition.specs.Lists.{any}
 use Rattle.definition.specs.Cells.{Live, Mesh, live-tri, in-slot, without as without-slot}
 use Rattle.definition.specs.Candidates.{on-top}
-use Rattle.cells.specs.Layout.{marks-at, list-at, refused-at, stack-at}
-use Rattle.cells.specs.Rep.{Held, Rep, slots}
+use Rattle.laws.specs.Lists.{stored-kept}
+use Rattle.laws.specs.Frames.{on, off}
+use Rattle.cells.specs.Layout.{list-at, refused-at, stack-at}
+use Rattle.cells.specs.Rep.{Held, slots}
 use Rattle.cells.proofs.Fronts.{held-tri}
-use Rattle.cells.proofs.Slots.{rep-held}
-use Rattle.lives.specs.Stack.{Inner, rev, listed, mark, Scratch, Hold, Met, PushTo}
-use Rattle.lives.proofs.Lists.{without-rev, out-unrev, out-rev, out-self, stored-kept, slots-length, out-listed, listed-out, slots-without, listed-without, inner-without, fresh-without, on-top-hit, on-top-other, on-top-seen}
+use Rattle.cells.proofs.Slots.{rep-held, slots-length, slots-without}
+use Rattle.lives.specs.Stack.{rev, listed, mark, Scratch, Hold, Met, PushTo}
+use Rattle.lives.proofs.Lists.{without-rev, out-unrev, out-rev, out-listed, listed-out, listed-without, inner-without, fresh-without, on-top-hit, on-top-other, on-top-seen}
 use Rattle.lives.proofs.Scratches.{scratch-refl, scratch-trans, scratch-mark, scratch-ring, scratch-rep, ring-set}
 
 -- at most as many cells are listed as there are slots
@@ -93,7 +94,7 @@ module _ (w : List ℕ) (s p j : ℕ) (m : Mesh) (out seen st : List Live) (e : 
     unfolding any in-slot
     marks i q =
         let is : i < s = omega (arith, h .hold .rep .used) in
-        l .kept .before (20 * s + 3 * p + i) (omega arith) ∙ go is (decide i j)
+        l .kept .low (20 * s + 3 * p + i) (omega arith) ∙ go is (decide i j)
       where
         go : i < s → Same i j → getD w1 (20 * s + 3 * p + i) 0 ≡ mark (listed i seen) (eqb i (e .slot) || listed i (without-slot (e .slot) st))
         go is (same y) =
@@ -117,7 +118,7 @@ module _ (w : List ℕ) (s p j : ℕ) (m : Mesh) (out seen st : List Live) (e : 
           below = h .hold .below;
           few = h .hold .few;
           stored = stored-kept w w2 (list-at s p) (slots out)
-              (λ i a b. l .kept .before i (omega (arith, fo, slots-length out)) ∙ list i a (omega (arith, fo, slots-length out))) (h .hold .stored);
+              (λ i a b. l .kept .low i (omega (arith, fo, slots-length out)) ∙ list i a (omega (arith, fo, slots-length out))) (h .hold .stored);
           marks = marks;
         }
 
@@ -131,8 +132,8 @@ module _ (w : List ℕ) (s p j : ℕ) (m : Mesh) (out seen st : List Live) (e : 
       → UnlinkedFrom w w1 (stack-at s p) (s + 1) j → LinkedTo w1 w2 (stack-at s p) (s + 1) j s → PushTo w w2 s p m out seen (on-top seen st e)
   push-again n k o w1 w2 u l =
       let js : j < s = h .inside in
-      push-linked n k w1 w2 (scratch-ring w w1 s p (u .kept)) (λ i a b. u .kept .before i (omega arith)) (λ i q z. u .kept .before (20 * s + 3 * p + i) (omega arith))
-      (u .kept .before (20 * s + 3 * p + j) (omega arith) ∙ o) (ring-again w1 u) l
+      push-linked n k w1 w2 (scratch-ring w w1 s p (u .kept)) (λ i a b. u .kept .low i (omega arith)) (λ i q z. u .kept .low (20 * s + 3 * p + i) (omega arith))
+      (u .kept .low (20 * s + 3 * p + j) (omega arith) ∙ o) (ring-again w1 u) l
 
   pub ring-first : getD w (20 * s + 3 * p + j) 0 ≢ 2 → getD w (20 * s + 3 * p + j) 0 ≢ 1
       → Ring (set w (20 * s + 3 * p + j) 1) (stack-at s p) (s + 1) s (without j (rev (slots st)))

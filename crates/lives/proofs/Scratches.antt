@@ -1,18 +1,17 @@
 -- Changes of marks, list and stack alone; a ring with one sentinel.
-use mathlib.Core.Path.{_≡_, refl, ap, sym, _∙_, subst}
-use mathlib.Core.Logic.{_≢_}
+use mathlib.Core.Path.{_≡_, refl, _∙_}
 use mathlib.Core.List.{List, [], _∷_, _++_}
-use Prim.Native.Nat.{ℕ, zero, suc, _+_, _-_, _*_, _^_, _≤_, _<_}
+use Prim.Native.Nat.{ℕ, _+_, _*_, _^_, _≤_, _<_}
 use native.Mathlib.Omega.{arith}
 use lib.ListN.{length, getD, set, length-set}
-use Rattle.rings.specs.Rings.{nx, pv, Linked, Out, Below, Ring, Kept, CanLink, CanUnlink}
-use Rattle.rings.proofs.Lists.{Same, same, differ, decide}
-use Rattle.rings.proofs.Rings.{on, off, last-below}
+use Rattle.rings.specs.Rings.{nx, pv, Linked, Out, Ring, Kept, CanLink, CanUnlink}
+use Rattle.rings.proofs.Rings.{last-below}
 use Rattle.rings.proofs.Chains.{both}
 use Rattle.definition.specs.Cells.{Mesh}
-use Rattle.cells.specs.Layout.{mesh-end, marks-at, list-at, stack-at, all-end}
+use Rattle.laws.specs.Frames.{off, Under}
+use Rattle.rings.proofs.Families.{near}
+use Rattle.cells.specs.Layout.{mesh-end, stack-at, all-end}
 use Rattle.cells.specs.Rep.{Rep}
-use Rattle.cells.specs.Frames.{Under}
 use Rattle.cells.proofs.Frames.{rep-under}
 use Rattle.lives.specs.Stack.{Scratch}
 
@@ -48,7 +47,7 @@ scratch-above w w' s p e h =
     record { len = e; mesh = λ i a. h i (omega arith); rest = λ i a b. h i (omega arith) }
 
 pub scratch-ring : (w w' : List ℕ) (s p : ℕ) → Kept w w' (stack-at s p) (s + 1) → Scratch w w' s p
-scratch-ring w w' s p k = scratch-above w w' s p (k .len) (λ i a. k .before i a)
+scratch-ring w w' s p k = scratch-above w w' s p (k .len) (λ i a. k .low i a)
 
 pub scratch-under : (w w' : List ℕ) (s p : ℕ) → Scratch w w' s p → Under w w' (mesh-end s p)
 scratch-under w w' s p k = record { len = k .len; low = λ i h. k .mesh i (omega arith) }
@@ -58,19 +57,6 @@ pub scratch-rep : (w w' : List ℕ) (s p : ℕ) (m : Mesh) → Scratch w w' s p 
 scratch-rep w w' s p m k r = rep-under w w' s p (scratch-under w w' s p k) m r
 
 -- ---- the ring
-
--- the neighbours of a code of a ring
-near : (f g : ℕ → ℕ) (n : ℕ) (l : List ℕ) (a z c : ℕ) → Linked f g a l z → a < n → z < n → Below n l → (Out c l → ⊥) → (f c < n) × (g c < n)
-near f g n [] a z c h an zn b i = absurd (i tt)
-near f g n (x ∷ l) a z c h an zn b i = go (decide x c) (λ j. near f g n l x z c (h .2) (b .0) zn (b .1) j)
-  where
-    front : (k : List ℕ) → Linked f g x k z → Below n k → f x < n
-    front [] r q = rw (r .0) zn
-    front (y ∷ k) r q = rw (r .0) (q .0)
-
-    go : Same x c → ((Out c l → ⊥) → (f c < n) × (g c < n)) → (f c < n) × (g c < n)
-    go (same e) r = rw (← e) ((front l (h .2) (b .1), rw (h .1) an))
-    go (differ e) r = r (λ o. i (e, o))
 
 linked-ext : (f g f' g' : ℕ → ℕ) → ((i : ℕ) → f' i ≡ f i) → ((i : ℕ) → g' i ≡ g i) → (l : List ℕ) (a z : ℕ) → Linked f g a l z → Linked f' g' a l z
 linked-ext f g f' g' p q [] a z h = (p a ∙ h .0, q z ∙ h .1)

@@ -1,36 +1,36 @@
 -- One visit, and the visits one after the other.
 use mathlib.Core.Path.{_≡_, refl, ap, sym, _∙_, subst}
 use mathlib.Core.Logic.{_≢_}
-use mathlib.Core.Bool.{Bool, true, false, not, _||_, or-false, false≢true}
-use mathlib.Core.List.{List, [], _∷_, _++_, foldl, foldl-append, append-nil}
-use mathlib.Core.Option.{Option, none, some}
-use Prim.Native.Nat.{ℕ, zero, suc, _+_, _-_, _*_, _/_, _≤_, _<_}
+use mathlib.Core.Bool.{Bool, true, false, not, or-false, false≢true}
+use mathlib.Core.List.{List, [], _∷_, _++_, foldl, foldl-append}
+use mathlib.Core.Option.{none, some}
+use Prim.Native.Nat.{ℕ, zero, suc, _+_, _≤_, _<_}
 use native.Mathlib.Omega.{arith}
 use lib.Dec.{eqb}
 use lib.ListN.{length, getD, length-append}
-use borrow.Author.Tests.{eq-eqb, ne-eqb}
+use borrow.Author.Tests.{ne-eqb}
 use lib.Ieee.{Float}
-use Rattle.rings.specs.Rings.{Distinct, Below, Out}
+use Rattle.rings.specs.Rings.{Out}
 use Rattle.rings.proofs.Lists.{room}
 use Rattle.definition.specs.Floats.{_≺_}
-use Rattle.definition.specs.Lists.{any, filter, flat-map, find}
-use Rattle.definition.specs.Plane.{Node, Edge, flat, dist, from-to}
-use Rattle.definition.specs.Cells.{Tri, Cell, tri, quad, Live, Mesh, new-live, nodes, tri-nodes, edges, tri-edges, key, owners, is-tri, live-tri, in-slot, cell-of, node-at, without}
+use Rattle.definition.specs.Lists.{any, flat-map, find}
+use Rattle.definition.specs.Plane.{Node, flat, dist, from-to}
+use Rattle.definition.specs.Cells.{Tri, Cell, tri, quad, Live, Mesh, new-live, nodes, tri-nodes, edges, tri-edges, key, owners, is-tri, live-tri, in-slot, cell-of, node-at}
 use Rattle.definition.specs.Candidates.{in-reach, neighbours, on-top, live-region-from, seed-stack, live-region}
 use Rattle.definition.specs.Call.{point-at}
-use Rattle.cells.specs.Rep.{Rep, Pts, Has, TriIn, QuadIn, slots}
-use Rattle.cells.specs.Walk.{node-in, IsEdge}
-use Rattle.cells.specs.Frames.{Under}
-use Rattle.cells.proofs.Slots.{ReadTri, rep-held, rep-cell, tri-held, tri-in}
+use Rattle.laws.specs.Frames.{under-sym}
+use Rattle.cells.specs.Rep.{Rep, Pts, Has, TriIn, slots}
+use Rattle.cells.specs.Walk.{IsEdge}
+use Rattle.cells.proofs.Slots.{ReadTri, rep-held, rep-cell, tri-held, slots-length}
 use Rattle.cells.proofs.Fronts.{held-tri}
 use Rattle.cells.specs.Layout.{mesh-end}
-use Rattle.cells.proofs.Frames.{rep-under, under-sym}
+use Rattle.cells.proofs.Frames.{rep-under}
 use Rattle.cells.proofs.Members.{Lookup, absent, present, lookup}
 use Rattle.plane.specs.Points.{Within, node-of}
-use Rattle.lives.specs.Stack.{Inner, Stored, top-or, listed, Scratch, Hold, Met, PushTo, OnTop, CanList, StepTo, StepFrom, LiveTo}
+use Rattle.lives.specs.Stack.{top-or, Scratch, Hold, Met, PushTo, CanList, StepTo, StepFrom, LiveTo}
 use Rattle.lives.specs.Visit.{out-after, stack-after}
-use Rattle.lives.proofs.Lists.{slots-length, listed-out, on-top-hit, on-top-other}
-use Rattle.lives.proofs.Scratches.{scratch-refl, scratch-trans, scratch-under}
+use Rattle.lives.proofs.Lists.{listed-out, on-top-other}
+use Rattle.lives.proofs.Scratches.{scratch-trans, scratch-under}
 use Rattle.lives.proofs.Pushes.{few-out}
 
 -- ---- the triangle in a slot

@@ -1,24 +1,25 @@
 -- The top taken, a slot listed, and the beginning.
-use mathlib.Core.Path.{_≡_, refl, ap, sym, _∙_, subst}
+use mathlib.Core.Path.{_≡_, ap, sym, _∙_, subst}
 use mathlib.Core.Logic.{_≢_}
-use mathlib.Core.Bool.{Bool, true, false, _||_}
+use mathlib.Core.Bool.{false, _||_}
 use mathlib.Core.List.{List, [], _∷_, _++_}
-use Prim.Native.Nat.{ℕ, zero, suc, _+_, _-_, _*_, _/_, _^_, _≤_, _<_}
+use Prim.Native.Nat.{ℕ, zero, _+_, _*_, _≤_, _<_}
 use native.Mathlib.Omega.{arith}
 use lib.Dec.{eqb}
 use lib.ListN.{length, getD, set, length-set, length-append}
 use borrow.Author.Tests.{eq-eqb, ne-eqb}
 use Rattle.rings.specs.Rings.{Out, Ring, without, UnlinkedFrom, CanUnlink}
 use Rattle.rings.proofs.Lists.{Same, same, differ, decide}
-use Rattle.rings.proofs.Rings.{on, off}
 use Rattle.definition.specs.Lists.{any}
 use Rattle.definition.specs.Cells.{Live, Mesh, in-slot}
-use Rattle.cells.specs.Layout.{marks-at, list-at, stack-at, all-end}
+use Rattle.laws.specs.Lists.{stored-kept, stored-snoc}
+use Rattle.laws.specs.Frames.{on, off}
+use Rattle.cells.specs.Layout.{list-at, stack-at, all-end}
 use Rattle.cells.specs.Rep.{Rep, slots}
 use Rattle.cells.proofs.Corners.{out-right, slots-append}
-use Rattle.cells.proofs.Slots.{rep-held}
+use Rattle.cells.proofs.Slots.{rep-held, slots-length}
 use Rattle.lives.specs.Stack.{rev, listed, mark, top-or, Scratch, Hold, PushTo, OnTop, CanList, Unmarked}
-use Rattle.lives.proofs.Lists.{out-unrev, distinct-last, without-last, stored-kept, stored-snoc, slots-length, listed-out, inner-snoc, fresh-more}
+use Rattle.lives.proofs.Lists.{out-unrev, distinct-last, without-last, listed-out, inner-snoc, fresh-more}
 use Rattle.lives.proofs.Scratches.{scratch-trans, scratch-mark, scratch-list, scratch-above, scratch-ring, scratch-rep, ring-set, can-unlink-in, ring-last}
 use Rattle.lives.proofs.Pushes.{few-out}
 
@@ -40,7 +41,7 @@ module _ (w : List ℕ) (s p i : ℕ) (m : Mesh) (out seen st : List Live) (x : 
 
     low : (k : ℕ) → k < stack-at s p → k ≢ 20 * s + 3 * p + i → getD w2 k 0 ≡ getD w k 0
     unfolding w2
-    low k a b = off w1 (20 * s + 3 * p + i) 2 k b ∙ u .kept .before k a
+    low k a b = off w1 (20 * s + 3 * p + i) 2 k b ∙ u .kept .low k a
 
     sc : Scratch w w2 s p
     unfolding w2

@@ -1,12 +1,11 @@
 -- The owners of an edge pushed one after the other.
 use mathlib.Core.Path.{_≡_, refl, ap, sym, _∙_, subst}
-use mathlib.Core.List.{List, [], _∷_, _++_, foldl}
-use Prim.Native.Nat.{ℕ, zero, suc, _+_, _-_, _*_, _/_, _≤_, _<_}
+use mathlib.Core.List.{List, foldl}
+use Prim.Native.Nat.{ℕ, _*_, _/_, _≤_, _<_}
 use native.Mathlib.Omega.{arith}
-use lib.ListN.{length, getD}
 use Rattle.definition.specs.Cells.{Live, Mesh, key, owners}
 use Rattle.definition.specs.Candidates.{on-top}
-use Rattle.cells.specs.Rep.{Has, here, there, Rep}
+use Rattle.cells.specs.Rep.{Has, here, there}
 use Rattle.cells.specs.Walk.{At, Next, left}
 use Rattle.cells.proofs.Owners.{Here, at-here, at-end}
 use Rattle.cells.proofs.Frames.{at-under, left-under}

@@ -2,19 +2,15 @@
 use mathlib.Core.Path.{_≡_}
 use mathlib.Core.Bool.{Bool, true, false}
 use mathlib.Core.List.{List, [], _∷_, _++_}
-use Prim.Native.Nat.{ℕ, suc, _+_, _*_, _^_, _<_, _≤_}
+use Prim.Native.Nat.{ℕ, _+_, _^_, _<_, _≤_}
 use lib.ListN.{length, getD}
 use lib.Ieee.{Float}
 use Rattle.rings.specs.Rings.{Distinct, Below, Ring}
 use Rattle.definition.specs.Lists.{any}
 use Rattle.definition.specs.Cells.{Live, Mesh, live-tri, in-slot}
+use Rattle.laws.specs.Lists.{Stored}
 use Rattle.cells.specs.Layout.{codes, marks-at, list-at, refused-at, stack-at, all-end}
 use Rattle.cells.specs.Rep.{Rep, Pts, Has, slots}
-
--- the numbers of l stand from b on
-abbrev pub Stored : List ℕ → ℕ → List ℕ → Type 0
-Stored w b [] = Unit {0}
-Stored w b (x ∷ l) = (getD w b 0 ≡ x) × Stored w (b + 1) l
 
 -- each is a live triangle
 abbrev pub Inner : Mesh → List Live → Type 0

@@ -10,9 +10,10 @@ use lib.Dec.{eqb}
 use lib.ListN.{length, getD, set, length-set}
 use borrow.Author.Tests.{eq-eqb, ne-eqb}
 use Rattle.rings.proofs.Lists.{Same, same, differ, decide}
-use Rattle.rings.proofs.Rings.{on, off}
 use Rattle.definition.specs.Plane.{Edge}
 use Rattle.definition.specs.Cells.{touches}
+use Rattle.laws.specs.Frames.{on, off}
+use Rattle.laws.specs.Numbers.{later}
 use Rattle.cells.specs.Layout.{front-u-at, front-v-at, front-links-at, front-used-at, heads-at}
 use Rattle.cells.specs.Rep.{Room}
 use Rattle.edges.specs.Stored.{edge-in}
@@ -170,10 +171,7 @@ module _ (w w' : List ℕ) (s p n k : ℕ) (es : List Edge) (i m : ℕ) (g : Lin
         ∙ ap (λ (z : ℕ). seek es (edge-of es z .0) (suc z) m) (sym q) ∙ ap (seek es (edge-of es x .0) (suc x)) (sym y)
     firsts-on x l a b (differ q) =
         j .links (2 * x) (omega (arith, g .sum, g .front .at .few)) (λ z. q (omega (arith, z))) (λ z. q (omega (arith, z)))
-        ∙ g .lists .firsts x l (later x a q) (omega arith)
-      where
-        later : (x : ℕ) → i ≤ x → x ≢ i → i + 1 ≤ x
-        later x a q = omega arith
+        ∙ g .lists .firsts x l (later i x a q) (omega arith)
 
     seconds-on : (x l : ℕ) → i ≤ x → x + suc l ≡ i + suc m → Same x i → getD w' (front-links-at s p + (2 * x + 1)) 0 ≡ seek es (edge-of es x .1) (suc x) l
     seconds-on x l a b (same q) =
@@ -183,10 +181,7 @@ module _ (w w' : List ℕ) (s p n k : ℕ) (es : List Edge) (i m : ℕ) (g : Lin
         ∙ ap (λ (z : ℕ). seek es (edge-of es z .1) (suc z) m) (sym q) ∙ ap (seek es (edge-of es x .1) (suc x)) (sym y)
     seconds-on x l a b (differ q) =
         j .links (2 * x + 1) (omega (arith, g .sum, g .front .at .few)) (λ z. q (omega (arith, z))) (λ z. q (omega (arith, z)))
-        ∙ g .lists .seconds x l (later x a q) (omega arith)
-      where
-        later : (x : ℕ) → i ≤ x → x ≢ i → i + 1 ≤ x
-        later x a q = omega arith
+        ∙ g .lists .seconds x l (later i x a q) (omega arith)
 
     pub link-to : LinkTo w w' s p n k es i (suc m)
     link-to =

@@ -1,7 +1,7 @@
 -- Lists of edges: tests that hold for none, edges known and none twice, the others than an edge.
 use mathlib.Core.Path.{_≡_, refl, ap, sym, _∙_}
 use mathlib.Core.Logic.{_≢_}
-use mathlib.Core.Bool.{Bool, true, false, _&&_, _||_, false≢true}
+use mathlib.Core.Bool.{Bool, true, false, _&&_, false≢true}
 use mathlib.Core.List.{List, [], _∷_, _++_}
 use mathlib.Core.Option.{none, some}
 use Prim.Native.Nat.{ℕ, zero, suc, _≤_, _<_}
@@ -14,22 +14,11 @@ use Rattle.definition.specs.Lists.{any, filter, find, flat-map, concat}
 use Rattle.definition.specs.Plane.{Edge}
 use Rattle.definition.specs.Cells.{same-edge, has-edge-in}
 use Rattle.definition.specs.Loops.{without-edge}
+use Rattle.laws.specs.Bools.{none-left, none-right}
 use Rattle.edges.specs.Stored.{Edges}
 use Rattle.loops.specs.Trace.{edge-of}
 
 -- ---- tests
-
-pub or-left : (x y : Bool) → (x || y) ≡ false → x ≡ false
-or-left true y h = h
-or-left false y h = refl
-
-pub or-right : (x y : Bool) → (x || y) ≡ false → y ≡ false
-or-right true y h = absurd (false≢true (sym h))
-or-right false y h = h
-
-pub same-self : (e : Edge) → same-edge e e ≡ true
-unfolding same-edge
-same-self e = rw (eq-eqb (e .0) (e .0) refl, eq-eqb (e .1) (e .1) refl)
 
 pub same-turn : (e f : Edge) → same-edge e f ≡ false → same-edge f e ≡ false
 unfolding same-edge
@@ -43,13 +32,13 @@ same-turn e f h = go (decide (e .0) (f .0)) (decide (e .1) (f .1))
 pub any-at : (q : Edge → Bool) (l : List Edge) (j : ℕ) → any q l ≡ false → j < length l → q (edge-of l j) ≡ false
 unfolding any
 any-at q [] j h k = absurd (omega (arith, k))
-any-at q (e ∷ l) zero h k = or-left (q e) (any q l) h
-any-at q (e ∷ l) (suc j) h k = any-at q l j (or-right (q e) (any q l) h) (omega arith)
+any-at q (e ∷ l) zero h k = none-left (q e) (any q l) h
+any-at q (e ∷ l) (suc j) h k = any-at q l j (none-right (q e) (any q l) h) (omega arith)
 
 any-snoc : (q : Edge → Bool) (l : List Edge) (e : Edge) → any q l ≡ false → q e ≡ false → any q (l ++ e ∷ []) ≡ false
 unfolding any
 any-snoc q [] e h k = rw k
-any-snoc q (f ∷ l) e h k = rw (or-left (q f) (any q l) h) (any-snoc q l e (or-right (q f) (any q l) h) k)
+any-snoc q (f ∷ l) e h k = rw (none-left (q f) (any q l) h) (any-snoc q l e (none-right (q f) (any q l) h) k)
 
 -- ---- edges known and none twice
 
@@ -101,8 +90,8 @@ edges-snoc n [] e h a b c = (a, b, refl, tt)
 edges-snoc n (f ∷ l) e h a b c = (
   h .0,
   h .1,
-  any-snoc (same-edge f) l e (h .2) (same-turn e f (or-left (same-edge e f) (any (same-edge e) l) c)),
-  edges-snoc n l e (h .3) a b (or-right (same-edge e f) (any (same-edge e) l) c),
+  any-snoc (same-edge f) l e (h .2) (same-turn e f (none-left (same-edge e f) (any (same-edge e) l) c)),
+  edges-snoc n l e (h .3) a b (none-right (same-edge e f) (any (same-edge e) l) c),
 )
 
 -- ---- the others than an edge
@@ -170,10 +159,6 @@ pub concat-snoc : (ls : List (List Edge)) (l : List Edge) → concat (ls ++ l �
 unfolding concat flat-map
 concat-snoc [] l = append-none l
 concat-snoc (k ∷ ls) l = ap (λ (z : List Edge). k ++ z) (concat-snoc ls l) ∙ sym (append-same k (concat ls) l)
-
-pub concat-cons : (l : List Edge) (ls : List (List Edge)) → concat (l ∷ ls) ≡ l ++ concat ls
-unfolding concat flat-map
-concat-cons l ls = refl
 
 pub concat-none : concat {A = Edge} [] ≡ []
 unfolding concat flat-map

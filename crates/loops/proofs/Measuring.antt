@@ -13,12 +13,14 @@ use Rattle.definition.specs.Plane.{Node, Edge, dist, edge-length}
 use Rattle.definition.specs.Cells.{Mesh}
 use Rattle.definition.specs.Call.{point-at, first-points}
 use Rattle.definition.specs.Loops.{loop-perimeter}
+use Rattle.laws.specs.Lists.{concat-cons}
+use Rattle.edges.specs.Laws.{edges-right, loops-few}
 use Rattle.plane.specs.Points.{Within, edge-length-of}
 use Rattle.cells.specs.Layout.{front-u-at, front-v-at, order-at, starts-at, perimeters-at}
 use Rattle.edges.specs.Stored.{Edges, edge-in, edge-on, edges-on, LoopsAt, Perimeters}
 use Rattle.loops.specs.Loop.{CanMeasure}
 use Rattle.loops.specs.Span.{OnPlace, Known, OnPlaces, CanEnd, EndTo}
-use Rattle.loops.proofs.Lists.{append-none, append-same, concat-cons, concat-none}
+use Rattle.loops.proofs.Lists.{append-none, append-same, concat-none}
 
 -- ---- one edge
 
@@ -110,20 +112,9 @@ next-place w q s p b e i sum m l o h x =
 
 -- ---- all loops
 
--- no loop is empty
-pub loops-few : (w : List ℕ) (s p j b : ℕ) (ls : List (List Edge)) → LoopsAt w s p j b ls → length ls ≤ length (concat ls)
-loops-few w s p j b [] h = omega arith
-loops-few w s p j b (l ∷ ls) h =
-    let z : length (concat (l ∷ ls)) ≡ length l + length (concat ls) = ap length (concat-cons l ls) ∙ length-append l (concat ls) in
-    omega (arith, loops-few w s p (suc j) (b + length l) ls (h .3), h .2, z)
-
 known-left : (n : ℕ) (l k : List Edge) → Edges n (l ++ k) → Known n l
 known-left n [] k h = tt
 known-left n (e ∷ l) k h = (omega (arith, h .0, h .1), h .1, known-left n l k (h .3))
-
-pub edges-right : (n : ℕ) (l k : List Edge) → Edges n (l ++ k) → Edges n k
-edges-right n [] k h = h
-edges-right n (e ∷ l) k h = edges-right n l k (h .3)
 
 perimeters-kept : (f : List Float) (x : ℕ) (v : Float) (s p : ℕ) (ps : List Node) (j : ℕ) (ls : List (List Edge)) → j + length ls ≤ x → Perimeters f s p ps j ls → Perimeters (set f x v) s p ps j ls
 perimeters-kept f x v s p ps j [] h g = tt

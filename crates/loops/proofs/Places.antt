@@ -10,10 +10,10 @@ use lib.Dec.{eqb}
 use lib.ListN.{length, getD, set, length-set}
 use borrow.Author.Tests.{ne-eqb}
 use Rattle.rings.proofs.Lists.{Same, same, differ, decide}
-use Rattle.rings.proofs.Rings.{on, off}
 use Rattle.definition.specs.Lists.{any}
 use Rattle.definition.specs.Plane.{Edge}
 use Rattle.definition.specs.Cells.{same-edge, has-edge-in}
+use Rattle.laws.specs.Frames.{on, off}
 use Rattle.cells.specs.Layout.{front-u-at, front-v-at, front-links-at, front-used-at, order-at, starts-at, heads-at}
 use Rattle.cells.specs.Rep.{Room}
 use Rattle.edges.specs.Stored.{edge-in, edge-on, edges-on}

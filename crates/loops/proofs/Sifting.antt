@@ -12,27 +12,20 @@ use Rattle.rings.proofs.Lists.{Same, same, differ, decide}
 use Rattle.definition.specs.Lists.{any, filter, concat}
 use Rattle.definition.specs.Plane.{Edge}
 use Rattle.definition.specs.Cells.{same-edge, has-edge-in}
+use Rattle.laws.specs.Bools.{none-left, none-right}
+use Rattle.laws.specs.Lists.{concat-cons, concat-length}
+use Rattle.laws.specs.Cells.{same-ends}
+use Rattle.laws.specs.Frames.{only-refl, only-trans}
+use Rattle.edges.specs.Laws.{edges-right, loops-few}
 use Rattle.blocks.specs.Records.{IsEdge}
 use Rattle.blocks.proofs.Framing.{framed}
-use Rattle.cells.specs.Layout.{refused-at, front-u-at, front-v-at, order-at, starts-at}
+use Rattle.cells.specs.Layout.{refused-at, front-u-at, front-v-at, order-at, starts-at, done-at}
 use Rattle.edges.specs.Stored.{Edges, edge-on, edges-on, LoopsAt}
 use Rattle.loops.specs.Span.{CanEnd, EndTo}
 use Rattle.loops.specs.Sift.{some-open, CanSift, SiftedTo}
 use Rattle.loops.specs.Keep.{Open, OpenLoop, Moved, CanKeep, KeepTo, Sifting, kept-with, LoopsOnly, SiftTo}
-use Rattle.loops.proofs.Lists.{or-left, or-right, append-none, append-same, concat-snoc, concat-cons, concat-none}
-use Rattle.loops.proofs.Measuring.{loops-few, edges-right}
+use Rattle.loops.proofs.Lists.{append-none, append-same, concat-snoc, concat-none}
 use Rattle.loops.proofs.Tracing.{loops-kept, loops-last}
-
-pair : {a b c d : ℕ} → a ≡ b → c ≡ d → _≡_ {A = Edge} (a, c) (b, d)
-pair x y = cc
-
-pub not-true : (x : Bool) → not x ≡ true → x ≡ false
-not-true true e = sym e
-not-true false e = refl
-
-pub not-false : (x : Bool) → not x ≡ false → x ≡ true
-not-false true e = refl
-not-false false e = sym e
 
 -- ---- one edge
 
@@ -42,7 +35,7 @@ module _ (w : List ℕ) (s p i : ℕ) (bl : List Edge) (h : Open w s p i (i + 1)
 
   module _ (u v : ℕ) (qu : u ≡ getD w (front-u-at s p + c) 0) (qv : v ≡ getD w (front-v-at s p + c) 0) where
     read-is : _≡_ {A = Edge} (u, v) (edge-on w s p i)
-    read-is = pair (qu ∙ ap (λ (z : ℕ). getD w (front-u-at s p + z) 0) qc) (qv ∙ ap (λ (z : ℕ). getD w (front-v-at s p + z) 0) qc)
+    read-is = same-ends (qu ∙ ap (λ (z : ℕ). getD w (front-u-at s p + z) 0) qc) (qv ∙ ap (λ (z : ℕ). getD w (front-v-at s p + z) 0) qc)
 
     pub read-edge : IsEdge p (u, v)
     read-edge = subst (IsEdge p) (sym read-is) (h .each i (omega arith) (omega arith))
@@ -183,7 +176,7 @@ same-at : (w w' : List ℕ) (s p : ℕ) → ((i : ℕ) → i < order-at s p → 
     → getD w (order-at s p + j) 0 < 3 * s → edge-on w' s p i ≡ edge-on w s p j
 same-at w w' s p h i j e f =
     let c = getD w (order-at s p + j) 0 in
-    pair (ap (λ (z : ℕ). getD w' (front-u-at s p + z) 0) e ∙ h (front-u-at s p + c) (omega arith)) (ap (λ (z : ℕ). getD w' (front-v-at s p + z) 0) e ∙ h (front-v-at s p + c) (omega arith))
+    same-ends (ap (λ (z : ℕ). getD w' (front-u-at s p + z) 0) e ∙ h (front-u-at s p + c) (omega arith)) (ap (λ (z : ℕ). getD w' (front-v-at s p + z) 0) e ∙ h (front-v-at s p + c) (omega arith))
 
 edges-moved : (w w' : List ℕ) (s p t b n : ℕ) → ((i : ℕ) → i < n → edge-on w' s p (t + i) ≡ edge-on w s p (b + i)) → edges-on w' s p t n ≡ edges-on w s p b n
 edges-moved w w' s p t b zero h = refl
@@ -204,13 +197,6 @@ edges-moved w w' s p t b (suc n) h =
         let v : b + suc i ≡ suc b + i = omega arith in
         ap (edge-on w' s p) u ∙ q ∙ ap (edge-on w s p) v
 
-only-refl : (w : List ℕ) (s p : ℕ) → LoopsOnly w w s p
-only-refl w s p = record { len = refl; below = λ i h. refl; above = λ i h. refl }
-
-only-both : (w w' w'' : List ℕ) (s p : ℕ) → LoopsOnly w w' s p → LoopsOnly w' w'' s p → LoopsOnly w w'' s p
-only-both w w' w'' s p g h =
-    record { len = h .len ∙ g .len; below = λ i l. h .below i l ∙ g .below i l; above = λ i l. h .above i l ∙ g .above i l }
-
 with-off : (bl : List Edge) (kept : List (List Edge)) (l : List Edge) → some-open bl l ≡ false → kept-with bl kept l ≡ kept
 unfolding kept-with
 with-off bl kept l h = rw h refl
@@ -220,11 +206,8 @@ unfolding kept-with
 with-on bl kept l h = rw h refl
 
 module _ (w : List ℕ) (s p n k r j x y : ℕ) (kept : List (List Edge)) (l : List Edge) (rest : List (List Edge)) (bl : List Edge) (g : Sifting w s p n k r j x y kept (l ∷ rest) bl) where
-  more : length (concat (l ∷ rest)) ≡ length l + length (concat rest)
-  more = ap length (concat-cons l rest) ∙ length-append l (concat rest)
-
   reach : g .b + length l + length (concat rest) ≡ k
-  reach = let m = more in omega (arith, m, g .total)
+  reach = let m = concat-length l rest in omega (arith, m, g .total)
 
   pub sift-inside : j < r
   sift-inside = omega (arith, g .count)
@@ -285,7 +268,7 @@ module _ (w : List ℕ) (s p n k r j x y : ℕ) (kept : List (List Edge)) (l : L
     pub sift-off : some-open bl l ≡ false → SiftTo w w s p n k r j x y kept l rest bl
     sift-off h =
         record {
-          only = only-refl w s p;
+          only = only-refl w (order-at s p) (done-at s p);
           sifting = subst (λ (z : List (List Edge)). Sifting w s p n k r (j + 1) x y z rest bl) (sym (with-off bl kept l h)) (record {
             room = g .room;
             nodes = g .nodes;
@@ -351,7 +334,7 @@ module _ (w : List ℕ) (s p n k r j x y : ℕ) (kept : List (List Edge)) (l : L
       pub sift-on : some-open bl l ≡ true → SiftTo w w' s p n k r j x' y' kept l rest bl
       sift-on h =
           record {
-            only = record { len = t .len; below = under; above = λ i u. t .high i (omega (arith, u, grown, g .down, reach, g .few)) (λ z. omega (arith, u, z, g .behind, sift-inside, g .fits)) };
+            only = record { len = t .len; low = under; high = λ i u. t .high i (omega (arith, u, grown, g .down, reach, g .few)) (λ z. omega (arith, u, z, g .behind, sift-inside, g .fits)) };
             sifting = subst (λ (z : List (List Edge)). Sifting w' s p n k r (j + 1) x' y' z rest bl) (sym (with-on bl kept l h)) (record {
               room = record { fits = omega (arith, t .len, g .room .fits); small = g .room .small };
               nodes = g .nodes;
@@ -370,7 +353,7 @@ module _ (w : List ℕ) (s p n k r j x y : ℕ) (kept : List (List Edge)) (l : L
               back = subst (λ (z : ℕ). LoopsAt w' s p z (g .b + length l) rest) (sym (add-one j)) new-back;
               quads = g .quads;
               ever = g .ever;
-              blocks = framed w w' (refused-at s p) (3 * s) p (g .quads) (g .ever) bl (record { len = t .len; inside = λ i u v. under i (omega (arith, v)) }) (g .blocks);
+              blocks = framed w w' (refused-at s p) (3 * s) p (g .quads) (g .ever) bl (record { len = t .len; same = λ i u v. under i (omega (arith, v)) }) (g .blocks);
             });
           }
 
@@ -392,12 +375,12 @@ filter-off q l ls h = rw h refl
 any-after : (t : Edge → Bool) (l k : List Edge) → any t (l ++ k) ≡ false → any t k ≡ false
 unfolding any
 any-after t [] k h = h
-any-after t (e ∷ l) k h = any-after t l k (or-right (t e) (any t (l ++ k)) h)
+any-after t (e ∷ l) k h = any-after t l k (none-right (t e) (any t (l ++ k)) h)
 
 any-part : (t : Edge → Bool) (l k k' : List Edge) → (any t k ≡ false → any t k' ≡ false) → any t (l ++ k) ≡ false → any t (l ++ k') ≡ false
 unfolding any
 any-part t [] k k' f h = f h
-any-part t (e ∷ l) k k' f h = rw (or-left (t e) (any t (l ++ k)) h) (any-part t l k k' f (or-right (t e) (any t (l ++ k)) h))
+any-part t (e ∷ l) k k' f h = rw (none-left (t e) (any t (l ++ k)) h) (any-part t l k k' f (none-right (t e) (any t (l ++ k)) h))
 
 any-fewer : (t : Edge → Bool) (q : List Edge → Bool) (ls : List (List Edge)) → any t (concat ls) ≡ false → any t (concat (filter q ls)) ≡ false
 any-fewer t q [] h = ap (λ (z : List (List Edge)). any t (concat z)) (filter-none q) ∙ h
@@ -442,7 +425,7 @@ sofar-start w s p n k r ls bl h =
     record {
       kept = [];
       rest = ls;
-      only = only-refl w s p;
+      only = only-refl w (order-at s p) (done-at s p);
       sifting = record {
         room = h .room;
         nodes = h .nodes;
@@ -486,8 +469,8 @@ module _ (w₀ w : List ℕ) (s p n k r j x y : ℕ) (ls : List (List Edge)) (bl
               at = subst (LoopsAt w s p 0 0) e (f .front);
             };
             len = g .only .len;
-            below = g .only .below;
-            above = g .only .above;
+            below = g .only .low;
+            above = g .only .high;
           }
       go (l ∷ v) z = absurd (omega (arith, ap length z, g .sifting .count, h))
 
@@ -522,7 +505,7 @@ module _ (w₀ w : List ℕ) (s p n k r j x y : ℕ) (ls : List (List Edge)) (bl
                 record {
                   kept = kept-with bl (g .kept) l;
                   rest = v;
-                  only = only-both w₀ w w' s p (g .only) (t .only);
+                  only = only-trans w₀ w w' (order-at s p) (done-at s p) (g .only) (t .only);
                   sifting = t .sifting;
                   all = passed l v z (some-open bl l) refl;
                 };

@@ -6,14 +6,16 @@ use Prim.Native.Nat.{ℕ, suc, _+_, _*_, _≤_, _<_}
 use native.Mathlib.Omega.{arith}
 use lib.Dec.{eqb}
 use lib.ListN.{length, getD, set, length-set, length-append}
-use Rattle.rings.proofs.Rings.{on, off}
 use Rattle.definition.specs.Lists.{concat, flat-map}
 use Rattle.definition.specs.Plane.{Edge}
 use Rattle.definition.specs.Loops.{walk, without-edge}
+use Rattle.laws.specs.Lists.{concat-cons}
+use Rattle.laws.specs.Cells.{same-self}
+use Rattle.laws.specs.Frames.{on, off}
 use Rattle.cells.specs.Layout.{front-u-at, front-v-at, front-links-at, front-used-at, order-at, starts-at, heads-at}
 use Rattle.edges.specs.Stored.{edge-in, edge-on, edges-on, LoopsAt}
 use Rattle.loops.specs.Trace.{edge-of, fresh, unused, Placed, CanPlace, PlaceTo, CanWalk, WalkTo, CanTrace, walk-of, TraceTo}
-use Rattle.loops.proofs.Lists.{edge-known, same-self, drop-it, without-all, concat-snoc, concat-cons, cancel}
+use Rattle.loops.proofs.Lists.{edge-known, drop-it, without-all, concat-snoc, cancel}
 use Rattle.loops.proofs.Unused.{unused-same}
 use Rattle.loops.proofs.Places.{edges-same, edges-many, edges-parts, ready-kept, place-room}
 

@@ -13,9 +13,10 @@ use Rattle.definition.specs.Lists.{find}
 use Rattle.definition.specs.Plane.{Edge}
 use Rattle.definition.specs.Cells.{same-edge, touches}
 use Rattle.definition.specs.Loops.{without-edge}
+use Rattle.laws.specs.Cells.{same-self}
 use Rattle.edges.specs.Stored.{Edges}
 use Rattle.loops.specs.Trace.{edge-of, fresh, unused, seek, Found}
-use Rattle.loops.proofs.Lists.{same-self, apart, drop-it, keep-it, without-nil, append-same, find-hit, find-miss, find-none}
+use Rattle.loops.proofs.Lists.{apart, drop-it, keep-it, without-nil, append-same, find-hit, find-miss, find-none}
 
 -- ---- one edge
 

@@ -7,6 +7,7 @@ use Prim.Native.Nat.{ℕ, _+_, _*_, _<_, _≤_}
 use lib.ListN.{length, getD}
 use Rattle.definition.specs.Lists.{concat}
 use Rattle.definition.specs.Plane.{Edge}
+use Rattle.laws.specs.Frames.{Only}
 use Rattle.blocks.specs.Records.{IsEdge}
 use Rattle.blocks.specs.Blocks.{Blocks}
 use Rattle.cells.specs.Layout.{refused-at, order-at, starts-at, done-at}
@@ -87,10 +88,8 @@ unfoldable pub kept-with : List Edge → List (List Edge) → List Edge → List
 kept-with bl kept l = cond (some-open bl l) (kept ++ l ∷ []) kept
 
 -- only the order of the edges and the starts of the loops may have changed
-pub record LoopsOnly (w w' : List ℕ) (s p : ℕ) : Type 0 where
-  pub len : length w' ≡ length w
-  pub below : (i : ℕ) → i < order-at s p → getD w' i 0 ≡ getD w i 0
-  pub above : (i : ℕ) → done-at s p ≤ i → getD w' i 0 ≡ getD w i 0
+abbrev pub LoopsOnly : List ℕ → List ℕ → ℕ → ℕ → Type 0
+LoopsOnly w w' s p = Only w w' (order-at s p) (done-at s p)
 
 -- loop j, which is l, is kept or not
 pub record SiftTo (w w' : List ℕ) (s p n k r j x y : ℕ) (kept : List (List Edge)) (l : List Edge) (rest : List (List Edge)) (bl : List Edge) : Type 0 where

@@ -1,7 +1,6 @@
 -- A call that none of 1 to 7 refuses has all that its run asks.
 use mathlib.Core.Path.{_≡_, refl, ap, sym, _∙_, subst}
 use mathlib.Core.List.{List, [], _∷_}
-use mathlib.Core.Option.{none}
 use Prim.Native.Nat.{ℕ, suc, _+_, _*_, _<_}
 use native.Mathlib.Omega.{arith}
 use lib.ListN.{length, getD}
@@ -11,9 +10,9 @@ use Rattle.definition.specs.Numbers.{max-attempts}
 use Rattle.definition.specs.Cells.{Tri, tri, Mesh, new-live, nodes, tri-nodes, new-tri, live-tri, is-tri, live-tris}
 use Rattle.definition.specs.Front.{State, Progress, stuck, progressed, limited, stopped, in-slots, new-mesh, start, front-loop}
 use Rattle.definition.specs.Call.{Asked, Lent, tri-at, first-points, given-points, given-tris, bad-size, settings}
+use Rattle.laws.specs.Lists.{all-from}
 use Rattle.rules.specs.declared.Rules.{Rules}
 use Rattle.rules.specs.Settings.{settings-of}
-use Rattle.account.specs.Lists.{all-from}
 use Rattle.account.specs.Finished.{sized, given-proper, given-within, points-number, tris-number}
 use Rattle.cells.specs.Rep.{Shape, Rep, Pts}
 use Rattle.cells.specs.declared.counters.Counters.{Counters}

@@ -1,28 +1,28 @@
 -- The mesh of the given triangles: empty rings, then triangle after triangle.
-use mathlib.Core.Path.{_≡_, refl, ap, sym, _∙_, subst}
-use mathlib.Core.Logic.{_≢_}
+use mathlib.Core.Path.{_≡_, refl, ap, sym, _∙_}
 use mathlib.Core.List.{List, [], _∷_, _++_}
-use Prim.Native.Nat.{ℕ, zero, suc, _+_, _-_, _*_, _≤_, _<_}
+use Prim.Native.Nat.{ℕ, zero, suc, _+_, _*_, _<_}
 use native.Mathlib.Numerals.{add-one}
 use native.Mathlib.Omega.{arith}
-use lib.ListN.{length, getD, length-append}
+use lib.ListN.{length, getD}
 use lib.Ieee.{Float}
-use Rattle.rings.specs.Rings.{Out, Distinct, Family, OpenedFrom, CanOpen}
+use Rattle.rings.specs.Rings.{OpenedFrom}
 use Rattle.rings.proofs.Families.{opened}
 use Rattle.definition.specs.Floats.{0·0}
 use Rattle.definition.specs.Lists.{table, numbers, below}
 use Rattle.definition.specs.Numbers.{Settings}
-use Rattle.definition.specs.Plane.{Node}
-use Rattle.definition.specs.Cells.{Tri, Cell, tri, Live, Mesh, new-live, new-tri, with-live, push-cell}
+use Rattle.definition.specs.Cells.{Tri, Cell, tri, Live, Mesh, new-live, with-live, push-cell}
 use Rattle.definition.specs.Call.{tri-at, first-tris, first-points}
 use Rattle.definition.specs.Front.{in-slots, new-mesh}
+use Rattle.laws.specs.Lists.{table-length, numbers-length, numbers-snoc}
+use Rattle.laws.specs.Cells.{points-length}
+use Rattle.laws.specs.Frames.{Zeros, keeps-trans, keeps-more}
 use Rattle.cells.specs.Layout.{rings-at, codes, notes-at, even-at, mesh-end}
-use Rattle.cells.specs.Rep.{Shape, Cells, slots, corners, Room, Rep}
+use Rattle.cells.specs.Rep.{slots, corners, Room, Rep}
 use Rattle.meshes.specs.Changes.{CanPush, Turns, tri-of-nodes}
-use Rattle.meshes.specs.Build.{Given, IsNew, Builds, CanBuild, Empties}
-use Rattle.cells.specs.Frames.{Keeps, Zeros}
-use Rattle.cells.proofs.Points.{numbers-snoc, table-snoc}
-use Rattle.cells.proofs.Frames.{rep-as, keeps-trans, keeps-more, keeps-kept}
+use Rattle.meshes.specs.Build.{IsNew, CanBuild, Empties}
+use Rattle.cells.proofs.Points.{table-snoc}
+use Rattle.cells.proofs.Frames.{rep-as, keeps-kept}
 use Rattle.cells.proofs.Notes.{note-none, grown-same}
 
 -- ---- empty
@@ -41,32 +41,18 @@ empty-done w w1 w2 s p b eb r z o =
             distinct = rw e tt;
             cells = rw e tt;
             rings = rw e (opened w1 w2 (rings-at s) (codes s p) (4 * s) (record { fits = omega (arith, r .fits); small = r .small; first = omega arith }) o);
-            dead = λ i h out. o .kept .before i (omega arith) ∙ z .zero i (omega arith);
-            notes = λ v h. note-none w2 s p m v (o .kept .after (notes-at s p + v) (omega arith) ∙ z .zero (notes-at s p + v) (omega arith));
-            even = λ h q. absurd (omega (arith, q, o .kept .after (even-at s p) (omega arith), z .zero (even-at s p) (omega arith)));
+            dead = λ i h out. o .kept .low i (omega arith) ∙ z .zero i (omega arith);
+            notes = λ v h. note-none w2 s p m v (o .kept .high (notes-at s p + v) (omega arith) ∙ z .zero (notes-at s p + v) (omega arith));
+            even = λ h q. absurd (omega (arith, q, o .kept .high (even-at s p) (omega arith), z .zero (even-at s p) (omega arith)));
           };
       keeps = keeps-trans w w1 w2 (mesh-end s p) (keeps-more w w1 b (mesh-end s p) (omega arith) (z .keeps)) (keeps-kept w1 w2 (rings-at s) (codes s p) (mesh-end s p) (omega arith) (o .kept));
     }
 
 -- ---- the lists
 
-numbers-length : (a n : ℕ) → length (numbers a n) ≡ n
-unfolding numbers
-numbers-length a zero = refl
-numbers-length a (suc n) = ap suc (numbers-length (suc a) n)
-
-table-length : {B : Type 0} (f : ℕ → B) (l : List ℕ) → length (table f l) ≡ length l
-unfolding table
-table-length f [] = refl
-table-length f (y ∷ l) = ap suc (table-length f l)
-
 pub tris-length : (n : ℕ) (xs : List ℕ) → length (first-tris n xs) ≡ n
 unfolding first-tris below
 tris-length n xs = table-length (tri-at xs) (numbers 0 n) ∙ numbers-length 0 n
-
-pub points-length : (n : ℕ) (q : List Float) → length (first-points n q) ≡ n
-unfolding first-points below
-points-length n q = table-length _ (numbers 0 n) ∙ numbers-length 0 n
 
 tris-snoc : (n : ℕ) (xs : List ℕ) → first-tris (suc n) xs ≡ first-tris n xs ++ tri-at xs n ∷ []
 unfolding first-tris below

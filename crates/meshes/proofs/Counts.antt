@@ -1,20 +1,19 @@
 -- How the number of live triangles changes.
-use mathlib.Core.Path.{_≡_, refl, ap, sym, _∙_, subst}
+use mathlib.Core.Path.{_≡_, refl, ap, sym, _∙_}
 use mathlib.Core.Logic.{_≢_}
-use mathlib.Core.Bool.{Bool, true, false, cond}
+use mathlib.Core.Bool.{Bool, true, false}
 use mathlib.Core.List.{List, [], _∷_, _++_}
-use Prim.Native.Nat.{ℕ, zero, suc, _+_, _-_, _*_, _≤_, _<_}
+use Prim.Native.Nat.{ℕ, _+_, _≤_}
 use native.Mathlib.Omega.{arith}
-use lib.ListN.{length, length-append}
-use Rattle.rings.specs.Rings.{Out, Distinct, Below}
-use Rattle.rings.proofs.Lists.{Same, same, differ, decide, room}
+use lib.ListN.{length}
+use Rattle.rings.specs.Rings.{Out, Distinct}
+use Rattle.rings.proofs.Lists.{room}
 use Rattle.definition.specs.Lists.{filter}
-use Rattle.definition.specs.Cells.{Tri, Cell, tri, quad, Live, Mesh, new-live, is-tri, live-tri, live-tris, with-live, push-cell, remove-cell, set-cell, without}
-use Rattle.cells.specs.Rep.{Cells, slots, Has, here, there, TriIn, Rep}
+use Rattle.definition.specs.Cells.{Cell, Live, Mesh, new-live, is-tri, live-tri, live-tris, with-live, push-cell, remove-cell, set-cell, without}
+use Rattle.cells.proofs.Slots.{slot-hit, slot-miss, slots-below}
+use Rattle.cells.specs.Rep.{slots, Has, here, there, Rep}
 use Rattle.cells.specs.Walk.{one-if}
-use Rattle.cells.proofs.Fronts.{filter-hit, filter-miss, tri-more}
-use Rattle.meshes.proofs.Puts.{slots-below}
-use Rattle.meshes.proofs.Removes.{slot-hit, slot-miss}
+use Rattle.cells.proofs.Fronts.{tri-more}
 
 tris-append : (l k : List Live) → length (filter live-tri (l ++ k)) ≡ length (filter live-tri l) + length (filter live-tri k)
 unfolding filter

@@ -1,15 +1,14 @@
 -- What was noted of the components is forgotten before a cell comes or goes.
-use mathlib.Core.Path.{_≡_, refl, ap, sym, _∙_, subst}
+use mathlib.Core.Path.{_≡_, ap, sym, _∙_, subst}
 use mathlib.Core.List.{List}
-use Prim.Native.Nat.{ℕ, _≤_, _<_}
+use Prim.Native.Nat.{ℕ, _≤_}
 use native.Mathlib.Omega.{arith}
-use lib.ListN.{length, getD, set, length-set}
-use Rattle.rings.proofs.Rings.{on}
+use lib.ListN.{length, getD, set}
 use Rattle.definition.specs.Cells.{Mesh}
+use Rattle.laws.specs.Frames.{on, Keeps, keeps-set}
 use Rattle.cells.specs.Layout.{even-at, mesh-end}
 use Rattle.cells.specs.Rep.{Room, Uneven, Rep}
-use Rattle.cells.specs.Frames.{Keeps}
-use Rattle.cells.proofs.Frames.{rep-even, keeps-set}
+use Rattle.cells.proofs.Frames.{rep-even}
 
 module _ (w w' : List ℕ) (s p : ℕ) (h : 1 ≤ s) (e : w' ≡ set w (even-at s p) 0) where
   -- the memory stands for the same mesh

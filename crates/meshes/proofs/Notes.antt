@@ -1,7 +1,7 @@
 -- A node's edges have the same owners where a cell without the node comes or goes.
 use mathlib.Core.Path.{_≡_, refl, ap, sym, _∙_}
 use mathlib.Core.Logic.{_≢_}
-use mathlib.Core.Bool.{Bool, false, not, and-false, or-false}
+use mathlib.Core.Bool.{Bool, false, and-false, or-false}
 use mathlib.Core.List.{List, [], _∷_, _++_}
 use Prim.Native.Nat.{ℕ, suc, _+_, _*_, _≤_, _<_}
 use native.Mathlib.Omega.{arith}
@@ -9,15 +9,13 @@ use lib.ListN.{length, getD, set}
 use borrow.Author.Tests.{eq-eqb, ne-eqb}
 use Rattle.rings.specs.Rings.{Out}
 use Rattle.rings.proofs.Lists.{Same, same, differ, decide}
-use Rattle.rings.proofs.Rings.{on, off}
 use Rattle.definition.specs.Lists.{filter}
 use Rattle.definition.specs.Cells.{Cell, tri, quad, Live, Mesh, nodes, tri-nodes, quad-nodes, key, tri-has, has-side, owns, owners, in-slot, new-live, with-live, remove-cell, without as without-slot}
+use Rattle.laws.specs.Frames.{on, off, Keeps, under-set, keeps-set}
 use Rattle.cells.specs.Layout.{nodes-at, notes-at, fronts-at}
 use Rattle.cells.specs.Notes.{note, NoteAt}
 use Rattle.cells.specs.Rep.{Cells}
-use Rattle.cells.specs.Frames.{Keeps}
 use Rattle.cells.proofs.Edges.{tri-side, quad-side}
-use Rattle.cells.proofs.Frames.{under-set, keeps-set}
 use Rattle.cells.proofs.Notes.{note-spared, note-none, SameAt, grown-same, note-mesh}
 use Rattle.meshes.specs.Changes.{put, Forgets}
 

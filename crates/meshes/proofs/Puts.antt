@@ -1,25 +1,23 @@
 -- A cell comes into a slot that holds none: its kind, then node after node. What is noted of a node is forgotten before the node is placed.
 use mathlib.Core.Path.{_≡_, refl, ap, sym, _∙_, subst}
-use mathlib.Core.Logic.{_≢_}
-use mathlib.Core.Bool.{Bool, true, false}
 use mathlib.Core.List.{List, [], _∷_, _++_, append-nil, append-assoc}
-use Prim.Native.Nat.{ℕ, zero, suc, _+_, _-_, _*_, _/_, _≤_, _<_}
+use Prim.Native.Nat.{ℕ, suc, _+_, _*_, _<_}
 use native.Mathlib.Omega.{arith}
 use lib.Dec.{eqb}
 use lib.ListN.{length, getD, set, length-set, length-append, List·getD-append}
 use lib.Seq.{getD-at}
-use Rattle.rings.specs.Rings.{Out, Distinct, Below, Family, Kept, LinkedTo, CanLink, pick, more}
+use Rattle.rings.specs.Rings.{Out, Family, LinkedTo, CanLink, pick, more}
 use Rattle.rings.proofs.Lists.{Same, same, differ, decide, out-append, distinct-snoc}
-use Rattle.rings.proofs.Rings.{on, off}
 use Rattle.rings.proofs.Families.{family-kept, same-rings, can-link, linked, below-out}
-use Rattle.definition.specs.Cells.{Cell, Live, Mesh, nodes, new-live, with-live, push-cell}
+use Rattle.definition.specs.Cells.{Cell, Mesh, nodes, new-live, with-live, push-cell}
+use Rattle.laws.specs.Frames.{on, off, Under, Keeps, under-less, keeps-trans, keeps-more, keeps-set}
+use Rattle.cells.proofs.Slots.{slots-below}
 use Rattle.cells.specs.Layout.{nodes-at, rings-at, codes, notes-at, fronts-at, even-at}
 use Rattle.cells.specs.Notes.{note}
-use Rattle.cells.specs.Rep.{Shape, CellAt, Held, Cells, slots, at-node, cell-corners, corners, Room, Uneven, Rep}
-use Rattle.meshes.specs.Changes.{CanPush, CanPut, put, Puts, Forgets, Apart, Filling, Placed}
-use Rattle.cells.specs.Frames.{Under, Keeps}
+use Rattle.cells.specs.Rep.{Held, slots, at-node, cell-corners, corners, Uneven, Rep}
+use Rattle.meshes.specs.Changes.{CanPush, CanPut, put, Forgets, Apart, Filling}
 use Rattle.cells.proofs.Corners.{at-node-snoc, at-node-out, slots-append, corners-append, cells-append, cells-weaken, corners-out, below-at}
-use Rattle.cells.proofs.Frames.{Elsewhere, cells-else, cells-under, else-under, under-kept, under-less, keeps-set, keeps-kept, keeps-more, keeps-trans}
+use Rattle.cells.proofs.Frames.{Elsewhere, cells-else, cells-under, else-under, under-kept, keeps-kept}
 use Rattle.meshes.proofs.Notes.{note-kept, note-turned, put-same, forget-same}
 
 -- the memory after the store of a node
@@ -192,10 +190,6 @@ pub known-at : {w : List ℕ} {s p i n : ℕ} {m : Mesh} {t : Cell} → Rep w s 
 known-at {m = m} {t = t} r c j h = omega (arith, below-at (length (m .points)) (nodes t) j (c .shape .known) h, r .points)
 
 -- ---- a push
-
-pub slots-below : (w : List ℕ) (s k n : ℕ) (l : List Live) → Cells w s k n l → Below k (slots l)
-slots-below w s k n [] h = tt
-slots-below w s k n (x ∷ l) h = (h .0 .inside, slots-below w s k n l (h .1))
 
 module _ (w : List ℕ) (s p i : ℕ) (m : Mesh) (t : Cell) where
   -- the next slot holds no cell

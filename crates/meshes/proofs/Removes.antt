@@ -1,27 +1,26 @@
 -- A cell goes from its slot: corner after corner, and what is noted of the corner's node, then its kind.
 use mathlib.Core.Path.{_≡_, refl, ap, sym, _∙_, subst}
 use mathlib.Core.Logic.{_≢_}
-use mathlib.Core.Bool.{Bool, true, false, not, cond}
-use mathlib.Core.List.{List, [], _∷_, _++_, append-nil, append-assoc}
-use Prim.Native.Nat.{ℕ, zero, suc, _+_, _-_, _*_, _/_, _≤_, _<_}
+use mathlib.Core.Bool.{Bool, true, false}
+use mathlib.Core.List.{List, [], _∷_, _++_}
+use Prim.Native.Nat.{ℕ, zero, suc, _+_, _*_, _≤_, _<_}
 use native.Mathlib.Omega.{arith}
 use lib.Dec.{eqb}
 use lib.ListN.{length, getD, set, length-set}
-use borrow.Author.Tests.{eq-eqb, ne-eqb}
-use Rattle.rings.specs.Rings.{Out, Distinct, Below, Family, Kept, UnlinkedFrom, CanUnlink, without, less, pick}
-use Rattle.rings.proofs.Lists.{Same, same, differ, decide, out-append, without-hit, without-miss, without-out, without-append, out-without, distinct-without}
-use Rattle.rings.proofs.Rings.{on, off}
+use Rattle.rings.specs.Rings.{Out, Family, UnlinkedFrom, CanUnlink, without, pick}
+use Rattle.rings.proofs.Lists.{Same, same, differ, decide, without-hit, without-miss, without-out, without-append, distinct-without, out-self}
 use Rattle.rings.proofs.Families.{family-kept, same-rings, can-unlink, unlinked}
 use Rattle.definition.specs.Lists.{filter}
-use Rattle.definition.specs.Cells.{Cell, Live, Mesh, nodes, new-live, with-live, in-slot, remove-cell, set-cell, without as without-slot}
+use Rattle.definition.specs.Cells.{Cell, Live, Mesh, nodes, with-live, remove-cell, set-cell, without as without-slot}
+use Rattle.laws.specs.Frames.{on, off, Under, Keeps, under-refl, under-trans, under-less, keeps-trans, keeps-set}
+use Rattle.cells.proofs.Slots.{slot-hit, slot-miss, slots-without}
 use Rattle.cells.specs.Layout.{nodes-at, rings-at, codes, notes-at, fronts-at, even-at}
 use Rattle.cells.specs.Notes.{note, NoteAt}
-use Rattle.cells.specs.Rep.{Shape, CellAt, Held, Cells, slots, Has, here, there, at-node, cell-corners, corners, Room, Uneven, Rep}
+use Rattle.cells.specs.Rep.{Cells, slots, Has, here, there, at-node, cell-corners, corners, Uneven, Rep}
 use Rattle.meshes.specs.Changes.{CanSet, CanPut, put, CanForget, Forgets}
-use Rattle.cells.specs.Frames.{Under, Keeps}
 use Rattle.cells.proofs.Members.{Lookup, absent, present, lookup, has-held}
-use Rattle.cells.proofs.Corners.{node-count, at-node-out, out-left, out-right, corner-in, cell-out, below-at}
-use Rattle.cells.proofs.Frames.{Elsewhere, cells-else, under-trans, under-kept, under-less, under-refl, keeps-trans, keeps-set}
+use Rattle.cells.proofs.Corners.{node-count, out-left, out-right, corner-in, cell-out, below-at}
+use Rattle.cells.proofs.Frames.{Elsewhere, cells-else, under-kept}
 use Rattle.meshes.proofs.Notes.{note-kept, note-turned, without-of, remove-same, forget-else, forget-same}
 
 -- ---- lists of numbers
@@ -34,15 +33,6 @@ out-before c d (x ∷ l) n h = go (decide x c) (λ k. out-before c d l n k)
     go : Same x c → (Out d (without c l) → Out d l) → Out d (x ∷ l)
     go (same e) r = ((λ q. n (sym q ∙ e)), r (rw (without-hit c x l e) at h))
     go (differ e) r = let k : Out d (x ∷ without c l) = rw (without-miss c x l e) at h in (k .0, r (k .1))
-
-pub out-self : (c : ℕ) (l : List ℕ) → Out c (without c l)
-unfolding without
-out-self c [] = tt
-out-self c (x ∷ l) = go (decide x c) (out-self c l)
-  where
-    go : Same x c → Out c (without c l) → Out c (without c (x ∷ l))
-    go (same e) r = rw (without-hit c x l e) r
-    go (differ e) r = rw (without-miss c x l e) ((e, r))
 
 -- the list without the first k corners of slot i
 unfoldable pub stripped : ℕ → ℕ → List ℕ → List ℕ
@@ -92,26 +82,9 @@ stripped-node v i k j (x ∷ ns) h =
 
 -- ---- the mesh without slot i
 
-pub slot-hit : (i : ℕ) (x : Live) (l : List Live) → x .slot ≡ i → without-slot i (x ∷ l) ≡ without-slot i l
-unfolding without-slot filter in-slot
-slot-hit i x l q = rw (eq-eqb i (x .slot) (sym q))
-
-pub slot-miss : (i : ℕ) (x : Live) (l : List Live) → x .slot ≢ i → without-slot i (x ∷ l) ≡ x ∷ without-slot i l
-unfolding without-slot filter in-slot
-slot-miss i x l q = rw (ne-eqb i (x .slot) (λ e. q (sym e)))
-
 slot-nil : (i : ℕ) → without-slot i [] ≡ []
 unfolding without-slot filter
 slot-nil i = refl
-
-pub slots-without : (i : ℕ) (l : List Live) → slots (without-slot i l) ≡ without i (slots l)
-unfolding without
-slots-without i [] = rw (slot-nil i)
-slots-without i (e ∷ l) = go (decide (e .slot) i) (slots-without i l)
-  where
-    go : Same (e .slot) i → slots (without-slot i l) ≡ without i (slots l) → slots (without-slot i (e ∷ l)) ≡ without i (e .slot ∷ slots l)
-    go (same q) r = rw (slot-hit i e l q, without-hit i (e .slot) (slots l) q) r
-    go (differ q) r = rw (slot-miss i e l q, without-miss i (e .slot) (slots l) q) (ap (λ (k : List ℕ). e .slot ∷ k) r)
 
 cells-without : (w : List ℕ) (s k n i : ℕ) (l : List Live) → Cells w s k n l → Cells w s k n (without-slot i l)
 cells-without w s k n i [] h = rw (slot-nil i) tt
@@ -244,7 +217,7 @@ module _ (w₀ : List ℕ) (s p i : ℕ) (m : Mesh) (r : Rep w₀ s p m) (is : i
       unfolding stripped
       lift-more w' t =
           let e : k + 1 ≡ suc k = omega arith in
-          let after : (u : ℕ) → note w' s p u ≡ note w1 s p u = λ u. t .kept .after (notes-at s p + u) (omega arith) in
+          let after : (u : ℕ) → note w' s p u ≡ note w1 s p u = λ u. t .kept .high (notes-at s p + u) (omega arith) in
           rw e (record {
             under = under-trans w₀ w w' (5 * s) (f .under)
                 (under-trans w w1 w' (5 * s) (under-less w w1 (5 * s) (notes-at s p) (omega arith) (g .under)) (under-kept w1 w' (5 * s) (rings-at s) (codes s p) (omega arith) (t .kept)));

@@ -1,14 +1,14 @@
 -- The mesh of the given triangles, and cleared slices.
 use mathlib.Core.Path.{_≡_}
-use mathlib.Core.List.{List, [], _∷_, _++_}
-use Prim.Native.Nat.{ℕ, _+_, _*_, _<_, _≤_}
-use lib.ListN.{length, getD}
-use Rattle.definition.specs.Cells.{Cell, Live, Mesh, tri}
+use mathlib.Core.List.{List, []}
+use Prim.Native.Nat.{ℕ, _*_, _<_, _≤_}
+use lib.ListN.{length}
+use Rattle.definition.specs.Cells.{Mesh, tri}
 use Rattle.definition.specs.Call.{tri-at, first-tris}
 use Rattle.definition.specs.Front.{in-slots}
+use Rattle.laws.specs.Frames.{Keeps}
 use Rattle.cells.specs.Layout.{mesh-end}
 use Rattle.cells.specs.Rep.{Shape, Room, Rep}
-use Rattle.cells.specs.Frames.{Keeps}
 
 -- each of the first n triangles has distinct nodes among the g given points
 abbrev pub Given : List ℕ → ℕ → ℕ → Type 0

@@ -1,14 +1,14 @@
 -- What the writers ask and give.
 use mathlib.Core.Path.{_≡_}
 use mathlib.Core.List.{List, [], _∷_, _++_}
-use Prim.Native.Nat.{ℕ, suc, _+_, _*_, _<_, _≤_}
+use Prim.Native.Nat.{ℕ, _+_, _*_, _<_, _≤_}
 use lib.ListN.{length, getD}
-use Rattle.rings.specs.Rings.{Out, Distinct, Below, Family}
-use Rattle.definition.specs.Cells.{Cell, Live, Mesh, nodes, tri, new-tri, quad, new-quad, new-live, with-live}
+use Rattle.rings.specs.Rings.{Out, Family}
+use Rattle.definition.specs.Cells.{Cell, Mesh, tri, new-tri, quad, new-quad, new-live, with-live}
+use Rattle.laws.specs.Frames.{Under, Keeps}
 use Rattle.cells.specs.Layout.{nodes-at, rings-at, codes, notes-at, fronts-at, mesh-end}
 use Rattle.cells.specs.Notes.{note, NoteAt}
 use Rattle.cells.specs.Rep.{Shape, Cells, slots, corners, at-node, Room, Rep}
-use Rattle.cells.specs.Frames.{Under, Keeps}
 
 -- the memory of each mesh that `may` be changed becomes that of the changed mesh; beyond the mesh's own areas nothing changed
 pub record Turns (w w' : List ℕ) (s p : ℕ) (may : Mesh → Type 0) (to : Mesh → Mesh) : Type 0 where

@@ -124,13 +124,3 @@ pub fn set_tri(w: &mut [u32], s: usize, p: usize, i: usize, a: usize, b: usize, 
     forget_even(w, s, p);
     put_tri(w, s, p, i, a, b, c);
 }
-
-// The quad a b c d replaces the cell in slot i.
-pub fn set_quad(w: &mut [u32], s: usize, p: usize, i: usize, a: usize, b: usize, c: usize, d: usize)
-    requires { ⌜ ((m : Mesh) × Rep (now w) s p m × CanSet m i (quad-of-nodes a b c d)) ⌝ }
-    ensures { λ r. ⌜ Turns (now (w .entry)) (now (w .exit)) s p (λ m. CanSet m i (quad-of-nodes a b c d)) (λ m. set-cell m i (quad-of-nodes a b c d)) ⌝ }
-{
-    remove_cell(w, s, p, i);
-    forget_even(w, s, p);
-    put_quad(w, s, p, i, a, b, c, d);
-}

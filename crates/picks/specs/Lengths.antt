@@ -1,25 +1,21 @@
 -- The order by length does not change when points are added behind.
 use mathlib.Core.Path.{_≡_, refl, ap}
 use mathlib.Core.List.{List, [], _∷_, _++_, map}
-use Prim.Native.Nat.{ℕ, _<_}
+use Prim.Native.Nat.{ℕ}
 use native.Mathlib.Omega.{arith}
-use lib.ListN.{length, List·getD-append}
+use lib.ListN.{length}
 use Rattle.definition.specs.Account.{All}
-use Rattle.definition.specs.Plane.{Node, Edge, point, edge-length}
+use Rattle.definition.specs.Plane.{Node, Edge, edge-length}
 use Rattle.definition.specs.Loops.{Ranked, ranked-edge, in-order, by-length}
 use Rattle.definition.specs.Lists.{concat}
+use Rattle.laws.specs.Cells.{point-stays}
 use Rattle.edges.specs.Stored.{Edges}
 use Rattle.picks.specs.Pick.{Known}
-
--- a node
-point-behind : (ps more : List Node) (i : ℕ) → i < length ps → point (ps ++ more) i ≡ point ps i
-unfolding point
-point-behind ps more i h = List·getD-append ps more _ i h
 
 -- an edge's length
 pub length-behind : (ps more : List Node) (e : Edge) → Known (length ps) e → edge-length (ps ++ more) e ≡ edge-length ps e
 unfolding edge-length
-length-behind ps more e h = rw (point-behind ps more (e .1) (h .second), point-behind ps more (e .0) (h .first))
+length-behind ps more e h = rw (point-stays ps more (e .1) (h .second), point-stays ps more (e .0) (h .first))
 
 ranked-behind : (ps more : List Node) (es : List Edge) → All (Known (length ps)) es → map (ranked-edge (ps ++ more)) es ≡ map (ranked-edge ps) es
 unfolding ranked-edge

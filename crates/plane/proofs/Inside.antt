@@ -1,5 +1,5 @@
 -- The two inside tests, by the signs of cross products that were computed before.
-use mathlib.Core.Path.{_≡_, refl}
+use mathlib.Core.Path.{_≡_}
 use mathlib.Core.Bool.{not, _&&_, _||_}
 use mathlib.Core.List.{[], _∷_}
 use lib.Ieee.{Float}

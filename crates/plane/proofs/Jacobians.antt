@@ -1,5 +1,5 @@
 -- The least scaled Jacobian by four columns, of which two corners share each.
-use mathlib.Core.Path.{_≡_, refl}
+use mathlib.Core.Path.{_≡_}
 use mathlib.Core.Bool.{false}
 use lib.Ieee.{Float, inf}
 use Rattle.definition.specs.Floats.{lesser}

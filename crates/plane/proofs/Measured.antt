@@ -1,6 +1,6 @@
 -- A quad's metrics, by what was computed before.
-use mathlib.Core.Path.{_≡_, refl}
-use mathlib.Core.Bool.{Bool, true, false, not, _&&_, _||_, cond}
+use mathlib.Core.Path.{_≡_}
+use mathlib.Core.Bool.{Bool, true, not, _&&_, _||_, cond}
 use mathlib.Core.List.{[], _∷_, map}
 use lib.Ieee.{Float, binary64, mul, div, inf}
 use Rattle.definition.specs.Floats.{_⊗_, _⊘_, _≺_, _≼_, finite, greater, 0·0}

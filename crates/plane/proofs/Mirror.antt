@@ -5,9 +5,9 @@ use Prim.Native.Nat.{ℕ, zero, suc, _+_, _-_, _*_, _<_}
 use native.Mathlib.Nat.{mul-comm}
 use native.Mathlib.Omega.{arith}
 use lib.Dec.{ltb}
-use lib.Ieee.{Float, nan, inf, fin, Format, low, up, down, odd, units, round, neg, sum, add, sub, mul}
+use lib.Ieee.{Float, nan, inf, fin, Format, up, down, odd, units, round, neg, sum, add, sub, mul}
 use borrow.Author.Tests.{ltb-true, ltb-false, le-ltb}
-use Rattle.definition.specs.Floats.{_⊕_, _⊖_, _⊗_}
+use Rattle.definition.specs.Floats.{_⊖_, _⊗_}
 use Rattle.definition.specs.Plane.{Node, norm, from-to}
 
 -- ---- a rounded number with the other sign

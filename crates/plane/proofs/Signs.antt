@@ -1,31 +1,15 @@
 -- `abs` by the tests of a float with zero.
 use mathlib.Core.Path.{_≡_, refl, sym, ap, _∙_}
-use mathlib.Core.Bool.{Bool, true, false, _&&_, _||_, Bool·beq, true≢false, false≢true}
-use Prim.Native.Nat.{ℕ, zero, suc, _+_, _*_, _^_, _<_, _≤_}
-use native.Mathlib.Nat.{zero-mul, mul-pos, zero-lt-suc}
+use mathlib.Core.Bool.{true, false, _||_, Bool·beq, true≢false, false≢true}
+use Prim.Native.Nat.{ℕ, zero, suc, _+_, _*_, _^_, _≤_}
 use native.Mathlib.Omega.{arith}
 use lib.IntN.{ℤ, pos, negsuc}
 use lib.Dec.{eqb}
 use lib.Ieee.{Float, nan, inf, fin, binary64, up, down, fits, lt, eq, neg, ofBits}
-use lib.Ieee.Fits.{up-pos}
 use borrow.Author.Tests.{ltb-true, ltb-false, eqb-true, eq-eqb}
 use Rattle.definition.specs.Floats.{abs}
-
--- 0 * 1 * d, as a comparison with zero has it
-no-size : (d : ℕ) → 0 * 1 * d ≡ 0
-no-size d = zero-mul d
-
-not-below : (a b : ℕ) → b ≡ 0 → a < b → ⊥
-not-below a b e h = omega arith
-
-and-true : (a b : Bool) → (a && b) ≡ true → a ≡ true
-and-true true b h = refl
-and-true false b h = h
-
-both-true : (a b : Bool) → a ≡ true → b ≡ true → (a && b) ≡ false → ⊥
-both-true true true p q h = true≢false h
-both-true true false p q h = false≢true q
-both-true false b p q h = false≢true p
+use Rattle.laws.specs.Bools.{and-left, not-and}
+use Rattle.root.proofs.Special.{flat, not-below, not-level, pos-size}
 
 pub abs-below : (x : Float) → lt x (ofBits binary64 0) ≡ true → neg x ≡ abs x
 unfolding lt ofBits neg abs
@@ -33,7 +17,7 @@ abs-below nan h = refl
 abs-below (inf true) h = refl
 abs-below (inf false) h = absurd (false≢true h)
 abs-below (fin true m e) h = refl
-abs-below (fin false m e) h = absurd (not-below (m * up e * 1) (0 * 1 * down e) (no-size (down e)) (ltb-true (m * up e * 1) (0 * 1 * down e) h))
+abs-below (fin false m e) h = absurd (not-below (m * up e * 1) (0 * 1 * down e) (flat (down e)) (ltb-true (m * up e * 1) (0 * 1 * down e) h))
 
 -- a zero that fits is written with the exponent 0
 odd-power : (k : ℕ) → 2 ^ suc k ≡ 1 → ⊥
@@ -44,12 +28,6 @@ fit-zero (pos zero) h = refl
 fit-zero (pos (suc k)) h = absurd (odd-power k (omega (arith, eqb-true (2 ^ suc k * 1) 1 h)))
 fit-zero (negsuc k) h = absurd (odd-power k (omega (arith, eqb-true (1 * 2 ^ suc k) 1 h)))
 
-pos-size : (m : ℕ) (e : ℤ) → 0 < suc m * up e * 1
-pos-size m e = mul-pos (mul-pos (zero-lt-suc m) (up-pos e)) (zero-lt-suc 0)
-
-not-level : (a b : ℕ) → 0 < a → b ≡ 0 → a ≡ b → ⊥
-not-level a b p e h = omega arith
-
 pub abs-zero : (x : Float) → fits binary64 x ≡ true → eq x (ofBits binary64 0) ≡ true → ofBits binary64 0 ≡ abs x
 unfolding eq ofBits abs fits
 abs-zero nan f h = absurd (false≢true h)
@@ -57,8 +35,8 @@ abs-zero (inf s) f h = absurd (false≢true h)
 abs-zero (fin s zero e) f h = ap (fin false 0) (sym (fit-zero e f))
 abs-zero (fin s (suc m) e) f h =
     absurd
-    (not-level (suc m * up e * 1) (0 * 1 * down e) (pos-size m e) (no-size (down e))
-    (eqb-true (suc m * up e * 1) (0 * 1 * down e) (and-true (eqb (suc m * up e * 1) (0 * 1 * down e)) (Bool·beq s false || eqb (suc m * up e * 1) 0) h)))
+    (not-level (suc m * up e * 1) (0 * 1 * down e) (pos-size m e) (flat (down e))
+    (eqb-true (suc m * up e * 1) (0 * 1 * down e) (and-left (eqb (suc m * up e * 1) (0 * 1 * down e)) (Bool·beq s false || eqb (suc m * up e * 1) 0) h)))
 
 -- neither test passes
 none : (a b : ℕ) → b ≡ 0 → a + b ≤ 0 → a ≡ 0
@@ -71,7 +49,7 @@ abs-above (inf true) h k = absurd (true≢false h)
 abs-above (inf false) h k = refl
 abs-above (fin false m e) h k = refl
 abs-above (fin true m e) h k =
-    let z : m * up e * 1 ≡ 0 = none (m * up e * 1) (0 * 1 * down e) (no-size (down e)) (ltb-false 0 (m * up e * 1 + 0 * 1 * down e) h) in
+    let z : m * up e * 1 ≡ 0 = none (m * up e * 1) (0 * 1 * down e) (flat (down e)) (ltb-false 0 (m * up e * 1 + 0 * 1 * down e) h) in
     absurd
-    (both-true (eqb (m * up e * 1) (0 * 1 * down e)) (Bool·beq true false || eqb (m * up e * 1) 0)
-    (eq-eqb (m * up e * 1) (0 * 1 * down e) (z ∙ sym (no-size (down e)))) (eq-eqb (m * up e * 1) 0 z) k)
+    (not-and (eqb (m * up e * 1) (0 * 1 * down e)) (Bool·beq true false || eqb (m * up e * 1) 0)
+    (eq-eqb (m * up e * 1) (0 * 1 * down e) (z ∙ sym (flat (down e)))) (eq-eqb (m * up e * 1) 0 z) k)

@@ -1,6 +1,5 @@
 -- The metrics enum by its cases, a quad's side lengths, and their products at its corners.
 use mathlib.Core.Path.{_≡_}
-use lib.Ieee.{Float}
 use Rattle.definition.specs.Plane.{Node, dist}
 use Rattle.definition.specs.Metrics as metrics
 use Rattle.definition.specs.Metrics.{absent, measured, corner-of, angle-of}

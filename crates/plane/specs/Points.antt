@@ -1,18 +1,18 @@
 -- Nodes in the lent points: what stands for a node, and how a mesh's nodes are read from the slice.
-use mathlib.Core.Path.{_≡_, refl, ap, _∙_}
-use mathlib.Core.List.{List, [], _∷_}
-use Prim.Native.Nat.{ℕ, zero, suc, _+_, _*_, _<_}
-use native.Mathlib.Nat.{le-of-suc-le-suc, not-suc-le-zero}
+use mathlib.Core.Path.{_≡_, ap, _∙_}
+use mathlib.Core.List.{List}
+use Prim.Native.Nat.{ℕ, _+_, _*_, _<_}
 use native.Mathlib.Omega.{arith}
-use lib.ListN.{length, getD}
+use lib.ListN.{length}
 use mathlib.Core.Bool.{not}
 use lib.Ieee.{Float}
-use Rattle.definition.specs.Lists.{table, numbers, below}
+use Rattle.definition.specs.Lists.{below}
 use Rattle.definition.specs.Floats.{_⊗_, _≼_, 0·0}
 use Rattle.definition.specs.Plane.{Node, flat, point, side, from-to, dist, edge-length}
 use Rattle.definition.specs.Cells.{Mesh, node-at}
 use Rattle.definition.specs.Flips.{apart}
 use Rattle.definition.specs.Call.{point-at, first-points}
+use Rattle.laws.specs.Lists.{table-at}
 use Rattle.plane.specs.declared.points.Spot.{Spot}
 
 -- node a is in the slice
@@ -29,17 +29,10 @@ ground p = flat (p .x) (p .y)
 
 -- ---- a mesh whose points are the first of the slice
 
--- an entry of a table over consecutive numbers
-entry : {A : Type 0} (f : ℕ → A) (k n i : ℕ) (d : A) → i < n → getD (table f (numbers k n)) i d ≡ f (k + i)
-unfolding table numbers
-entry f k zero i d h = absurd (not-suc-le-zero h)
-entry f k (suc n) zero d h = ap f (omega arith)
-entry f k (suc n) (suc i) d h = entry f (suc k) n i d (le-of-suc-le-suc h) ∙ ap f (omega arith)
-
 -- a node below n of the first n points
 pub point-of : (n : ℕ) (q : List Float) (a : ℕ) → a < n → point (first-points n q) a ≡ point-at q a
 unfolding point first-points below
-point-of n q a h = entry (point-at q) 0 n a _ h ∙ ap (point-at q) (omega arith)
+point-of n q a h = table-at (point-at q) 0 n a _ h ∙ ap (point-at q) (omega arith)
 
 -- a node of the mesh
 pub node-of : (m : Mesh) (n : ℕ) (q : List Float) → m .points ≡ first-points n q → (a : ℕ) → a < n → node-at m a ≡ point-at q a

@@ -1,10 +1,10 @@
 -- Readings one after the other: what is known of each, and what follows of the whole.
-use mathlib.Core.Path.{_≡_, refl, sym, ap, _∙_}
-use mathlib.Core.List.{List, [], _∷_}
-use mathlib.Core.Option.{Option, none, some}
+use mathlib.Core.Path.{_≡_, sym, ap, _∙_}
+use mathlib.Core.List.{[], _∷_}
+use mathlib.Core.Option.{none}
 use Prim.Native.Nat.{ℕ}
 use lib.ListN.{drop}
-use Rattle.definition.specs.Text.{Bytes, Taken, Reader, take-on, exactly, give, _>>=_, _>>_}
+use Rattle.definition.specs.Text.{Bytes, Reader, take-on, exactly, give, _>>=_, _>>_}
 use Rattle.reading.specs.Found.{taken, and-then}
 
 -- a call's answer put in for what its contract says of it

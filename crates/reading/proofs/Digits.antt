@@ -1,15 +1,15 @@
 -- Digits read at a position: a run of decimal ones, and sixteen hexadecimal ones one after the other.
-use mathlib.Core.Bool.{Bool, true, false, not, _&&_, _||_, cond}
-use mathlib.Core.Path.{_≡_, refl, sym, ap, _∙_}
-use mathlib.Core.List.{List, [], _∷_, foldl}
+use mathlib.Core.Bool.{Bool, true, false, not, _&&_}
+use mathlib.Core.Path.{_≡_, refl}
+use mathlib.Core.List.{[], _∷_, foldl}
 use mathlib.Core.Option.{Option, none, some}
-use Prim.Native.Nat.{ℕ, zero, suc, _+_, _-_, _*_, _^_, _<_, _≤_}
+use Prim.Native.Nat.{ℕ, _+_, _-_, _*_, _<_, _≤_}
 use native.Mathlib.Omega.{arith}
 use native.Mathlib.Nat.{le-trans}
 use borrow.Author.Tests.{lt-leb, le-leb, leb-true, eq-eqb, ne-eqb}
-use lib.Dec.{leb, eqb}
-use lib.ListN.{length, getD, take, drop}
-use Rattle.definition.specs.Lists.{all, empty}
+use lib.Dec.{leb}
+use lib.ListN.{length, getD, drop}
+use Rattle.definition.specs.Lists.{empty}
 use Rattle.definition.specs.Text.{Bytes, Taken, is-digit, one-more, run, decimal, well-formed, one-digit}
 use Rattle.reading.specs.Found.{taken, limited}
 use Rattle.reading.proofs.Bytes.{from, past}

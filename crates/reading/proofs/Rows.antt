@@ -6,7 +6,7 @@ use Prim.Native.Nat.{ℕ, zero, suc, _+_, _-_, _*_, _<_, _≤_}
 use native.Mathlib.Nat.{zero-add, add-zero, suc-add, mul-suc, mul-zero, sub-zero}
 use native.Mathlib.Numerals.{add-one, add-two}
 use native.Mathlib.Omega.{arith}
-use lib.ListN.{length, take, drop, set, length-set, length-drop, take-append-drop}
+use lib.ListN.{length, take, drop, set, length-drop, take-append-drop}
 use lib.Seq.{sets-eq, drop-set-lt, take-append-le, drop-append-le, length-take-le}
 use Rattle.definition.specs.Lists.{rows}
 use Rattle.definition.specs.Text.{Bytes, Taken, Reader, take-on, give, _>>=_, times}

@@ -1,16 +1,14 @@
 -- The whole input: the line of its numbers, its two lists, and its end.
-use mathlib.Core.Bool.{Bool, true, false, _&&_, cond}
 use mathlib.Core.Path.{_≡_, refl, sym, ap, _∙_}
-use mathlib.Core.List.{List, [], _∷_}
+use mathlib.Core.List.{List}
 use mathlib.Core.Option.{Option, none, some}
-use Prim.Native.Nat.{ℕ, _+_, _*_, _<_, _≤_}
+use Prim.Native.Nat.{ℕ, _<_, _≤_}
 use borrow.Author.Tests.{le-leb, lt-leb}
-use lib.Dec.{leb}
-use lib.ListN.{length, getD, drop}
-use Rattle.definition.specs.Lists.{empty, rows}
-use Rattle.definition.specs.Text.{Bytes, Taken, Reader, take-on, _>>=_, _>>_, give, ensure, lit, exactly, dec, hex, one-digit, node, three, times, most-listed, most-bytes, Input, input}
+use lib.ListN.{length, drop}
+use Rattle.definition.specs.Lists.{empty}
+use Rattle.definition.specs.Text.{Bytes, Taken, Reader, take-on, _>>=_, _>>_, give, lit, exactly, hex, node, three, times, most-bytes, Input, input}
 use Rattle.reading.specs.Found.{taken, triangle-list, point-list}
-use Rattle.reading.specs.Whole.{to-the-end, whole, heading, input-of}
+use Rattle.reading.specs.Whole.{to-the-end, whole, heading}
 use Rattle.reading.specs.declared.found.Header.{Header}
 use Rattle.reading.proofs.Bytes.{from, past}
 

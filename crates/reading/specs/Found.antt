@@ -1,5 +1,5 @@
 -- What the readers' answers stand for: the definition's readings, with the bytes from the next position on as what is left.
-use mathlib.Core.Bool.{Bool, cond}
+use mathlib.Core.Bool.{cond}
 use mathlib.Core.List.{List, [], _∷_}
 use mathlib.Core.Option.{Option, none, some}
 use mathlib.Core.Path.{_≡_}

@@ -12,6 +12,7 @@ use Rattle.definition.specs.Lists.{empty, rows, concat, flat-map}
 use Rattle.definition.specs.Numbers.{base}
 use Rattle.definition.specs.Call.{call}
 use Rattle.definition.specs.Text.{Bytes, Taken, Reader, _>>=_, _>>_, give, ensure, lit, dec, hex, one-digit, most-listed, most-bytes, Input, input, asked, lent-for, show-refusal, show-returned, answer-to, reply}
+use Rattle.laws.specs.Lists.{rows-length}
 use Rattle.reading.specs.Found.{taken}
 use Rattle.reading.specs.declared.found.Header.{Header}
 use Rattle.reading.specs.declared.found.Start.{Start}
@@ -112,11 +113,6 @@ pub record Whole-read (s tris₀ tris bits₀ bits : List ℕ) (r : Reading) : T
   pub kept : kept-if r tris₀ tris bits₀ bits
 
 -- ---- what the slices hold: the lists' numbers one after the other
-
-pub rows-length : (w n : ℕ) (xs : List ℕ) → length (rows w n xs) ≡ n
-unfolding rows
-rows-length w zero xs = refl
-rows-length w (suc n) xs = ap suc (rows-length w n (drop w xs))
 
 pub rows-concat : (w n : ℕ) (xs : List ℕ) → concat (rows w n xs) ≡ take (w * n) xs
 unfolding rows concat flat-map

@@ -1,19 +1,18 @@
 -- The tests of a region: each node inside the quad, and the areas summed, cell after cell of the list.
 use mathlib.Core.Path.{_≡_, refl, ap, sym, _∙_, subst}
 use mathlib.Core.Logic.{_≢_}
-use mathlib.Core.Bool.{Bool, true, false, not, cond, _&&_, and-true, false≢true}
+use mathlib.Core.Bool.{Bool, true, false, not, cond, _&&_, and-true}
 use mathlib.Core.List.{List, [], _∷_, _++_, foldl}
 use mathlib.Core.Option.{Option, none, some}
-use Prim.Native.Nat.{ℕ, zero, suc, _+_, _-_, _*_, _≤_, _<_}
+use Prim.Native.Nat.{ℕ, zero, suc, _+_, _≤_, _<_}
 use native.Mathlib.Omega.{arith}
 use lib.ListN.{length, getD, drop}
 use lib.Ieee.{Float, binary64, mul, sub, lt, ofBits}
-use Rattle.rings.specs.Rings.{Below}
-use Rattle.definition.specs.Floats.{_⊕_, _⊖_, _⊗_, _⊘_, _≺_, abs, greater, f64, 0·0, 1·0, 2·0, 1e-9}
+use Rattle.definition.specs.Floats.{_⊕_, _⊖_, _⊗_, _⊘_, _≺_, abs, greater, f64, 1·0, 2·0, 1e-9}
 use Rattle.definition.specs.Lists.{all}
 use Rattle.definition.specs.Numbers.{area-slack}
-use Rattle.definition.specs.Plane.{Node, cross, inside-quad, quad-area}
-use Rattle.definition.specs.Cells.{Tri, tri, Live, Mesh, nodes, tri-nodes, node-at, new-live, new-quad, cell-of, quad-edges}
+use Rattle.definition.specs.Plane.{cross, inside-quad, quad-area}
+use Rattle.definition.specs.Cells.{Tri, tri, Live, Mesh, nodes, tri-nodes, node-at, new-live, new-quad, quad-edges}
 use Rattle.definition.specs.Call.{point-at}
 use Rattle.definition.specs.Region.{area-of, region-area, cell-inside, area-agrees, fills, if-filled, region-from, region, flood}
 use Rattle.cells.specs.Layout.{list-at}
@@ -21,20 +20,11 @@ use Rattle.cells.specs.Rep.{Shape, Rep, TriIn, Pts}
 use Rattle.cells.specs.Walk.{node-in}
 use Rattle.cells.proofs.Slots.{rep-held, rep-cell, tri-held}
 use Rattle.plane.specs.Points.{Within, node-of}
-use Rattle.regions.specs.Listing.{Listed, State, CanList, Aside, Failed, Grown, Reached}
+use Rattle.regions.specs.Listing.{Listed, CanList, Grown, Reached}
 use Rattle.regions.specs.Flood.{tri-live}
-use Rattle.regions.specs.Fill.{Known, Shown, Drawn}
+use Rattle.regions.specs.Fill.{Known, Drawn}
 use Rattle.regions.proofs.Listings.{few, can-list}
-use Rattle.regions.proofs.Floods.{Top, top-at}
-
--- what a negated test showed
-pub was-not : (b : Bool) → not b ≡ true → b ≡ false
-was-not true e = absurd (false≢true e)
-was-not false e = refl
-
-pub was : (b : Bool) → not b ≡ false → b ≡ true
-was true e = refl
-was false e = absurd (false≢true (sym e))
+use Rattle.regions.proofs.Floods.{top-at}
 
 -- ---- nodes in the slice
 

@@ -1,21 +1,22 @@
 -- The flood, triangle after triangle: done are those crossed, as many as `head`; the fuel is never at its end while one is left.
 use mathlib.Core.Path.{_≡_, refl, ap, sym, _∙_, subst}
 use mathlib.Core.Logic.{_≢_}
-use mathlib.Core.Bool.{Bool, true, false, false≢true}
+use mathlib.Core.Bool.{true, false≢true}
 use mathlib.Core.List.{List, [], _∷_, _++_, append-assoc, append-nil}
 use mathlib.Core.Option.{Option, none, some}
-use Prim.Native.Nat.{ℕ, zero, suc, _+_, _-_, _*_, _≤_, _<_}
+use Prim.Native.Nat.{ℕ, zero, suc, _+_, _≤_, _<_}
 use native.Mathlib.Omega.{arith}
 use lib.ListN.{length, getD, length-append}
 use Rattle.definition.specs.Plane.{Edge}
-use Rattle.definition.specs.Cells.{Tri, Quad, Cell, tri, quad, Live, Mesh, live-tri, is-tri, new-live}
+use Rattle.definition.specs.Cells.{Cell, tri, quad, Live, Mesh, live-tri, is-tri, new-live}
 use Rattle.definition.specs.Region.{reach-all, across, flood}
+use Rattle.laws.specs.Lists.{Stored}
 use Rattle.cells.specs.Layout.{list-at}
 use Rattle.cells.specs.Rep.{Has, here, there, TriIn, slots}
-use Rattle.regions.specs.Listing.{Stored, Tris, Listed, State, CanList, Aside, Failed, Grown, Reached}
+use Rattle.regions.specs.Listing.{Tris, Listed, State, CanList, Aside, Reached}
 use Rattle.regions.specs.Flood.{tri-live}
-use Rattle.regions.proofs.Listings.{aside-refl, aside-trans, few, can-list}
-use Rattle.regions.proofs.Visits.{and-then, reached-from, then-failed, Mid, mid}
+use Rattle.regions.proofs.Listings.{aside-trans, few, can-list}
+use Rattle.regions.proofs.Visits.{and-then, mid}
 
 -- ---- a cell of the list, behind those of done
 
@@ -42,7 +43,7 @@ tri-at : (done : List Live) (y : Live) (todo : List Live) → Tris (done ++ y �
 tri-at [] y todo h = h .0
 tri-at (x ∷ done) y todo h = tri-at done y todo (h .1)
 
-stored-at : (w : List ℕ) (b : ℕ) (done : List Live) (y : Live) (todo : List Live) → Stored w b (slots (done ++ y ∷ todo)) → getD w (b + length done) 0 ≡ y .slot
+pub stored-at : (w : List ℕ) (b : ℕ) (done : List Live) (y : Live) (todo : List Live) → Stored w b (slots (done ++ y ∷ todo)) → getD w (b + length done) 0 ≡ y .slot
 stored-at w b [] y todo h = let z : b + 0 ≡ b = omega arith in ap (λ (i : ℕ). getD w i 0) z ∙ h .0
 stored-at w b (x ∷ done) y todo h = let z : b + suc (length done) ≡ b + 1 + length done = omega arith in ap (λ (i : ℕ). getD w i 0) z ∙ stored-at w (b + 1) done y todo (h .1)
 

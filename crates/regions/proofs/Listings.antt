@@ -1,24 +1,20 @@
 -- The list and the marks: what one cell more changes, and how many cells there can be.
-use mathlib.Core.Path.{_≡_, refl, ap, sym, _∙_, subst}
-use mathlib.Core.Logic.{_≢_}
-use mathlib.Core.Bool.{Bool, true, false, cond, _||_, or-false, false≢true}
+use mathlib.Core.Path.{_≡_, refl, sym, _∙_}
+use mathlib.Core.Bool.{Bool, true, false, _||_, or-false, false≢true}
 use mathlib.Core.List.{List, [], _∷_, _++_}
-use Prim.Native.Nat.{ℕ, zero, suc, _+_, _-_, _*_, _≤_, _<_}
+use Prim.Native.Nat.{ℕ, _≤_, _<_}
 use native.Mathlib.Omega.{arith}
 use lib.Dec.{eqb}
-use lib.ListN.{length, getD, set, length-set, length-append}
 use borrow.Author.Tests.{eq-eqb, ne-eqb}
-use Rattle.rings.specs.Rings.{Out, Distinct, Below}
+use Rattle.rings.specs.Rings.{Out, Below}
 use Rattle.rings.proofs.Lists.{Same, same, differ, decide, room}
-use Rattle.rings.proofs.Rings.{on, off}
 use Rattle.definition.specs.Lists.{any}
 use Rattle.definition.specs.Cells.{Live, Mesh, live-tri, in-slot}
-use Rattle.cells.specs.Layout.{mesh-end, marks-at, list-at, refused-at}
-use Rattle.cells.specs.Rep.{Held, slots, Has, here, there, Room, Rep}
-use Rattle.cells.specs.Frames.{Under, Keeps}
-use Rattle.cells.proofs.Slots.{rep-held}
-use Rattle.cells.proofs.Frames.{under-refl, under-trans, keeps-refl, keeps-trans}
-use Rattle.regions.specs.Listing.{Stored, Tris, Listed, State, CanList, CanMark, Aside}
+use Rattle.laws.specs.Frames.{under-refl, under-trans, keeps-refl, keeps-trans}
+use Rattle.cells.specs.Layout.{mesh-end, refused-at}
+use Rattle.cells.specs.Rep.{slots, Has, here, there}
+use Rattle.cells.proofs.Slots.{rep-held, slots-length}
+use Rattle.regions.specs.Listing.{Tris, Listed, CanList, Aside}
 
 -- ---- what stays
 
@@ -30,10 +26,6 @@ aside-trans w w1 w2 s p a b =
     record { under = under-trans w w1 w2 (mesh-end s p) (a .under) (b .under); keeps = keeps-trans w w1 w2 (refused-at s p) (a .keeps) (b .keeps) }
 
 -- ---- lists of live cells
-
-pub slots-length : (l : List Live) → length (slots l) ≡ length l
-slots-length [] = refl
-slots-length (x ∷ l) = ap suc (slots-length l)
 
 -- each of them is in a slot below n
 pub all-below : (n : ℕ) (l : List Live) → ((x : Live) → Has x l → x .slot < n) → Below n (slots l)
@@ -73,15 +65,6 @@ any-snoc i (y ∷ l) x = go (eqb i (y .slot)) (any-snoc i l x)
     go false h = h
 
 -- ---- one more
-
-pub stored-snoc : (w : List ℕ) (b x : ℕ) (l : List ℕ) → Stored w b l → getD w (b + length l) 0 ≡ x → Stored w b (l ++ x ∷ [])
-stored-snoc w b x [] h e = (let z : b ≡ b + 0 = omega arith in ap (λ (i : ℕ). getD w i 0) z ∙ e, tt)
-stored-snoc w b x (y ∷ l) h e =
-    (h .0, stored-snoc w (b + 1) x l (h .1) (let z : b + 1 + length l ≡ b + suc (length l) = omega arith in ap (λ (i : ℕ). getD w i 0) z ∙ e))
-
-pub stored-kept : (w w' : List ℕ) (b : ℕ) (l : List ℕ) → ((i : ℕ) → b ≤ i → i < b + length l → getD w' i 0 ≡ getD w i 0) → Stored w b l → Stored w' b l
-stored-kept w w' b [] k h = tt
-stored-kept w w' b (x ∷ l) k h = (k b (omega arith) (omega arith) ∙ h .0, stored-kept w w' (b + 1) l (λ i p q. k i (omega arith) (omega arith)) (h .1))
 
 pub tris-snoc : (l : List Live) (x : Live) → Tris l → live-tri x ≡ true → Tris (l ++ x ∷ [])
 tris-snoc [] x h t = (t, tt)

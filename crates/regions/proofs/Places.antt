@@ -1,24 +1,21 @@
 -- The listed cells removed one after the other: what `remove-cells` removes at once.
 use mathlib.Core.Path.{_≡_, refl, ap, sym, _∙_, subst}
-use mathlib.Core.Logic.{_≢_}
 use mathlib.Core.Bool.{Bool, true, false, not, cond, _||_}
-use mathlib.Core.List.{List, [], _∷_, _++_}
-use Prim.Native.Nat.{ℕ, zero, suc, _+_, _-_, _*_, _≤_, _<_}
+use mathlib.Core.List.{List, [], _∷_}
+use Prim.Native.Nat.{ℕ, _+_, _≤_, _<_}
 use native.Mathlib.Omega.{arith}
 use lib.Dec.{eqb}
-use lib.ListN.{length, getD, drop}
-use borrow.Author.Tests.{eq-eqb, ne-eqb}
-use Rattle.rings.proofs.Lists.{Same, same, differ, decide}
+use lib.ListN.{getD, drop}
 use Rattle.definition.specs.Lists.{filter, any}
-use Rattle.definition.specs.Cells.{Quad, quad, Live, Mesh, with-live, in-slot, among, without, without-all, remove-cell, remove-cells, push-cell, new-live, new-quad}
+use Rattle.definition.specs.Cells.{Live, Mesh, with-live, in-slot, among, without, without-all, remove-cell, remove-cells, push-cell, new-live}
 use Rattle.definition.specs.Attempt.{replaced}
+use Rattle.laws.specs.Numbers.{eqb-swap}
+use Rattle.laws.specs.Cells.{none-gone}
+use Rattle.laws.specs.Frames.{Keeps, keeps-trans}
 use Rattle.cells.specs.Layout.{mesh-end, list-at}
 use Rattle.cells.specs.Rep.{Rep}
-use Rattle.cells.specs.Frames.{Keeps}
-use Rattle.cells.proofs.Frames.{keeps-refl, keeps-trans}
 use Rattle.meshes.specs.Changes.{Turns, Anything, CanPush, quad-of-nodes}
 use Rattle.regions.specs.Listing.{Listed}
-use Rattle.regions.specs.Flood.{tri-live}
 use Rattle.regions.specs.Fill.{Gone, Replaced}
 use Rattle.regions.proofs.Visits.{tri-inside}
 use Rattle.regions.proofs.Fills.{Item, item, items-end}
@@ -28,18 +25,6 @@ use Rattle.regions.proofs.Fills.{Item, item, items-end}
 unfoldable pub removes : Mesh → List Live → Mesh
 removes m [] = m
 removes m (x ∷ xs) = removes (remove-cell m (x .slot)) xs
-
-eqb-swap : (a b : ℕ) → eqb a b ≡ eqb b a
-eqb-swap a b = go (decide a b)
-  where
-    go : Same a b → eqb a b ≡ eqb b a
-    go (same e) = eq-eqb a b e ∙ sym (eq-eqb b a (sym e))
-    go (differ e) = ne-eqb a b e ∙ sym (ne-eqb b a (λ q. e (sym q)))
-
-none-gone : (l : List Live) → without-all [] l ≡ l
-unfolding without-all filter among any
-none-gone [] = refl
-none-gone (y ∷ l) = ap (λ (k : List Live). y ∷ k) (none-gone l)
 
 one-gone : (x : Live) (xs l : List Live) → without-all xs (without (x .slot) l) ≡ without-all (x ∷ xs) l
 unfolding without-all without filter among any in-slot

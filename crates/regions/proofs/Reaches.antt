@@ -1,34 +1,63 @@
 -- One cell reached.
 use mathlib.Core.Path.{_≡_, refl, ap, sym, _∙_, subst}
 use mathlib.Core.Logic.{_≢_}
-use mathlib.Core.Bool.{Bool, true, false, cond, _||_, or-false}
+use mathlib.Core.Bool.{Bool, true, false, cond, _||_, or-false, or-true}
 use mathlib.Core.List.{List, [], _∷_, _++_, append-assoc}
-use mathlib.Core.Option.{Option, none, some}
-use Prim.Native.Nat.{ℕ, zero, suc, _+_, _-_, _*_, _/_, _≤_, _<_}
+use Prim.Native.Nat.{ℕ, _+_, _*_, _≤_, _<_}
 use native.Mathlib.Omega.{arith}
 use lib.Dec.{eqb}
 use lib.ListN.{length, getD, set, length-set, length-append}
 use borrow.Author.Tests.{eq-eqb, ne-eqb}
-use Rattle.rings.specs.Rings.{Out, Distinct, Below}
 use Rattle.rings.proofs.Lists.{Same, same, differ, decide, distinct-snoc, below-append, room}
-use Rattle.rings.proofs.Rings.{on, off}
 use Rattle.definition.specs.Lists.{any}
 use Rattle.definition.specs.Cells.{Live, Mesh, live-tri, in-slot, among}
 use Rattle.definition.specs.Region.{reach}
-use Rattle.cells.specs.Layout.{mesh-end, marks-at, list-at, refused-at}
-use Rattle.cells.specs.Rep.{Held, slots, Has, Rep}
+use Rattle.laws.specs.Lists.{stored-kept, stored-snoc}
+use Rattle.laws.specs.Frames.{on, off}
+use Rattle.laws.specs.Bools.{not-marked, marked as was-marked}
+use Rattle.cells.specs.Layout.{marks-at, list-at}
+use Rattle.cells.specs.Rep.{Held, slots, Has}
 use Rattle.cells.specs.Walk.{CanSee}
-use Rattle.cells.specs.Frames.{Under, Keeps}
 use Rattle.cells.proofs.Corners.{slots-append}
-use Rattle.cells.proofs.Slots.{rep-held, rep-see}
+use Rattle.cells.proofs.Slots.{rep-held, rep-see, slots-length}
 use Rattle.cells.proofs.Fronts.{held-tri}
 use Rattle.cells.proofs.Frames.{rep-under}
-use Rattle.regions.specs.Listing.{Stored, Tris, Listed, State, CanList, Seen, Aside, Failed, Grown, Reached}
-use Rattle.regions.proofs.Listings.{aside-refl, slots-length, listed-below, can-list, any-out, any-snoc, stored-snoc, stored-kept, tris-snoc, has-snoc}
+use Rattle.regions.specs.Listing.{Listed, State, CanList, Seen, Aside, Grown, Reached}
+use Rattle.regions.proofs.Listings.{aside-refl, listed-below, can-list, any-out, any-snoc, tris-snoc, has-snoc}
 
 -- slot j appended to the list of n, and marked
 abbrev pub appended : List ℕ → ℕ → ℕ → ℕ → ℕ → List ℕ
 appended w s p n j = set (set w (marks-at s p + j) 1) (list-at s p + n) j
+
+pub appended-other : (w : List ℕ) (s p n j i : ℕ) → i ≢ list-at s p + n → i ≢ marks-at s p + j → getD (appended w s p n j) i 0 ≡ getD w i 0
+appended-other w s p n j i a b = off (set w (marks-at s p + j) 1) (list-at s p + n) j i a ∙ off w (marks-at s p + j) 1 i b
+
+module _ (w : List ℕ) (s p n j : ℕ) (js : j < s) (ns : n < s) (fits : 64 * s + 8 * p ≤ length w) where
+  pub appended-aside : Aside w (appended w s p n j) s p
+  appended-aside =
+      let len : length (appended w s p n j) ≡ length w = simp length-set in
+      record {
+        under = record { len = len; low = λ i l. appended-other w s p n j i (λ q. omega arith) (λ q. omega arith) };
+        keeps = record { len = len; high = λ i l. appended-other w s p n j i (λ q. omega (arith, ns)) (λ q. omega (arith, js)) };
+      }
+
+  pub appended-last : getD (appended w s p n j) (list-at s p + n) 0 ≡ j
+  appended-last = on (set w (marks-at s p + j) 1) (list-at s p + n) j (simp length-set (omega (arith, fits, ns)))
+
+  appended-mark : getD (appended w s p n j) (marks-at s p + j) 0 ≡ 1
+  appended-mark =
+      off (set w (marks-at s p + j) 1) (list-at s p + n) j (marks-at s p + j) (λ q. omega (arith, js)) ∙ on w (marks-at s p + j) 1 (omega (arith, fits, js))
+
+  -- the marks are those of the longer list
+  pub appended-marks : (xs : List Live) (x : Live) → j ≡ x .slot → ((i : ℕ) → i < s → getD w (marks-at s p + i) 0 ≡ cond (any (in-slot i) xs) 1 0)
+      → (i : ℕ) → i < s → getD (appended w s p n j) (marks-at s p + i) 0 ≡ cond (any (in-slot i) (xs ++ x ∷ [])) 1 0
+  appended-marks xs x e h i l = rw (any-snoc i xs x) (go (decide i j))
+    where
+      go : Same i j → getD (appended w s p n j) (marks-at s p + i) 0 ≡ cond (any (in-slot i) xs || eqb i (x .slot)) 1 0
+      go (same q) = rw (eq-eqb i (x .slot) (q ∙ e))
+          (ap (λ (y : ℕ). getD (appended w s p n j) (marks-at s p + y) 0) q ∙ appended-mark ∙ ap (λ (t : Bool). cond t 1 0) (sym (or-true (any (in-slot i) xs))))
+      go (differ q) = rw (ne-eqb i (x .slot) (λ y. q (y ∙ sym e)), or-false (any (in-slot i) xs))
+          (appended-other w s p n j (marks-at s p + i) (λ y. omega (arith, l)) (λ y. q (omega arith)) ∙ h i l)
 
 module _ (w : List ℕ) (s p n j : ℕ) (m : Mesh) (xs : List Live) (x : Live) (h : Seen w s p n j m xs x) where
   held : Held w s (m .used) (length (m .points)) x
@@ -41,18 +70,10 @@ module _ (w : List ℕ) (s p n j : ℕ) (m : Mesh) (xs : List Live) (x : Live) (
   marked-so = rw (h .slot) (h .state .marks (x .slot) (omega (arith, held .inside, h .state .list .rep .used)))
 
   pub fresh : getD w (marks-at s p + j) 0 ≡ 0 → any (in-slot (x .slot)) xs ≡ false
-  fresh z = go (any (in-slot (x .slot)) xs) refl
-    where
-      go : (b : Bool) → any (in-slot (x .slot)) xs ≡ b → any (in-slot (x .slot)) xs ≡ false
-      go true q = let y : _≡_ {A = ℕ} 0 1 = sym z ∙ marked-so ∙ rw q in absurd (omega arith)
-      go false q = q
+  fresh z = not-marked (any (in-slot (x .slot)) xs) (sym marked-so ∙ z)
 
   pub known : getD w (marks-at s p + j) 0 ≢ 0 → any (in-slot (x .slot)) xs ≡ true
-  known z = go (any (in-slot (x .slot)) xs) refl
-    where
-      go : (b : Bool) → any (in-slot (x .slot)) xs ≡ b → any (in-slot (x .slot)) xs ≡ true
-      go true q = q
-      go false q = absurd (z (marked-so ∙ rw q))
+  known z = was-marked (any (in-slot (x .slot)) xs) (λ q. z (marked-so ∙ q))
 
   -- there is room for one more
   pub more : getD w (marks-at s p + j) 0 ≡ 0 → n < s
@@ -77,11 +98,8 @@ module _ (w : List ℕ) (s p n j : ℕ) (m : Mesh) (xs : List Live) (x : Live) (
   pub grown : getD w (marks-at s p + j) 0 ≡ 0 → live-tri x ≡ true → Grown w (appended w s p n j) s p (n + 1) m (xs ++ x ∷ [])
   grown z t = record { state = state; aside = aside }
     where
-      w1 : List ℕ
-      w1 = set w (marks-at s p + j) 1
-
       w' : List ℕ
-      w' = set w1 (list-at s p + n) j
+      w' = appended w s p n j
 
       js : j < s
       js = inside
@@ -92,36 +110,8 @@ module _ (w : List ℕ) (s p n j : ℕ) (m : Mesh) (xs : List Live) (x : Live) (
       fits : 64 * s + 8 * p ≤ length w
       fits = h .state .list .rep .room .fits
 
-      len : length w' ≡ length w
-      len = simp length-set
-
-      other : (i : ℕ) → i ≢ list-at s p + n → i ≢ marks-at s p + j → getD w' i 0 ≡ getD w i 0
-      other i a b = off w1 (list-at s p + n) j i a ∙ off w (marks-at s p + j) 1 i b
-
       aside : Aside w w' s p
-      aside =
-          record {
-            under = record { len = len; low = λ i l. other i (λ q. omega arith) (λ q. omega arith) };
-            keeps = record { len = len; high = λ i l. other i (λ q. omega (arith, ns)) (λ q. omega (arith, js)) };
-          }
-
-      last : getD w' (list-at s p + n) 0 ≡ j
-      last = on w1 (list-at s p + n) j (simp length-set (omega (arith, fits, ns)))
-
-      marked : getD w' (marks-at s p + j) 0 ≡ 1
-      marked = off w1 (list-at s p + n) j (marks-at s p + j) (λ q. omega (arith, js)) ∙ on w (marks-at s p + j) 1 (omega (arith, fits, js))
-
-      marks : (i : ℕ) → i < s → getD w' (marks-at s p + i) 0 ≡ cond (any (in-slot i) (xs ++ x ∷ [])) 1 0
-      marks i l = rw (any-snoc i xs x) (go (decide i j))
-        where
-          or-true : (b : Bool) → _≡_ {A = ℕ} 1 (cond (b || true) 1 0)
-          or-true true = refl
-          or-true false = refl
-
-          go : Same i j → getD w' (marks-at s p + i) 0 ≡ cond (any (in-slot i) xs || eqb i (x .slot)) 1 0
-          go (same q) = rw (eq-eqb i (x .slot) (q ∙ h .slot)) (ap (λ (y : ℕ). getD w' (marks-at s p + y) 0) q ∙ marked ∙ or-true (any (in-slot i) xs))
-          go (differ q) = rw (ne-eqb i (x .slot) (λ y. q (y ∙ sym (h .slot))), or-false (any (in-slot i) xs))
-              (other (marks-at s p + i) (λ y. omega (arith, l)) (λ y. q (omega arith)) ∙ h .state .marks i l)
+      aside = appended-aside w s p n j js ns fits
 
       list : Listed w' s p (n + 1) m (xs ++ x ∷ [])
       list =
@@ -134,12 +124,12 @@ module _ (w : List ℕ) (s p n j : ℕ) (m : Mesh) (xs : List Live) (x : Live) (
             tris = tris-snoc xs x (h .state .list .tris) t;
             stored = rw (slots-append xs (x ∷ []))
                 (stored-snoc w' (list-at s p) (x .slot) (slots xs)
-                (stored-kept w w' (list-at s p) (slots xs) (λ i a b. other i (λ y. omega (arith, h .state .list .len, slots-length xs)) (λ y. omega (arith, js))) (h .state .list .stored))
-                (let y : list-at s p + length (slots xs) ≡ list-at s p + n = omega (arith, h .state .list .len, slots-length xs) in ap (λ (v : ℕ). getD w' v 0) y ∙ last ∙ h .slot));
+                (stored-kept w w' (list-at s p) (slots xs) (λ i a b. appended-other w s p n j i (λ y. omega (arith, h .state .list .len, slots-length xs)) (λ y. omega (arith, js))) (h .state .list .stored))
+                (let y : list-at s p + length (slots xs) ≡ list-at s p + n = omega (arith, h .state .list .len, slots-length xs) in ap (λ (v : ℕ). getD w' v 0) y ∙ appended-last w s p n j js ns fits ∙ h .slot));
           }
 
       state : State w' s p (n + 1) m (xs ++ x ∷ [])
-      state = record { list = list; marks = marks }
+      state = record { list = list; marks = appended-marks w s p n j js ns fits xs x (h .slot) (h .state .marks) }
 
 -- the answers of visit_one
 module _ (w : List ℕ) (s p n j : ℕ) (m : Mesh) (done todo : List Live) (x : Live) (h : Seen w s p n j m (done ++ todo) x) where

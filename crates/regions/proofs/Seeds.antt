@@ -1,22 +1,21 @@
 -- The marks cleared, and the first triangle listed.
-use mathlib.Core.Path.{_≡_, refl, ap, sym, _∙_, subst}
+use mathlib.Core.Path.{_≡_, refl, ap, _∙_}
 use mathlib.Core.Logic.{_≢_}
-use mathlib.Core.Bool.{Bool, true, false, cond, _||_, or-false}
-use mathlib.Core.List.{List, [], _∷_, _++_}
-use Prim.Native.Nat.{ℕ, zero, suc, _+_, _-_, _*_, _≤_, _<_}
+use mathlib.Core.Bool.{cond, or-false}
+use mathlib.Core.List.{List, [], _∷_}
+use Prim.Native.Nat.{ℕ, _+_, _*_, _≤_, _<_}
 use native.Mathlib.Omega.{arith}
 use lib.Dec.{eqb}
 use lib.ListN.{length, getD, set, length-set}
 use borrow.Author.Tests.{eq-eqb, ne-eqb}
 use Rattle.rings.proofs.Lists.{Same, same, differ, decide}
-use Rattle.rings.proofs.Rings.{on, off}
 use Rattle.definition.specs.Lists.{any}
-use Rattle.definition.specs.Cells.{Tri, tri, Live, Mesh, live-tri, is-tri, in-slot, new-live}
-use Rattle.cells.specs.Layout.{mesh-end, marks-at, list-at, refused-at}
-use Rattle.cells.specs.Rep.{Has, here, there, Rep, TriIn}
-use Rattle.cells.specs.Frames.{Under, Keeps}
+use Rattle.definition.specs.Cells.{Live, Mesh, live-tri, is-tri, in-slot, new-live}
+use Rattle.laws.specs.Frames.{on, off}
+use Rattle.cells.specs.Layout.{marks-at, list-at}
+use Rattle.cells.specs.Rep.{Has, here, Rep, TriIn}
 use Rattle.cells.proofs.Frames.{rep-under}
-use Rattle.regions.specs.Listing.{CanMark, Listed, State, Aside, Cleared}
+use Rattle.regions.specs.Listing.{CanMark, State, Aside, Cleared}
 use Rattle.regions.specs.Flood.{Seeded, tri-live}
 use Rattle.regions.proofs.Listings.{aside-refl, aside-trans}
 use Rattle.regions.proofs.Reaches.{appended}

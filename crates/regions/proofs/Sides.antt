@@ -1,10 +1,10 @@
 -- The sides of a quad.
-use mathlib.Core.Path.{_≡_, refl, ap, sym, _∙_, subst}
+use mathlib.Core.Path.{_≡_, sym, _∙_}
 use mathlib.Core.Bool.{Bool, true, false, _||_, _&&_}
 use Prim.Native.Nat.{ℕ}
 use lib.Dec.{eqb}
 use borrow.Author.Tests.{eq-eqb, ne-eqb}
-use Rattle.definition.specs.Cells.{quad, key, new-quad, quad-edges, has-edge-in, has-side}
+use Rattle.definition.specs.Cells.{key, new-quad, quad-edges, has-edge-in, has-side}
 use Rattle.cells.proofs.Edges.{joins, quad-side}
 
 pub pair-not : (a b u v : ℕ) → (a ≡ u → ⊥) → false ≡ (eqb a u && eqb b v)

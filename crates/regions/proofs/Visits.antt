@@ -4,20 +4,19 @@ use mathlib.Core.Logic.{_≢_}
 use mathlib.Core.Bool.{Bool, true, false, cond, not}
 use mathlib.Core.List.{List, [], _∷_, _++_, append-nil}
 use mathlib.Core.Option.{Option, none, some}
-use Prim.Native.Nat.{ℕ, zero, suc, _+_, _-_, _*_, _/_, _≤_, _<_}
+use Prim.Native.Nat.{ℕ, _*_, _/_, _≤_, _<_}
 use native.Mathlib.Omega.{arith}
-use lib.ListN.{length, getD}
+use lib.ListN.{length}
 use Rattle.definition.specs.Lists.{filter, flat-map}
 use Rattle.definition.specs.Plane.{Edge}
 use Rattle.definition.specs.Cells.{Tri, tri, Live, Mesh, key, owners, edges, tri-edges, nodes, tri-nodes, has-edge-in, new-live}
 use Rattle.definition.specs.Region.{reach, reach-all, across}
-use Rattle.cells.specs.Layout.{mesh-end}
 use Rattle.cells.specs.Rep.{Shape, Has, here, there, Rep, TriIn}
 use Rattle.cells.specs.Walk.{left, At, Next, IsEdge}
 use Rattle.cells.proofs.Slots.{owner-live, rep-held}
 use Rattle.cells.proofs.Owners.{Here, at-here, at-end}
 use Rattle.cells.proofs.Frames.{at-under, left-under}
-use Rattle.regions.specs.Listing.{State, Seen, Aside, Failed, Grown, Reached}
+use Rattle.regions.specs.Listing.{State, Seen, Aside, Reached}
 use Rattle.regions.specs.Flood.{unless, beyond, tri-live}
 use Rattle.regions.proofs.Listings.{aside-refl, aside-trans}
 

@@ -1,14 +1,14 @@
 -- What the tests of a region read, and what its replacement gives.
-use mathlib.Core.List.{List, [], _∷_, _++_}
+use mathlib.Core.List.{List, [], _∷_}
 use Prim.Native.Nat.{ℕ}
 use lib.ListN.{length}
 use lib.Ieee.{Float}
 use Rattle.rings.specs.Rings.{Below}
 use Rattle.definition.specs.Cells.{Live, Mesh, new-quad}
 use Rattle.definition.specs.Attempt.{replaced}
+use Rattle.laws.specs.Frames.{Keeps}
 use Rattle.cells.specs.Layout.{mesh-end}
 use Rattle.cells.specs.Rep.{Rep, TriIn, Pts}
-use Rattle.cells.specs.Frames.{Keeps}
 use Rattle.meshes.specs.Changes.{CanPush, quad-of-nodes}
 use Rattle.regions.specs.Listing.{Listed}
 

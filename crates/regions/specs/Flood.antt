@@ -1,9 +1,7 @@
 -- The flood of a region, edge after edge.
-use mathlib.Core.Path.{_≡_}
-use mathlib.Core.Bool.{Bool, true, false, cond}
-use mathlib.Core.List.{List, [], _∷_, _++_}
+use mathlib.Core.Bool.{Bool, true, false}
+use mathlib.Core.List.{List, [], _∷_}
 use Prim.Native.Nat.{ℕ}
-use lib.ListN.{length, getD}
 use Rattle.definition.specs.Plane.{Edge}
 use Rattle.definition.specs.Cells.{Tri, tri, Live, Mesh, owners, new-live, has-edge-in}
 use Rattle.cells.specs.Rep.{Rep, TriIn}

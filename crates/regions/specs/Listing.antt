@@ -1,23 +1,19 @@
 -- The list of the cells reached and a mark for each slot, beyond the mesh.
 use mathlib.Core.Path.{_≡_}
-use mathlib.Core.Bool.{Bool, true, false, cond}
+use mathlib.Core.Bool.{true, cond}
 use mathlib.Core.List.{List, [], _∷_, _++_}
 use mathlib.Core.Option.{Option, none, some}
-use Prim.Native.Nat.{ℕ, zero, suc, _+_, _*_, _^_, _<_, _≤_}
+use Prim.Native.Nat.{ℕ, _+_, _*_, _^_, _<_, _≤_}
 use lib.ListN.{length, getD}
 use Rattle.rings.specs.Rings.{Distinct}
 use Rattle.definition.specs.Lists.{any}
 use Rattle.definition.specs.Cells.{Live, Mesh, live-tri, in-slot}
+use Rattle.laws.specs.Lists.{Stored}
+use Rattle.laws.specs.Frames.{Under, Keeps}
 use Rattle.cells.specs.Layout.{mesh-end, marks-at, list-at, refused-at}
 use Rattle.cells.specs.Rep.{slots, Has, Rep}
-use Rattle.cells.specs.Frames.{Under, Keeps}
 
 -- ---- what is stored
-
--- the numbers of l stand from b on
-abbrev pub Stored : List ℕ → ℕ → List ℕ → Type 0
-Stored w b [] = Unit {0}
-Stored w b (x ∷ l) = (getD w b 0 ≡ x) × Stored w (b + 1) l
 
 -- the cells are triangles
 abbrev pub Tris : List Live → Type 0

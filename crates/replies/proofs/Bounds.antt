@@ -2,19 +2,17 @@
 use mathlib.Core.Path.{_≡_, refl, sym, ap, _∙_, subst}
 use mathlib.Core.Bool.{Bool}
 use mathlib.Core.Logic.{inl, inr}
-use mathlib.Core.List.{List, [], _∷_}
 use Prim.{absurd}
-use Prim.Native.Nat.{ℕ, suc, _+_, _≤_, _<_}
+use Prim.Native.Nat.{ℕ, _+_, _≤_, _<_}
 use native.Mathlib.Omega.{arith}
-use lib.ListN.{length}
-use lib.Ieee.{Float}
-use Rattle.definition.specs.Lists.{find, table, below}
+use Rattle.definition.specs.Lists.{find}
 use Rattle.definition.specs.Numbers.{base, max-attempts}
 use Rattle.definition.specs.Counts.{Counts, tally, no-counts, Want, of-points, of-slots, number}
 use Rattle.definition.specs.Front.{Outcome, ran, wanting, run-front}
-use Rattle.definition.specs.Call.{Asked, Lent, Lengths, finished, refusal, given-points, given-tris, first-points, settings, conditions, untouched, after-run, call}
+use Rattle.definition.specs.Call.{Asked, Lent, Lengths, finished, refusal, given-points, given-tris, settings, conditions, untouched, after-run, call}
 use Rattle.definition.specs.Call as call
-use Rattle.account.specs.Lists.{known, In, find-in, numbers-length}
+use Rattle.laws.specs.Lists.{In, find-in, known}
+use Rattle.laws.specs.Cells.{points-length}
 use Rattle.account.specs.Finished.{behind, points-number, tris-number}
 use Rattle.account.specs.Rounds.{attempts-bound}
 use Rattle.account.specs.Invariants.{answer-fits}
@@ -63,15 +61,6 @@ module _ (a : Asked) (l : Lent) (k : ℕ) where
   ]
 
 -- ---- finished runs
-
-table-length : {A B : Type 0} (f : A → B) (xs : List A) → length (table f xs) ≡ length xs
-unfolding table
-table-length f [] = refl
-table-length f (x ∷ xs) = ap suc (table-length f xs)
-
-points-length : (n : ℕ) (xs : List Float) → length (first-points n xs) ≡ n
-unfolding first-points below
-points-length n xs = table-length _ (below n) ∙ numbers-length 0 n
 
 -- every count is small, and the given points are among those that come back
 record Small (given : ℕ) (c : Counts) (n : Lengths) : Type 0 where

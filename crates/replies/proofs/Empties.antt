@@ -12,7 +12,7 @@ use Rattle.definition.specs.Cells.{Tri, front}
 use Rattle.definition.specs.Loops.{front-loops}
 use Rattle.definition.specs.Attempt.{Attempt, placed, refused, ended}
 use Rattle.definition.specs.Front.{State, Progress, stuck, progressed, limited, stopped, counting, after, make-attempt, past-limit, attempt, try-edges, open-edges, try-loops, round, front-loop, Result, ran, start, result, outcome, run-front}
-use Rattle.account.specs.Lists.{cond-ok}
+use Rattle.laws.specs.Bools.{cond-ok}
 
 -- how often the front was found empty
 abbrev found : State → ℕ

@@ -1,7 +1,7 @@
 -- Cells by ascending slot are those of slot 0, slot 1 and so on.
 use mathlib.Core.Path.{_≡_, refl, ap, sym, _∙_}
 use mathlib.Core.Logic.{_≢_}
-use mathlib.Core.Bool.{Bool, true, false}
+use mathlib.Core.Bool.{Bool}
 use mathlib.Core.List.{List, [], _∷_, _++_, append-nil}
 use mathlib.Core.Option.{Option, none, some}
 use Prim.Native.Nat.{ℕ, zero, suc, _+_, _≤_, _<_}
@@ -12,22 +12,15 @@ use Rattle.rings.specs.Rings.{Out, Distinct, Below}
 use Rattle.rings.proofs.Lists.{Same, same, differ, decide}
 use Rattle.definition.specs.Lists.{find, insert, sort, flat-map, numbers, below}
 use Rattle.definition.specs.Cells.{Tri, Live, Mesh, tri-of, tris-of, in-slot, cell-of, in-slot-order, triangles}
-use Rattle.account.specs.Lists.{flat-map-append}
-use Rattle.cells.specs.Rep.{Cells, slots, Rep}
-use Rattle.cells.proofs.Points.{numbers-snoc}
+use Rattle.laws.specs.Lists.{flat-map-append, numbers-snoc}
+use Rattle.laws.specs.Sorts.{insert-yes, insert-no}
+use Rattle.cells.proofs.Slots.{slots-below}
+use Rattle.cells.specs.Rep.{slots, Rep}
 use Rattle.results.specs.Wrote.{tris-in, slot-tris}
 
 -- by ascending slot
 abbrev lower : Live → Live → Bool
 lower x y = ltb (x .slot) (y .slot)
-
-insert-yes : (z x : Live) (l : List Live) → lower x z ≡ true → insert lower z (x ∷ l) ≡ x ∷ insert lower z l
-unfolding insert
-insert-yes z x l h = rw h
-
-insert-no : (z x : Live) (l : List Live) → lower x z ≡ false → insert lower z (x ∷ l) ≡ z ∷ x ∷ l
-unfolding insert
-insert-no z x l h = rw h
 
 -- ---- the cell of a slot
 
@@ -76,7 +69,7 @@ insert-first x l a (suc n) h = go (find (in-slot a) l) refl (insert-first x l (s
     go : (o : Option Live) → find (in-slot a) l ≡ o → insert lower x (from l (suc a) n) ≡ x ∷ from l (suc a) n
         → insert lower x (one o ++ from l (suc a) n) ≡ x ∷ (one o ++ from l (suc a) n)
     go none e r = r
-    go (some y) e r = let q : y .slot ≡ a = find-slot a l y e in insert-no x y (from l (suc a) n) (le-ltb (y .slot) (x .slot) (omega arith))
+    go (some y) e r = let q : y .slot ≡ a = find-slot a l y e in insert-no lower x y (from l (suc a) n) (le-ltb (y .slot) (x .slot) (omega arith))
 
 -- past its slot a cell is not met
 from-past : (x : Live) (l : List Live) (a n : ℕ) → x .slot < a → from (x ∷ l) a n ≡ from l a n
@@ -108,7 +101,7 @@ insert-from x l a (suc n) o h k = go (decide (x .slot) a) (find (in-slot a) l) r
     go (differ q) (some y) e rest =
         let s : y .slot ≡ a = find-slot a l y e in
         ap (λ (v : Option Live). insert lower x (one v ++ from l (suc a) n)) e
-        ∙ insert-yes x y (from l (suc a) n) (lt-ltb (y .slot) (x .slot) (omega arith))
+        ∙ insert-yes lower x y (from l (suc a) n) (lt-ltb (y .slot) (x .slot) (omega arith))
         ∙ ap (λ (v : List Live). y ∷ v) (rest q)
         ∙ ap (λ (v : Option Live). one v ++ from (x ∷ l) (suc a) n) (sym (find-past a x l q ∙ e))
 
@@ -153,13 +146,9 @@ tris-more m i =
     ∙ flat-map-append (slot-tris m) (numbers 0 i) (i ∷ [])
     ∙ ap (λ (v : List Tri). flat-map (slot-tris m) (numbers 0 i) ++ v) (append-nil (slot-tris m i))
 
-held-below : (w : List ℕ) (s k n : ℕ) (l : List Live) → Cells w s k n l → Below k (slots l)
-held-below w s k n [] h = tt
-held-below w s k n (x ∷ l) h = (h .0 .inside, held-below w s k n l (h .1))
-
 -- all slots
 pub tris-all : (w : List ℕ) (s p : ℕ) (m : Mesh) → Rep w s p m → triangles m ≡ tris-below m (m .used)
 unfolding triangles in-slot-order below cell-of
 tris-all w s p m r =
-    ap tris-of (sorted (m .live) (m .used) (r .distinct) (held-below w s (m .used) _ (m .live) (r .cells)))
+    ap tris-of (sorted (m .live) (m .used) (r .distinct) (slots-below w s (m .used) _ (m .live) (r .cells)))
     ∙ tris-from (m .live) 0 (m .used)

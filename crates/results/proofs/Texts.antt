@@ -11,7 +11,7 @@ use borrow.Rule.Slice.PartMut.{midOf, putMid}
 use Rattle.definition.specs.Lists.{flat-map}
 use Rattle.definition.specs.Cells.{Tri, Cell, tri, quad, Live, Mesh, new-live, tri-nodes, tri-of, cell-of}
 use Rattle.definition.specs.Call.{onto}
-use Rattle.account.specs.Lists.{flat-map-append}
+use Rattle.laws.specs.Lists.{flat-map-append}
 use Rattle.cells.specs.Rep.{Rep, Has, TriIn, CellAt}
 use Rattle.cells.proofs.Slots.{read-tri, rep-held, rep-cell, tri-in, tri-held}
 use Rattle.cells.proofs.Members.{Lookup, absent, present, lookup}

@@ -1,11 +1,7 @@
 -- Linked chains: what a link and an unlink do to one.
-use mathlib.Core.Path.{_≡_, refl, ap, sym, _∙_, subst}
-use mathlib.Core.Bool.{Bool, true, false, cond}
+use mathlib.Core.Path.{_≡_, ap, sym, _∙_, subst}
 use mathlib.Core.List.{List, [], _∷_, _++_}
-use Prim.Native.Nat.{ℕ, zero, suc, _+_, _-_, _*_, _≤_, _<_}
-use native.Mathlib.Omega.{arith}
-use lib.Dec.{eqb}
-use lib.ListN.{length, getD}
+use Prim.Native.Nat.{ℕ, _<_}
 use Rattle.rings.specs.Rings.{Linked, Out, Distinct, Below, without}
 use Rattle.rings.proofs.Lists.{Same, same, differ, decide, without-hit, without-miss, without-out}
 

@@ -1,14 +1,14 @@
 -- All rings at once: a code comes into one of them, or goes.
-use mathlib.Core.Path.{_≡_, refl, ap, sym, _∙_, subst}
+use mathlib.Core.Path.{_≡_, _∙_, subst}
 use mathlib.Core.Logic.{_≢_}
 use mathlib.Core.Bool.{Bool, true, false}
 use mathlib.Core.List.{List, [], _∷_, _++_, append-nil}
-use Prim.Native.Nat.{ℕ, zero, suc, _+_, _-_, _*_, _/_, _≤_, _<_}
+use Prim.Native.Nat.{ℕ, _+_, _≤_, _<_}
 use native.Mathlib.Omega.{arith}
 use lib.Dec.{eqb}
 use lib.ListN.{length, getD}
 use borrow.Author.Tests.{eq-eqb, ne-eqb}
-use Rattle.rings.specs.Rings.{nx, pv, Linked, Out, Distinct, Below, without, Ring, Kept, LinkedTo, UnlinkedFrom, OpenedFrom, CanLink, CanUnlink, CanOpen, Family, pick, more, less}
+use Rattle.rings.specs.Rings.{nx, pv, Linked, Out, Below, Ring, LinkedTo, UnlinkedFrom, OpenedFrom, CanLink, CanUnlink, CanOpen, Family, pick, more, less}
 use Rattle.rings.proofs.Lists.{Same, same, differ, decide, below-append, below-without, out-append}
 use Rattle.rings.proofs.Chains.{both}
 use Rattle.rings.proofs.Rings.{last-below}
@@ -28,7 +28,7 @@ pick-out x c false h = tt
 pub more-out : (R : ℕ → List ℕ) (x c a : ℕ) → c ≢ x → ((v : ℕ) → Out x (R v)) → (v : ℕ) → Out x (more R c a v)
 more-out R x c a h o v = out-append x (R v) (pick (eqb a v) c) (o v) (pick-out x c (eqb a v) h)
 
-near : (f g : ℕ → ℕ) (n : ℕ) (l : List ℕ) (a z c : ℕ) → Linked f g a l z → a < n → z < n → Below n l → (Out c l → ⊥) → (f c < n) × (g c < n)
+pub near : (f g : ℕ → ℕ) (n : ℕ) (l : List ℕ) (a z c : ℕ) → Linked f g a l z → a < n → z < n → Below n l → (Out c l → ⊥) → (f c < n) × (g c < n)
 near f g n [] a z c h an zn b i = absurd (i tt)
 near f g n (x ∷ l) a z c h an zn b i = go (decide x c) (λ j. near f g n l x z c (h .2) (b .0) zn (b .1) j)
   where

@@ -2,10 +2,10 @@
 use mathlib.Core.Path.{_≡_, refl, ap, sym, _∙_, subst}
 use mathlib.Core.Bool.{Bool, true, false, cond}
 use mathlib.Core.List.{List, [], _∷_, _++_}
-use Prim.Native.Nat.{ℕ, zero, suc, _+_, _-_, _*_, _≤_, _<_}
+use Prim.Native.Nat.{ℕ, zero, suc, _+_, _≤_}
 use native.Mathlib.Omega.{arith}
 use lib.Dec.{eqb}
-use lib.ListN.{length, getD}
+use lib.ListN.{length}
 use borrow.Author.Tests.{eqb-true, eqb-false, eq-eqb, ne-eqb}
 use Rattle.rings.specs.Rings.{Out, Distinct, Below, without}
 
@@ -107,3 +107,12 @@ pub room : (n : ℕ) (l : List ℕ) → Distinct l → Below n l → length l �
 room zero [] d b = omega arith
 room zero (x ∷ l) d b = omega (arith, b .0)
 room (suc n) l d b = omega (arith, without-length n l d, room n (without n l) (distinct-without n l d) (below-less n l b))
+
+pub out-self : (c : ℕ) (l : List ℕ) → Out c (without c l)
+unfolding without
+out-self c [] = tt
+out-self c (x ∷ l) = go (decide x c) (out-self c l)
+  where
+    go : Same x c → Out c (without c l) → Out c (without c (x ∷ l))
+    go (same e) r = rw (without-hit c x l e) r
+    go (differ e) r = rw (without-miss c x l e) ((e, r))

@@ -1,13 +1,12 @@
 -- Empty rings: the sentinels from t up to c are linked to themselves, and nothing else changed.
-use mathlib.Core.Path.{_≡_, refl, ap, sym, _∙_, subst}
-use mathlib.Core.Logic.{_≢_}
-use mathlib.Core.List.{List, [], _∷_}
-use Prim.Native.Nat.{ℕ, zero, suc, _+_, _-_, _*_, _≤_, _<_}
+use mathlib.Core.Path.{_≡_, _∙_}
+use mathlib.Core.List.{List}
+use Prim.Native.Nat.{ℕ, _+_, _≤_, _<_}
 use native.Mathlib.Omega.{arith}
-use lib.ListN.{length, getD, set, length-set}
-use Rattle.rings.specs.Rings.{Ring, nx, pv, Kept, OpenedFrom}
+use lib.ListN.{length, set, length-set}
+use Rattle.laws.specs.Frames.{on, off}
+use Rattle.rings.specs.Rings.{nx, pv, Kept, OpenedFrom}
 use Rattle.rings.proofs.Lists.{Same, same, differ, decide}
-use Rattle.rings.proofs.Rings.{on, off}
 
 pub record Alone (w : List ℕ) (b n x : ℕ) : Type 0 where
   pub next : nx w b x ≡ x
@@ -22,9 +21,6 @@ pub record Opened (w w' : List ℕ) (b n t c : ℕ) : Type 0 where
 abbrev pub openW : List ℕ → ℕ → ℕ → ℕ → List ℕ
 openW w b n c = set (set w (b + c) c) (b + n + c) c
 
-pub kept-refl : (w : List ℕ) (b n : ℕ) → Kept w w b n
-kept-refl w b n = record { len = refl; before = λ i h. refl; after = λ i h. refl }
-
 pub open-more : (w₀ w : List ℕ) (b n t c : ℕ) → b + n + n ≤ length w₀ → c < n → Opened w₀ w b n t c → Opened w₀ (openW w b n c) b n t (c + 1)
 open-more w₀ w b n t c f h o =
     let w1 = set w (b + c) c in
@@ -34,8 +30,8 @@ open-more w₀ w b n t c f h o =
       within = omega arith;
       kept = record {
         len = simp length-set (k .len);
-        before = λ i g. off w1 (b + n + c) c i (omega arith) ∙ off w (b + c) c i (omega arith) ∙ k .before i g;
-        after = λ i g. off w1 (b + n + c) c i (omega arith) ∙ off w (b + c) c i (omega arith) ∙ k .after i g;
+        low = λ i g. off w1 (b + n + c) c i (omega arith) ∙ off w (b + c) c i (omega arith) ∙ k .low i g;
+        high = λ i g. off w1 (b + n + c) c i (omega arith) ∙ off w (b + c) c i (omega arith) ∙ k .high i g;
       };
       alone = λ x l g. go x l g (decide x c);
     }

@@ -1,20 +1,14 @@
 -- What the stores of link and unlink do to the rings of a memory.
-use mathlib.Core.Path.{_≡_, refl, ap, sym, _∙_, subst}
+use mathlib.Core.Path.{_≡_, refl, sym, _∙_}
 use mathlib.Core.Logic.{_≢_}
-use mathlib.Core.List.{List, [], _∷_, _++_}
-use Prim.Native.Nat.{ℕ, zero, suc, _+_, _-_, _*_, _≤_, _<_}
+use mathlib.Core.List.{List, [], _∷_}
+use Prim.Native.Nat.{ℕ, _+_, _≤_, _<_}
 use native.Mathlib.Omega.{arith}
-use lib.ListN.{length, getD, set, length-set}
-use lib.Seq.{getD-set-same, getD-set-other}
-use Rattle.rings.specs.Rings.{nx, pv, Linked, Out, Distinct, Below, without, Ring, linkedW, unlinkedW, Kept, LinkedTo, UnlinkedFrom}
-use Rattle.rings.proofs.Lists.{Same, same, differ, decide, out-append, below-append, distinct-snoc, out-without, below-without, distinct-without}
-use Rattle.rings.proofs.Chains.{Link, Unlink, back, both, link-own, link-other, unlink-own}
-
-pub on : (w : List ℕ) (i v : ℕ) → i < length w → getD (set w i v) i 0 ≡ v
-on w i v h = getD-set-same w i v 0 h
-
-pub off : (w : List ℕ) (i v j : ℕ) → j ≢ i → getD (set w i v) j 0 ≡ getD w j 0
-off w i v j h = getD-set-other w i j v 0 h
+use lib.ListN.{length, set, length-set}
+use Rattle.laws.specs.Frames.{on, off}
+use Rattle.rings.specs.Rings.{nx, pv, Linked, Out, Below, linkedW, unlinkedW, Kept, LinkedTo, UnlinkedFrom}
+use Rattle.rings.proofs.Lists.{out-append, below-append, distinct-snoc, out-without, below-without, distinct-without}
+use Rattle.rings.proofs.Chains.{Link, Unlink, back, link-own, link-other, unlink-own}
 
 -- a chain's last code is one of its codes, or where it starts
 pub last-below : (f g : ℕ → ℕ) (n : ℕ) (l : List ℕ) (a z : ℕ) → Linked f g a l z → a < n → Below n l → g z < n
@@ -35,8 +29,8 @@ module _ (w : List ℕ) (b n c t : ℕ) (fits : b + n + n ≤ length w) (cn : c 
       let w3 = set w2 (b + n + c) q in
       record {
         len = simp length-set;
-        before = λ i h. off w3 (b + n + t) c i (omega arith) ∙ off w2 (b + n + c) q i (omega arith) ∙ off w1 (b + c) t i (omega arith) ∙ off w (b + q) c i (omega arith);
-        after = λ i h. off w3 (b + n + t) c i (omega arith) ∙ off w2 (b + n + c) q i (omega arith) ∙ off w1 (b + c) t i (omega arith) ∙ off w (b + q) c i (omega arith);
+        low = λ i h. off w3 (b + n + t) c i (omega arith) ∙ off w2 (b + n + c) q i (omega arith) ∙ off w1 (b + c) t i (omega arith) ∙ off w (b + q) c i (omega arith);
+        high = λ i h. off w3 (b + n + t) c i (omega arith) ∙ off w2 (b + n + c) q i (omega arith) ∙ off w1 (b + c) t i (omega arith) ∙ off w (b + q) c i (omega arith);
       }
 
   link-does : c ≢ t → pv w b n t ≢ c → Link n (nx w b) (pv w b n) (nx (linkedW w b n c t) b) (pv (linkedW w b n c t) b n) c t
@@ -92,8 +86,8 @@ module _ (w : List ℕ) (b n c : ℕ) (fits : b + n + n ≤ length w) (cn : c < 
       let w1 = set w (b + q) x in
       record {
         len = simp length-set;
-        before = λ i h. off w1 (b + n + x) q i (omega arith) ∙ off w (b + q) x i (omega arith);
-        after = λ i h. off w1 (b + n + x) q i (omega arith) ∙ off w (b + q) x i (omega arith);
+        low = λ i h. off w1 (b + n + x) q i (omega arith) ∙ off w (b + q) x i (omega arith);
+        high = λ i h. off w1 (b + n + x) q i (omega arith) ∙ off w (b + q) x i (omega arith);
       }
 
   unlink-does : Unlink n (nx w b) (pv w b n) (nx (unlinkedW w b n c) b) (pv (unlinkedW w b n c) b n) c

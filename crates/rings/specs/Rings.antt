@@ -2,9 +2,10 @@
 use mathlib.Core.Path.{_≡_}
 use mathlib.Core.Bool.{Bool, true, false, cond}
 use mathlib.Core.List.{List, [], _∷_, _++_}
-use Prim.Native.Nat.{ℕ, _+_, _*_, _^_, _<_, _≤_}
+use Prim.Native.Nat.{ℕ, _+_, _^_, _<_, _≤_}
 use lib.Dec.{eqb}
 use lib.ListN.{length, getD, set}
+use Rattle.laws.specs.Frames.{Only}
 
 -- the code after i, and the code before i
 abbrev pub nx : List ℕ → ℕ → ℕ → ℕ
@@ -55,10 +56,8 @@ unfoldable pub unlinkedW : List ℕ → ℕ → ℕ → ℕ → List ℕ
 unlinkedW w b n c = set (set w (b + pv w b n c) (nx w b c)) (b + n + nx w b c) (pv w b n c)
 
 -- nothing changed but the 2 n numbers from b on
-pub record Kept (w w' : List ℕ) (b n : ℕ) : Type 0 where
-  pub len : length w' ≡ length w
-  pub before : (i : ℕ) → i < b → getD w' i 0 ≡ getD w i 0
-  pub after : (i : ℕ) → b + n + n ≤ i → getD w' i 0 ≡ getD w i 0
+abbrev pub Kept : List ℕ → List ℕ → ℕ → ℕ → Type 0
+Kept w w' b n = Only w w' b (b + n + n)
 
 -- c came in before the sentinel t; the other rings that do not have c stay
 pub record LinkedTo (w w' : List ℕ) (b n c t : ℕ) : Type 0 where

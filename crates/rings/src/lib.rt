@@ -1,5 +1,5 @@
 // Circular lists of codes 0 .. n in a part of a slice: next[] of n codes stands at b, prev[] at b + n.
-ghost use Rattle.rings.specs.Rings.{nx, pv, CanRead, CanOpen, CanLink, CanUnlink, OpenedFrom, LinkedTo, UnlinkedFrom};
+ghost use Rattle.rings.specs.Rings.{nx, CanRead, CanOpen, CanLink, CanUnlink, OpenedFrom, LinkedTo, UnlinkedFrom};
 ghost use mathlib.Core.Path.{_≡_};
 
 // A number of the slice as an index.
@@ -15,14 +15,6 @@ pub fn next(w: &[u32], b: usize, n: usize, c: usize) -> usize
     ensures { λ r. ⌜ r ≡ nx (now (w .entry)) b c ⌝ }
 {
     wide(w[b + c])
-}
-
-// The code before it.
-pub fn prev(w: &[u32], b: usize, n: usize, c: usize) -> usize
-    requires { ⌜ CanRead (now w) b n c ⌝ }
-    ensures { λ r. ⌜ r ≡ pv (now (w .entry)) b n c ⌝ }
-{
-    wide(w[b + n + c])
 }
 
 // Each code from t on becomes the sentinel of an empty ring.

@@ -8,8 +8,8 @@ use native.Mathlib.Omega.{arith}
 use lib.Pow.{pow-add, pow-pos}
 use lib.Ieee.{Float, nan, inf, fin, binary64, up, down, ofBits}
 use lib.Ieee.Exact.{HasValue}
+use Rattle.laws.specs.Isqrt.{four-pow}
 use Rattle.rounding.specs.Parts.{Leading, Evened}
-use Rattle.rounding.specs.Isqrt.{four-pow}
 use Rattle.rounding.specs.Fields.{field-value}
 use Rattle.rounding.specs.Root.{evened as fourfold}
 use Rattle.root.specs.Exact.{WholeRoot, Doubled, Radicand}

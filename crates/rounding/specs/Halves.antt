@@ -1,5 +1,5 @@
 -- A vector's length from the length of its double, where tests of floats show that nothing underflows and nothing overflows. Assumes nothing.
-use mathlib.Core.Path.{_≡_, refl, sym, ap, _∙_, subst}
+use mathlib.Core.Path.{_≡_, refl, sym, ap, _∙_}
 use mathlib.Core.Logic.{inl, inr}
 use Prim.Native.Nat.{ℕ, zero, suc, _*_, _^_, _≤_}
 use native.Mathlib.Nat.{le-trans, zero-mul, mul-mul-mul-comm, mul-pos, le-of-mul-le-mul-right}
@@ -14,6 +14,7 @@ use lib.Ieee.Positive.{positive, between, own-value, values-of-le, num, den}
 use lib.Ieee.Scale.{round-same}
 use Rattle.definition.specs.Floats.{_⊕_, _⊗_, _≼_, abs, f64, 0·0, 0·5}
 use Rattle.definition.specs.Root.{sqrt}
+use Rattle.laws.specs.Bools.{to-T}
 use Rattle.rounding.specs.Near.{digits-of}
 use Rattle.rounding.specs.Fourfold.{Middling, alike, half-root}
 
@@ -94,16 +95,13 @@ pub record HalfOf (x u : Float) : Type 0 where
   pub middling : Middling x
   pub twice : T (eq (x ⊕ x) u)
 
-is : {b : Bool} → b ≡ true → T b
-is e = subst T (sym e) tt
-
 -- where x is zero
 pub half-zero : (x u : Float) → eq (x ⊕ x) u ≡ true → eq x 0·0 ≡ true → HalfOf x u
-half-zero x u e z = record { middling = middling-zero x (is z); twice = is e }
+half-zero x u e z = record { middling = middling-zero x (to-T z); twice = to-T e }
 
 -- and where its size is in the range
 pub half-size : (x u : Float) → fits binary64 x ≡ true → eq (x ⊕ x) u ≡ true → (smallest ≼ abs x) ≡ true → (abs x ≼ largest) ≡ true → HalfOf x u
-half-size x u f e lo hi = record { middling = middling-size x (is f) (is lo) (is hi); twice = is e }
+half-size x u f e lo hi = record { middling = middling-size x (to-T f) (to-T lo) (to-T hi); twice = to-T e }
 
 -- the length of a vector is half of the length of its double
 pub half-length : (x y u v : Float) → HalfOf x u → HalfOf y v → 0·5 ⊗ sqrt (u ⊗ u ⊕ v ⊗ v) ≡ sqrt (x ⊗ x ⊕ y ⊗ y)

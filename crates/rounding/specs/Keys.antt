@@ -1,6 +1,6 @@
 -- The bucket key of a coordinate c is `floor (c ⊘ b)`. It grows with its coordinate, so two ranges of keys on two sides of a key do not meet.
 -- The laws hold for all doubles that their hypotheses allow: infinities, zeros of either sign, quotients that overflow or underflow. Assumes nothing.
-use mathlib.Core.Path.{_≡_, refl, sym, ap, _∙_, subst}
+use mathlib.Core.Path.{_≡_, refl, sym, ap, _∙_}
 use mathlib.Core.Logic.{inl, inr}
 use mathlib.Core.Bool.{Bool, true, false, _&&_, cond, true≢false}
 use Prim.Native.Nat.{ℕ, zero, suc, _+_, _-_, _*_, _/_, _≤_, _<_}
@@ -14,38 +14,30 @@ use lib.Ieee.Nearest.{div-mono}
 use Rattle.definition.specs.Floats.{_⊘_, _≺_, _≼_, lesser, greater, finite, f64, 0·0}
 use Rattle.definition.specs.Root.{floor}
 use Rattle.definition.specs.Flips.{ranges-meet}
+use Rattle.laws.specs.Bools.{of-T, to-T}
 use Rattle.rounding.specs.Order.{AtMost, le→at-most, through-le, lt-le-clash, le-or-lt, real-left, real-right, not-below-nan, lowest, highest, round-le, round-real}
 
 -- ---- ≼ and ≺
-
--- a test that passed, by its answer
-passed : (b : Bool) → T b → b ≡ true
-passed true t = refl
-passed false t = absurd t
 
 -- a test that cannot pass
 failed : (b : Bool) → (T b → ⊥) → b ≡ false
 failed true f = absurd (f tt)
 failed false f = refl
 
--- the answer, as a test that passed
-holds : {b : Bool} → b ≡ true → T b
-holds e = subst T (sym e) tt
-
 -- ≼ is transitive: no NaN, infinities and both zeros included
 pub le-trans : (x y z : Float) → (x ≼ y) ≡ true → (y ≼ z) ≡ true → (x ≼ z) ≡ true
 unfolding _≼_
-le-trans x y z h k = passed (le x z) (through-le x y z (holds h) (holds k))
+le-trans x y z h k = of-T (le x z) (through-le x y z (to-T h) (to-T k))
 
 -- where x is below y, y is not at most x
 pub lt-not-le : (x y : Float) → (x ≺ y) ≡ true → (y ≼ x) ≡ false
 unfolding _≺_ _≼_
-lt-not-le x y h = failed (le y x) (lt-le-clash x y (holds h))
+lt-not-le x y h = failed (le y x) (lt-le-clash x y (to-T h))
 
 -- where x is at most y, y is not below x
 pub le-not-lt : (x y : Float) → (x ≼ y) ≡ true → (y ≺ x) ≡ false
 unfolding _≺_ _≼_
-le-not-lt x y h = failed (lt y x) (λ (l : T (lt y x)). lt-le-clash y x l (holds h))
+le-not-lt x y h = failed (lt y x) (λ (l : T (lt y x)). lt-le-clash y x l (to-T h))
 
 -- what is below is at most
 pub lt-le : (x y : Float) → (x ≺ y) ≡ true → (x ≼ y) ≡ true
@@ -56,13 +48,13 @@ lt-le x y h = rw h
 pub lt-le-trans : (x y z : Float) → (x ≺ y) ≡ true → (y ≼ z) ≡ true → (x ≺ z) ≡ true
 unfolding _≺_ _≼_
 lt-le-trans x y z h k =
-    elim (le-or-lt x z (real-left x y (holds (lt-le x y h))) (real-right y z (holds k))) [ inl l ↦ absurd (lt-le-clash x y (holds h) (through-le y z x (holds k) l)) | inr l ↦ passed (lt x z) l ]
+    elim (le-or-lt x z (real-left x y (to-T (lt-le x y h))) (real-right y z (to-T k))) [ inl l ↦ absurd (lt-le-clash x y (to-T h) (through-le y z x (to-T k) l)) | inr l ↦ of-T (lt x z) l ]
 
 -- at most one that is below a third is below the third
 pub le-lt-trans : (x y z : Float) → (x ≼ y) ≡ true → (y ≺ z) ≡ true → (x ≺ z) ≡ true
 unfolding _≺_ _≼_
 le-lt-trans x y z h k =
-    elim (le-or-lt x z (real-left x y (holds h)) (real-right y z (holds (lt-le y z k)))) [ inl l ↦ absurd (lt-le-clash y z (holds k) (through-le z x y l (holds h))) | inr l ↦ passed (lt x z) l ]
+    elim (le-or-lt x z (real-left x y (to-T h)) (real-right y z (to-T (lt-le y z k)))) [ inl l ↦ absurd (lt-le-clash y z (to-T k) (through-le z x y l (to-T h))) | inr l ↦ of-T (lt x z) l ]
 
 -- ---- `floor` keeps the order
 
@@ -112,7 +104,7 @@ floor-le (fin s m e) (fin t n d) h =
 -- the floors of two doubles are in their order
 pub floor-mono : (x y : Float) → (x ≼ y) ≡ true → (floor x ≼ floor y) ≡ true
 unfolding _≼_
-floor-mono x y h = passed (le (floor x) (floor y)) (floor-le x y (holds h))
+floor-mono x y h = of-T (le (floor x) (floor y)) (floor-le x y (to-T h))
 
 -- ---- a quotient by a number above zero keeps the order
 
@@ -177,7 +169,7 @@ over-le (fin false p g) x y B X Y h = over-finite x y p g (num-pos p g B) h
 -- the keys of two finite coordinates are in their order; the bucket may be infinite
 pub key-mono : (b x y : Float) → (0·0 ≺ b) ≡ true → T (finite x) → T (finite y) → (x ≼ y) ≡ true → (floor (x ⊘ b) ≼ floor (y ⊘ b)) ≡ true
 unfolding _≺_ _≼_
-key-mono b x y B X Y h = passed (le (floor (x ⊘ b)) (floor (y ⊘ b))) (floor-le (x ⊘ b) (y ⊘ b) (over-le b x y (holds B) X Y (holds h)))
+key-mono b x y B X Y h = of-T (le (floor (x ⊘ b)) (floor (y ⊘ b))) (floor-le (x ⊘ b) (y ⊘ b) (over-le b x y (to-T B) X Y (to-T h)))
 
 -- floors are not in the other order
 order-clash : (x y : Float) → T (le x y) → T (lt (floor y) (floor x)) → ⊥
@@ -194,7 +186,7 @@ key-clash (fin false p g) x y B h l = order-clash (x ⊘ fin false p g) (y ⊘ f
 -- of any two coordinates in order the first has no key above that of the second; an infinity over an infinity is a NaN, and so is its key
 pub key-not-above : (b x y : Float) → (0·0 ≺ b) ≡ true → (x ≼ y) ≡ true → (floor (y ⊘ b) ≺ floor (x ⊘ b)) ≡ false
 unfolding _≺_ _≼_
-key-not-above b x y B h = failed (lt (floor (y ⊘ b)) (floor (x ⊘ b))) (key-clash b x y (holds B) (holds h))
+key-not-above b x y B h = failed (lt (floor (y ⊘ b)) (floor (x ⊘ b))) (key-clash b x y (to-T B) (to-T h))
 
 -- ---- ranges on two sides of k
 
@@ -221,7 +213,7 @@ apart-low k p q r s hp hq hr hs =
     let b = greater r s in
     let i : (k ≺ a) ≡ true = of-lesser (λ x. (k ≺ x) ≡ true) p q hp hq in
     let j : (k ≺ b) ≡ false = of-greater (λ x. (k ≺ x) ≡ false) r s hr hs in
-    let l : (a ≼ b) ≡ false = failed (a ≼ b) (λ (t : T (a ≼ b)). true≢false (sym (lt-le-trans k a b i (passed (a ≼ b) t)) ∙ j)) in
+    let l : (a ≼ b) ≡ false = failed (a ≼ b) (λ (t : T (a ≼ b)). true≢false (sym (lt-le-trans k a b i (of-T (a ≼ b) t)) ∙ j)) in
     rw l
 
 -- p and q lie below k, r and s do not; r and s may be NaNs
@@ -232,7 +224,7 @@ apart-high k p q r s hp hq hr hs =
     let b = greater p q in
     let i : (b ≺ k) ≡ true = of-greater (λ x. (x ≺ k) ≡ true) p q hp hq in
     let j : (a ≺ k) ≡ false = of-lesser (λ x. (x ≺ k) ≡ false) r s hr hs in
-    let l : (a ≼ b) ≡ false = failed (a ≼ b) (λ (t : T (a ≼ b)). true≢false (sym (le-lt-trans a b k (passed (a ≼ b) t) i) ∙ j)) in
+    let l : (a ≼ b) ≡ false = failed (a ≼ b) (λ (t : T (a ≼ b)). true≢false (sym (le-lt-trans a b k (of-T (a ≼ b) t) i) ∙ j)) in
     off (lesser p q ≼ greater r s) l
   where
     off : (a : Bool) {b : Bool} → b ≡ false → (a && b) ≡ false

@@ -6,7 +6,6 @@
 -- `Order`: the order of doubles, which `round` keeps. `Keys`: a bucket key grows with its coordinate.
 pub mod Nearest
 pub mod Parts
-pub mod Isqrt
 pub mod Rounded
 pub mod Fields
 pub mod Shift

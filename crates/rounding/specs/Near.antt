@@ -16,10 +16,10 @@ use lib.Ieee.Fits.{down-pos}
 use lib.Ieee.Bits.{ofBits-toBits}
 use lib.Ieee.Exact.{HasValue, units-val}
 use Rattle.definition.specs.Root.{isqrt, sqrt}
+use Rattle.laws.specs.Isqrt.{IsRoot, sq-lt, isqrt-root}
 use Rattle.rounding.specs.Nearest.{ulps, Nearer, HalfUnit}
 use Rattle.rounding.specs.Parts.{Leading, Evened}
 use Rattle.rounding.specs.Shift.{leading}
-use Rattle.rounding.specs.Isqrt.{IsRoot, isqrt-root, sq-lt}
 use Rattle.rounding.specs.Rounded.{no-odd-root}
 use Rattle.rounding.specs.Fields.{sig-of, field-value, bits-lt, bits-pos}
 use Rattle.rounding.specs.Root.{root-units, root-ge, root-lt, evened}

@@ -12,6 +12,7 @@ use lib.Ieee.{Float, nan, inf, fin, Format, binary64, prec, emax, low, up, down,
 use lib.Ieee.Fits.{down-pos, and-l, and-r, and-i, eq→eqb, round-is}
 use lib.Ieee.Nearest.{closest}
 use lib.Ieee.Order.{drop, kept, round-mono}
+use Rattle.laws.specs.Bools.{T-or, T-left, T-right}
 
 -- ---- a signed number, ±a, as the difference of two
 
@@ -70,28 +71,13 @@ same→level true a true b h = and-i (eqb a b) true (equal a b (omega arith)) tt
 same→level false a true b h = and-i (eqb a b) (eqb a 0) (equal a b (omega arith)) (equal a 0 (omega arith))
 same→level true a false b h = and-i (eqb a b) (eqb a 0) (equal a b (omega arith)) (equal a 0 (omega arith))
 
--- one of two tests that passed together
-or-split : (a b : Bool) → T (a || b) → T a ⊎ T b
-or-split true b t = inl tt
-or-split false b t = inr t
-
--- the first of two tests is enough
-or-left : (a b : Bool) → T a → T (a || b)
-or-left true b t = tt
-or-left false b t = absurd t
-
--- and so is the second
-or-right : (a b : Bool) → T b → T (a || b)
-or-right true b t = tt
-or-right false b t = t
-
 -- from `le` to the numbers
 pub le→at-most : (s : Bool) (m : ℕ) (e : ℤ) (t : Bool) (n : ℕ) (d : ℤ) → T (le (fin s m e) (fin t n d)) → AtMost s (m * up e * down d) t (n * up d * down e)
 unfolding le
 le→at-most s m e t n d h =
     let a = m * up e * down d in
     let b = n * up d * down e in
-    elim (or-split (below s a t b) (level s a t b) h) [ inl l ↦ omega (arith, below→under s a t b l) | inr l ↦ level→same s a t b l ]
+    elim (T-or (below s a t b) (level s a t b) h) [ inl l ↦ omega (arith, below→under s a t b l) | inr l ↦ level→same s a t b l ]
 
 -- and back
 pub at-most→le : (s : Bool) (m : ℕ) (e : ℤ) (t : Bool) (n : ℕ) (d : ℤ) → AtMost s (m * up e * down d) t (n * up d * down e) → T (le (fin s m e) (fin t n d))
@@ -100,8 +86,8 @@ at-most→le s m e t n d h =
     let a = m * up e * down d in
     let b = n * up d * down e in
     elim (decLt (plus s a + less t b) (plus t b + less s a)) [
-      | yes l ↦ or-left (below s a t b) (level s a t b) (under→below s a t b l)
-      | no l ↦ or-right (below s a t b) (level s a t b) (same→level s a t b (omega arith))
+      | yes l ↦ T-left (below s a t b) (level s a t b) (under→below s a t b l)
+      | no l ↦ T-right (below s a t b) (level s a t b) (same→level s a t b (omega arith))
     ]
 
 -- ---- `le` is transitive

@@ -11,7 +11,7 @@ use lib.Ieee.{Float, nan, inf, fin, binary64, up, down, size, units, round, toBi
 use lib.Ieee.Fits.{down-pos, up-pos}
 use lib.Ieee.Exact.{HasValue}
 use Rattle.definition.specs.Root.{isqrt, scale, sqrt}
-use Rattle.rounding.specs.Isqrt.{IsRoot, isqrt-levels, lt-of-squares, scaled-root, four-pow}
+use Rattle.laws.specs.Isqrt.{IsRoot, lt-of-squares, four-pow, isqrt-levels, scaled-root}
 use Rattle.rounding.specs.Rounded.{left-over, left-over-le, half-up, round-root}
 use Rattle.rounding.specs.Parts.{Significand, Leading, Evened}
 use Rattle.rounding.specs.Fields.{units-bits, field-value}

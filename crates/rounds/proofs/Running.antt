@@ -1,32 +1,30 @@
 -- Rounds, until one places no quad: fuel enough is left, since each that does makes an attempt.
 use mathlib.Core.Path.{_≡_, refl, ap, sym, _∙_, subst}
-use mathlib.Core.Bool.{Bool, true, false, not}
-use mathlib.Core.List.{List, [], _∷_, _++_}
-use Prim.{⊥, absurd, tt}
-use Prim.Native.Nat.{ℕ, zero, suc, _+_, _-_, _*_, _^_, _<_, _≤_}
+use mathlib.Core.Bool.{true, false}
+use mathlib.Core.List.{List, []}
+use Prim.{absurd}
+use Prim.Native.Nat.{ℕ, zero, suc, _+_, _-_, _*_, _<_, _≤_}
 use native.Mathlib.Omega.{arith}
 use lib.Ieee.{Float}
-use lib.ListN.{length, getD, drop}
+use lib.ListN.{length}
 use Rattle.definition.specs.Lists.{flat-map}
-use Rattle.definition.specs.Counts.{Counts, tally, no-counts, Want, of-points, of-slots}
-use Rattle.definition.specs.Plane.{Node, Edge}
-use Rattle.definition.specs.Cells.{Tri, Mesh, front, quad-nodes}
-use Rattle.definition.specs.Front.{State, Progress, stuck, progressed, limited, stopped, round, front-loop, start, new-mesh}
+use Rattle.definition.specs.Counts.{tally, no-counts, Want, of-points, of-slots}
+use Rattle.definition.specs.Plane.{Node}
+use Rattle.definition.specs.Cells.{Tri, front}
+use Rattle.definition.specs.Front.{State, Progress, stuck, progressed, limited, stopped, round, front-loop, start}
 use Rattle.definition.specs.Call.{onto}
+use Rattle.laws.specs.Bools.{never}
 use Rattle.rules.specs.declared.Rules.{Rules}
 use Rattle.rules.specs.Settings.{settings-of}
-use Rattle.account.specs.Lists.{never}
 use Rattle.account.specs.Reach.{begun}
-use Rattle.account.specs.Rounds.{tries, Gains, round-gains}
-use Rattle.cells.specs.Layout.{mesh-end, refused-at}
+use Rattle.account.specs.Rounds.{Gains, round-gains}
+use Rattle.cells.specs.Layout.{refused-at}
 use Rattle.cells.specs.declared.counters.Counters.{Counters}
 use Rattle.blocks.specs.Records as Records
-use Rattle.blocks.specs.Blocks.{Blocks, OpenTo}
-use Rattle.lending.specs.Ready.{Ready, Behind}
+use Rattle.blocks.specs.Blocks.{OpenTo}
+use Rattle.lending.specs.Ready.{Ready}
 use Rattle.settling.specs.declared.standing.Standing.{Standing}
 use Rattle.settling.specs.declared.standing.Step.{Step}
-use Rattle.settling.specs.declared.standing.Going.{Going}
-use Rattle.settling.specs.declared.standing.Going.the-variants as goings
 use Rattle.settling.specs.declared.standing.Run.{Run}
 use Rattle.settling.specs.Standings.{counts-of}
 use Rattle.settling.specs.Settles.{want-kind}
@@ -36,7 +34,6 @@ use Rattle.rounds.specs.Loop.{is-progressed, finish-of, want-finish, Fin
 use Rattle.settling.proofs.Tallies.{same-counts}
 use Rattle.steps.proofs.Reaching.{sound}
 use Rattle.steps.proofs.Attempting.{ready-under}
-use Rattle.rounds.proofs.Rounding.{leaves-of}
 
 -- ---- one round more
 
@@ -161,7 +158,7 @@ module _ (w : List ℕ) (q f : List Float) (quads : List ℕ) (rules : Rules) (c
           ever = [];
           holds = record {
             ready = subst (λ (z : Counters). Ready w₁ q rules z (start (settings-of rules) ts ps .mesh)) (sym (b .counters))
-                (ready-under w w₁ q rules c (start (settings-of rules) ts ps .mesh) (record { len = kept .len; low = λ i l. kept .before i (omega arith) }) (k .ready));
+                (ready-under w w₁ q rules c (start (settings-of rules) ts ps .mesh) (record { len = kept .len; low = λ i l. kept .low i (omega arith) }) (k .ready));
             counts = begin-counts;
             behind = record { len = refl; rest = refl };
             so-far = record { blocks = to .blocks; records = b .records; number = b .quads; text = refl };

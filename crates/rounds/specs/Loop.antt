@@ -1,8 +1,8 @@
 -- The whole run of the front: what it asks and what it leaves.
 use mathlib.Core.Path.{_≡_}
 use mathlib.Core.Bool.{Bool, true, false}
-use mathlib.Core.List.{List, []}
-use Prim.Native.Nat.{ℕ, _+_, _*_, _≤_}
+use mathlib.Core.List.{List}
+use Prim.Native.Nat.{ℕ, _*_, _≤_}
 use lib.ListN.{length}
 use lib.Ieee.{Float}
 use Rattle.definition.specs.Lists.{flat-map}
@@ -19,7 +19,6 @@ use Rattle.account.specs.Start.{Proper}
 use Rattle.exact.specs.Theorems.{Within}
 use Rattle.cells.specs.declared.counters.Counters.{Counters}
 use Rattle.lending.specs.Ready.{Ready, Behind}
-use Rattle.settling.specs.declared.standing.Tally.{Tally}
 use Rattle.settling.specs.declared.standing.Standing.{Standing}
 use Rattle.settling.specs.declared.standing.Going.{Going}
 use Rattle.settling.specs.declared.standing.Going.the-variants as goings

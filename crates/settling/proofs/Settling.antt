@@ -1,26 +1,24 @@
 -- What `settle` asks of its callees and makes of what they give.
 use mathlib.Core.Path.{_≡_, refl, ap, sym, _∙_, subst}
-use mathlib.Core.List.{List, [], _∷_, _++_}
+use mathlib.Core.List.{List, _∷_}
 use Prim.{⊥, absurd}
-use Prim.Native.Nat.{ℕ, _+_, _*_, _^_, _<_, _≤_}
+use Prim.Native.Nat.{ℕ, _+_, _*_, _≤_}
 use native.Mathlib.Omega.{arith}
-use lib.ListN.{length}
 use Rattle.definition.specs.Counts.{_⊞_, spending, Refusal, Placement, Shape, Recovery, Region, OddRegion, refused-by, Want, of-points, of-slots}
 use Rattle.definition.specs.Plane.{Edge}
 use Rattle.definition.specs.Cells.{Quad}
+use Rattle.laws.specs.Frames.{only-refl}
 use Rattle.cells.specs.Layout.{refused-at}
-use Rattle.cells.specs.declared.counters.Counters.{Counters}
-use Rattle.blocks.specs.Records.{Kept, size}
+use Rattle.blocks.specs.Records.{size}
 use Rattle.blocks.specs.Blocks.{Blocks, with-edge}
-use Rattle.lending.specs.Ends.{end-of, end-for, quad-of, spent-of}
+use Rattle.lending.specs.Ends.{end-of, end-for, spent-of}
 use Rattle.lending.specs.declared.Tried.{Tried}
 use Rattle.lending.specs.declared.End.{End}
 use Rattle.lending.specs.declared.End.the-variants as ends
 use Rattle.settling.specs.declared.standing.Standing.{Standing}
 use Rattle.settling.specs.declared.standing.Step.{Step}
-use Rattle.settling.specs.declared.standing.Going.the-variants as goings
-use Rattle.settling.specs.Standings.{counts-of, sort-of, FewTally, FewCounts, TriedMore, CountsMore, Quadded, Recorded}
-use Rattle.settling.specs.Settles.{Kept-so-far, QuadFits, CanPut, PutTo, CanRecord, RecordTo, CanSettle, SettleTo, Placing, Refusing, Ending, Counted-on, want-kind}
+use Rattle.settling.specs.Standings.{counts-of, sort-of, TriedMore, CountsMore}
+use Rattle.settling.specs.Settles.{Kept-so-far, CanPut, PutTo, CanRecord, RecordTo, CanSettle, SettleTo, Ending, Counted-on, want-kind}
 
 -- ---- the sorts of ends
 
@@ -72,9 +70,6 @@ sort-few ends.Region = omega arith
 sort-few ends.OddRegion = omega arith
 sort-few ends.NoPoint = omega arith
 sort-few ends.NoSlots = omega arith
-
-kept-refl : (w : List ℕ) (b m : ℕ) → Kept w w b m
-kept-refl w b m = record { len = refl; before = λ i l. refl; after = λ i l. refl }
 
 module _ (w quads : List ℕ) (s p : ℕ) (g : Standing) (t : Tried) (u v : ℕ) (ever bl : List Edge) (qs : List Quad) (old : List ℕ) (can : CanSettle w quads s p g t u v ever bl qs old)
     (h : Standing) (tm : TriedMore g (t .counters) (t .inserted) h) where
@@ -166,7 +161,7 @@ module _ (w quads : List ℕ) (s p : ℕ) (g : Standing) (t : Tried) (u v : ℕ)
   pub end-settles : (wt : Want) (r : Step) → sort-of (t .end) ≡ want-sort wt → r .kind ≡ want-kind wt → r .standing ≡ h → SettleTo w w quads s p g t u v ever bl qs old r
   end-settles of-points r e k f =
       record {
-        kept = kept-refl w (refused-at s p) (size (3 * s) p);
+        kept = only-refl w (refused-at s p) ((refused-at s p) + (size (3 * s) p));
         placed = λ z. absurd (omega (arith, e, ap sort-of z));
         refused = λ why z. absurd (omega (arith, e, sort-of-refusal (t .end) why z));
         ended = λ wt z. of wt (sort-of-want (t .end) wt z);
@@ -177,7 +172,7 @@ module _ (w quads : List ℕ) (s p : ℕ) (g : Standing) (t : Tried) (u v : ℕ)
       of of-slots z = absurd (omega (arith, e, z))
   end-settles of-slots r e k f =
       record {
-        kept = kept-refl w (refused-at s p) (size (3 * s) p);
+        kept = only-refl w (refused-at s p) ((refused-at s p) + (size (3 * s) p));
         placed = λ z. absurd (omega (arith, e, ap sort-of z));
         refused = λ why z. absurd (omega (arith, e, sort-of-refusal (t .end) why z));
         ended = λ wt z. of wt (sort-of-want (t .end) wt z);

@@ -1,14 +1,12 @@
 -- Counts of a standing, field by field.
-use mathlib.Core.Path.{_≡_, refl, sym, ap, _∙_}
+use mathlib.Core.Path.{_≡_, ap, _∙_}
 use Prim.Native.Nat.{ℕ, _+_}
 use native.Mathlib.Omega.{arith}
 use Rattle.definition.specs.Counts.{Counts, tally, _⊞_, one-attempt, spending, at-limit, emptied, Refusal, Placement, Shape, Recovery, Region, OddRegion, refused-by}
-use Rattle.cells.specs.declared.counters.Counters.{Counters}
 use Rattle.lending.specs.declared.End.{End}
 use Rattle.lending.specs.Ends.{end-of, only-inserted}
 use Rattle.settling.specs.declared.standing.Tally.{Tally}
-use Rattle.settling.specs.declared.standing.Standing.{Standing}
-use Rattle.settling.specs.Standings.{counts-of, tally-refused}
+use Rattle.settling.specs.Standings.{tally-refused}
 
 tallies : (a b c d e f g h i a' b' c' d' e' f' g' h' i' : ℕ) → a ≡ a' → b ≡ b' → c ≡ c' → d ≡ d' → e ≡ e' → f ≡ f' → g ≡ g' → h ≡ h' → i ≡ i'
     → tally a b c d e f g h i ≡ tally a' b' c' d' e' f' g' h' i'

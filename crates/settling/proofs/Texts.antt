@@ -1,15 +1,15 @@
 -- A quad's four numbers behind those of the others.
-use mathlib.Core.Path.{_≡_, refl, ap, sym, _∙_, subst}
+use mathlib.Core.Path.{_≡_, refl, ap, sym, _∙_}
 use mathlib.Core.List.{List, [], _∷_, _++_, append-assoc, append-nil}
-use Prim.Native.Nat.{ℕ, _+_, _-_, _*_, _<_, _≤_}
+use Prim.Native.Nat.{ℕ, _+_, _-_, _*_, _≤_}
 use native.Mathlib.Omega.{arith}
-use lib.ListN.{length, take, drop, set, length-append, length-drop, length-take, drop-of-length-le}
-use lib.Seq.{take-all, take-at, drop-at, drop-drop, sets, sets-eq}
-use borrow.Rule.Slice.PartMut.{midOf, postOf, putMid}
+use lib.ListN.{length, take, drop, set, length-append, length-drop, drop-of-length-le}
+use lib.Seq.{take-all, take-at, drop-at, drop-drop, sets-eq}
+use borrow.Rule.Slice.PartMut.{midOf, putMid}
 use Rattle.definition.specs.Lists.{flat-map}
 use Rattle.definition.specs.Cells.{Quad, new-quad, quad-nodes}
 use Rattle.definition.specs.Call.{onto}
-use Rattle.account.specs.Lists.{flat-map-append}
+use Rattle.laws.specs.Lists.{flat-map-append}
 use Rattle.settling.specs.Settles.{four}
 
 -- four stores

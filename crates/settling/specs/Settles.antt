@@ -2,14 +2,14 @@
 use mathlib.Core.Path.{_≡_}
 use mathlib.Core.List.{List, [], _∷_, _++_}
 use Prim.Native.Nat.{ℕ, _+_, _*_, _^_, _<_, _≤_}
-use lib.ListN.{length, drop}
+use lib.ListN.{length}
 use Rattle.definition.specs.Lists.{flat-map}
 use Rattle.definition.specs.Counts.{Counts, _⊞_, spending, Refusal, refused-by, Want, of-points, of-slots}
 use Rattle.definition.specs.Plane.{Edge}
 use Rattle.definition.specs.Cells.{Quad, new-quad, quad-nodes}
 use Rattle.definition.specs.Front.{freed}
 use Rattle.definition.specs.Call.{onto}
-use Rattle.cells.specs.Layout.{Sizes, refused-at}
+use Rattle.cells.specs.Layout.{refused-at}
 use Rattle.blocks.specs.Records.{IsEdge, Kept, size}
 use Rattle.blocks.specs.Blocks.{Blocks, CanBlock, with-edge}
 use Rattle.lending.specs.Ends.{end-of, end-for, quad-of, spent-of}

@@ -1,34 +1,36 @@
 -- An attempt that was counted: what its callees ask, and what it leaves.
 use mathlib.Core.Path.{_≡_, refl, ap, sym, _∙_, subst}
-use mathlib.Core.Bool.{Bool, true, false, not, _||_, cond}
-use mathlib.Core.Logic.{_⊎_, inl, inr, _≢_}
+use mathlib.Core.Bool.{Bool, true, false, not, _||_}
+use mathlib.Core.Logic.{inl, inr, _≢_}
 use mathlib.Core.List.{List, [], _∷_, _++_}
-use Prim.{⊥, absurd, Unit, tt}
-use Prim.Native.Nat.{ℕ, suc, _+_, _-_, _*_, _^_, _<_, _≤_}
+use Prim.{⊥, absurd, tt}
+use Prim.Native.Nat.{ℕ, _+_, _-_, _*_, _^_, _<_, _≤_}
 use native.Mathlib.Omega.{arith}
 use lib.Dec.{ltb}
 use lib.Ieee.{Float}
-use borrow.Author.Tests.{lt-ltb, le-ltb}
-use lib.ListN.{length, getD, drop, length-append}
+use borrow.Author.Tests.{lt-ltb, le-ltb, not-true, not-false}
+use lib.ListN.{length, drop, length-append}
 use lib.Seq.{drop-drop}
-use Rattle.definition.specs.Lists.{any, flat-map}
+use Rattle.definition.specs.Lists.{flat-map}
 use Rattle.definition.specs.Numbers.{max-attempts, max-triangles}
-use Rattle.definition.specs.Counts.{Counts, tally, _⊞_, one-attempt, Spent, nothing-spent, spending, at-limit, Refusal, Placement, Shape, Recovery, Region, OddRegion, refused-by, Want, of-points, of-slots}
+use Rattle.definition.specs.Counts.{Counts, tally, _⊞_, one-attempt, Spent, nothing-spent, spending, at-limit, Refusal, Placement, refused-by, Want, of-points, of-slots}
 use Rattle.definition.specs.Plane.{Node, Edge}
 use Rattle.definition.specs.Cells.{Mesh, Quad, new-quad, quad-nodes, key, is-front, live-tris, same-edge, has-edge-in}
 use Rattle.definition.specs.Attempt.{Attempt, placed, refused, ended, try-quad}
-use Rattle.definition.specs.Front.{State, Progress, stuck, progressed, limited, stopped, counting, freed, after, make-attempt, past-limit, attempt}
+use Rattle.definition.specs.Front.{State, counting, freed, after, make-attempt, past-limit, attempt}
 use Rattle.definition.specs.Account.{All, Pairwise}
+use Rattle.laws.specs.Bools.{which, never}
+use Rattle.laws.specs.Lists.{In, all-from, in-right, none-in}
+use Rattle.laws.specs.Cells.{same-self}
+use Rattle.laws.specs.Frames.{Under}
+use Rattle.account.specs.Counting.{added-refused}
 use Rattle.rules.specs.declared.Rules.{Rules}
 use Rattle.rules.specs.Settings.{settings-of}
-use Rattle.account.specs.Lists.{which, never, In, in-right, all-from, all-at, none-in}
-use Rattle.account.specs.Ends.{edge-self}
 use Rattle.account.specs.Run.{Progress-ok}
-use Rattle.account.specs.Reach.{Reach, by-refusal, by-quad, Reached-state, records-fit}
-use Rattle.cells.specs.Layout.{refused-at, near-at, mesh-end}
+use Rattle.account.specs.Reach.{by-refusal, by-quad, Reached-state, records-fit}
+use Rattle.cells.specs.Layout.{refused-at, mesh-end}
 use Rattle.cells.specs.Walk as Walk
 use Rattle.cells.specs.Counting.{Attempted}
-use Rattle.cells.specs.Frames.{Under}
 use Rattle.cells.specs.Rep.{Rep}
 use Rattle.cells.proofs.Frames.{rep-under}
 use Rattle.cells.proofs.Edges.{key-up}
@@ -39,7 +41,7 @@ use Rattle.blocks.proofs.Edges.{with-old, with-new}
 use Rattle.blocks.proofs.Room.{with-distinct}
 use Rattle.blocks.proofs.Framing.{framed}
 use Rattle.lending.specs.Ready.{Ready, Behind, Beyond}
-use Rattle.lending.specs.Ends.{only-inserted, spent-of, end-of, end-for, quad-of, Plain, Left, AttemptTo}
+use Rattle.lending.specs.Ends.{only-inserted, spent-of, end-of, Plain, Left, AttemptTo}
 use Rattle.lending.specs.declared.Tried.{Tried}
 use Rattle.lending.specs.declared.End.the-variants as ends
 use Rattle.settling.specs.declared.standing.Standing.{Standing}
@@ -47,21 +49,11 @@ use Rattle.settling.specs.declared.standing.Step.{Step}
 use Rattle.settling.specs.declared.standing.Going.the-variants as goings
 use Rattle.attempts.specs.Tries.{CanAttempt}
 use Rattle.settling.specs.Standings.{counts-of, sort-of, FewTally, CountedOne, CountsMore}
-use Rattle.settling.specs.Settles.{Kept-so-far, QuadFits, CanSettle, SettleTo, Placing, Refusing, Ending, Counted-on, want-kind}
-use Rattle.steps.specs.Runs.{Setup, Fixed, Leaves, Holds, Reaches, Goes, FrontKept, Makes, Stepped, StepTo}
+use Rattle.settling.specs.Settles.{Kept-so-far, QuadFits, CanSettle, SettleTo}
+use Rattle.steps.specs.Runs.{Setup, Fixed, Holds, Goes, FrontKept, Makes, Stepped, StepTo}
 use Rattle.settling.proofs.Texts.{numbers-length, onto-length}
 use Rattle.settling.proofs.Settling.{sort-of-refusal, sort-of-want, want-sort}
-use Rattle.steps.proofs.Reaching.{Fine, Q, R, All-within, Gets, sound, attempt-fine, reach-within, reach-never}
-
--- ---- tests
-
-pub not-true : (b : Bool) → not b ≡ true → b ≡ false
-not-true true e = sym e
-not-true false e = refl
-
-pub not-false : (b : Bool) → not b ≡ false → b ≡ true
-not-false true e = refl
-not-false false e = sym e
+use Rattle.steps.proofs.Reaching.{Fine, Q, R, Gets, sound, attempt-fine, reach-within, reach-never, made-mismatch}
 
 -- ---- limits
 
@@ -76,10 +68,10 @@ past-second most given tries live h = rw (le-ltb most tries h) refl
 
 -- the refused edges are as they were
 pub beyond-same : (w w' : List ℕ) (s p : ℕ) → Beyond w w' s p → Same w w' (refused-at s p) (size (3 * s) p)
-beyond-same w w' s p h = record { len = h .len; inside = λ i a b. h .same i a (omega arith) }
+beyond-same w w' s p h = record { len = h .len; same = λ i a b. h .same i a (omega arith) }
 
 kept-under : (w w' : List ℕ) (s p : ℕ) → Kept w w' (refused-at s p) (size (3 * s) p) → Under w w' (mesh-end s p)
-kept-under w w' s p h = record { len = h .len; low = λ i l. h .before i (omega arith) }
+kept-under w w' s p h = record { len = h .len; low = λ i l. h .low i (omega arith) }
 
 -- the memory stands for the mesh as before
 pub ready-under : (w w' : List ℕ) (q : List Float) (rules : Rules) (c : Counters) (m : Mesh) → Under w w' (mesh-end (rules .slots) (rules .capacity)) → Ready w q rules c m → Ready w' q rules c m
@@ -88,10 +80,7 @@ ready-under w w' q rules c m h r =
 
 -- an attempt and a change of the refused edges leave the front's areas
 pub front-kept : (w w' w'' : List ℕ) (s p : ℕ) → Beyond w w' s p → Kept w' w'' (refused-at s p) (size (3 * s) p) → FrontKept w w'' s p
-front-kept w w' w'' s p h k = record { len = k .len ∙ h .len; same = λ i a b. k .after i (omega arith) ∙ h .same i (omega arith) b }
-
-pub beyond-refl : (w : List ℕ) (s p : ℕ) → Beyond w w s p
-beyond-refl w s p = record { len = refl; same = λ i a b. refl }
+front-kept w w' w'' s p h k = record { len = k .len ∙ h .len; same = λ i a b. k .high i (omega arith) ∙ h .same i (omega arith) b }
 
 -- points were added behind
 pub behind-trans : (a b c : List Float) (n k : ℕ) → n ≤ k → Behind a b n → Behind b c k → Behind a c k
@@ -106,7 +95,7 @@ pub pairwise-of : (p : ℕ) (es : List Edge) → Distinct p es → Pairwise (λ 
 unfolding has-edge-in
 pairwise-of p [] h = tt
 pairwise-of p (e ∷ es) h =
-    (all-from es (λ f i z. never (same-edge e f) (ap (same-edge e) (sym z) ∙ edge-self e) (none-in (same-edge e) es (h .1) f i)), pairwise-of p es (h .2))
+    (all-from es (λ f i z. never (same-edge e f) (ap (same-edge e) (sym z) ∙ same-self e) (none-in (same-edge e) es (h .1) f i)), pairwise-of p es (h .2))
 
 pub with-in : (e : Edge) (ever : List Edge) (f : Edge) → In f (with-edge e ever) → In f (e ∷ ever)
 with-in e ever f i = elim (which (has-edge-in ever e)) [
@@ -165,18 +154,6 @@ module _ (x : Setup) (st : State) (old es : List Edge) (f : Fixed x) (small : x 
       (omega arith) (omega arith) (omega arith) (omega arith)
 
 -- ---- the attempt
-
-made-number : (c : Counts) (n : Spent) → (c ⊞ one-attempt ⊞ spending n) .mismatch-insertions ≡ c .mismatch-insertions + n .insertions
-unfolding _⊞_ tally one-attempt spending
-made-number c n = omega arith
-
-refused-number : (c : Counts) (n : Spent) (why : Refusal) → (c ⊞ one-attempt ⊞ spending n ⊞ refused-by why) .mismatch-insertions ≡ c .mismatch-insertions + n .insertions
-unfolding _⊞_ tally one-attempt spending refused-by
-refused-number c n Placement = omega arith
-refused-number c n Shape = omega arith
-refused-number c n Recovery = omega arith
-refused-number c n Region = omega arith
-refused-number c n OddRegion = omega arith
 
 counted-number : (c : Counts) → (c ⊞ one-attempt) .mismatch-insertions ≡ c .mismatch-insertions
 unfolding _⊞_ tally one-attempt
@@ -286,7 +263,7 @@ module _ (x : Setup) (w : List ℕ) (q : List Float) (quads : List ℕ) (g : Sta
 
     refused-fine : length (m .points) ≤ x .rules .capacity → (n .insertions ≤ x .rules .capacity) × (length (st .mesh .points) ≤ length (m .points))
     unfolding after counting
-    refused-fine l = fine-few (m .points) (n .insertions) _ (fine (refused why n m) ran .1) (refused-number (st .counts) n why) l
+    refused-fine l = fine-few (m .points) (n .insertions) _ (fine (refused why n m) ran .1) (added-refused (st .counts) n why) l
 
     refused-room : m .used ≤ x .rules .slots → length (with-edge (u, v) (k .ever)) ≤ 3 * x .rules .slots
     unfolding settings-of
@@ -318,7 +295,7 @@ module _ (x : Setup) (w : List ℕ) (q : List Float) (quads : List ℕ) (g : Sta
 
     placed-fine : length (m .points) ≤ x .rules .capacity → (n .insertions ≤ x .rules .capacity) × (length (st .mesh .points) ≤ length (m .points))
     unfolding after counting
-    placed-fine l = fine-few (m .points) (n .insertions) _ (fine (placed n m h) ran .1) (made-number (st .counts) n) l
+    placed-fine l = fine-few (m .points) (n .insertions) _ (fine (placed n m h) ran .1) (made-mismatch (st .counts) n) l
 
     placed-fits : (a b c d : ℕ) → new-quad a b c d ≡ h → length (m .points) ≤ x .rules .capacity → QuadFits quads (x .rules .slots) (x .rules .capacity) (length (st .quads)) a b c d
     unfolding settings-of
@@ -333,7 +310,7 @@ module _ (x : Setup) (w : List ℕ) (q : List Float) (quads : List ℕ) (g : Sta
   module _ (wt : Want) (n : Spent) (m : Mesh) (ran : attempt (settings-of (x .rules)) (x .rules .given) st (u, v) ≡ after (counting st one-attempt) (u, v) (ended wt n m)) where
     ended-fine : length (m .points) ≤ x .rules .capacity → (n .insertions ≤ x .rules .capacity) × (length (st .mesh .points) ≤ length (m .points))
     unfolding after counting
-    ended-fine l = fine-few (m .points) (n .insertions) _ (fine (ended wt n m) ran .1) (made-number (st .counts) n) l
+    ended-fine l = fine-few (m .points) (n .insertions) _ (fine (ended wt n m) ran .1) (made-mismatch (st .counts) n) l
 
   -- ---- what `settle` asks
 

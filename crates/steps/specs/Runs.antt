@@ -2,8 +2,8 @@
 use mathlib.Core.Path.{_≡_}
 use mathlib.Core.Bool.{false, not, _&&_, _||_}
 use mathlib.Core.List.{List, [], _∷_}
-use Prim.Native.Nat.{ℕ, _+_, _*_, _<_, _≤_}
-use lib.ListN.{length, getD}
+use Prim.Native.Nat.{ℕ, _*_, _≤_}
+use lib.ListN.{length}
 use lib.Ieee.{Float, eq}
 use Rattle.definition.specs.Lists.{flat-map}
 use Rattle.definition.specs.Floats.{_≼_, 0·0}
@@ -14,9 +14,10 @@ use Rattle.definition.specs.Cells.{Tri, quad-nodes}
 use Rattle.definition.specs.Front.{State, Progress, stuck, progressed, limited, stopped, counting, past-limit}
 use Rattle.definition.specs.Call.{onto, least-size, most-size}
 use Rattle.definition.specs.Account.{All}
+use Rattle.laws.specs.Lists.{In}
+use Rattle.laws.specs.Frames.{Stays}
 use Rattle.rules.specs.declared.Rules.{Rules}
 use Rattle.rules.specs.Settings.{settings-of}
-use Rattle.account.specs.Lists.{In}
 use Rattle.account.specs.Start.{Proper}
 use Rattle.account.specs.Reach.{Reach}
 use Rattle.exact.specs.Theorems.{Within}
@@ -89,9 +90,8 @@ pub record Goes (w : List ℕ) (q : List Float) (quads : List ℕ) (x : Setup) (
   pub reaches : Reaches x st ever es
 
 -- the front's edges, its loops and their marks are as they were
-pub record FrontKept (w w' : List ℕ) (s p : ℕ) : Type 0 where
-  pub len : length w' ≡ length w
-  pub same : (i : ℕ) → front-u-at s p ≤ i → i < near-at s p → getD w' i 0 ≡ getD w i 0
+abbrev pub FrontKept : List ℕ → List ℕ → ℕ → ℕ → Type 0
+FrontKept w w' s p = Stays w w' (front-u-at s p) (near-at s p)
 
 -- after a step, by cases; es still wait where no quad was placed
 abbrev pub Stepped : List ℕ → List Float → List ℕ → Setup → List Edge → Progress → Step → Type 0

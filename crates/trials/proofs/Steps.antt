@@ -3,7 +3,6 @@ use mathlib.Core.Path.{_≡_, refl, ap, sym, _∙_}
 use mathlib.Core.Bool.{true, false}
 use mathlib.Core.List.{List, [], _∷_, _++_, map}
 use Prim.Native.Nat.{ℕ, zero, suc, _+_, _≤_, _<_}
-use native.Mathlib.Nat.{le-of-suc-le-suc, not-suc-le-zero}
 use native.Mathlib.Numerals.{add-one}
 use native.Mathlib.Omega.{arith}
 use lib.ListN.{length, take, drop, getD, set, length-take, length-map, length-set, List·getD-map}
@@ -11,17 +10,13 @@ use lib.Seq.{getD-take, take-take, take-all}
 use Rattle.definition.specs.Lists.{insert}
 use Rattle.definition.specs.Trials as trials
 use Rattle.definition.specs.Trials.{trial-before}
+use Rattle.laws.specs.Lists.{getD-any}
 use Rattle.trials.specs.declared.kept.Trial.{Trial}
 use Rattle.trials.specs.declared.kept.Trials.{Trials}
 use Rattle.trials.specs.Kept.{Keeps, Place, put, listed, trial-of, most}
 use Rattle.trials.proofs.Insertion.{passed, stopped, ended, pushed, stored, dropped, put-take, map-put, length-put}
 
 -- ---- the listed trials
-
-getD-any : {A : Type 0} (l : List A) (i : ℕ) (d e : A) → i < length l → getD l i d ≡ getD l i e
-getD-any [] i d e h = absurd (not-suc-le-zero h)
-getD-any (x ∷ xs) zero d e h = refl
-getD-any (x ∷ xs) (suc i) d e h = getD-any xs i d e (le-of-suc-le-suc h)
 
 map-take : {A B : Type 0} (f : A → B) (n : ℕ) (l : List A) → map f (take n l) ≡ take n (map f l)
 map-take f zero l = refl

@@ -14,6 +14,7 @@ use Rattle.definition.specs.Lists.{insert, sort, flat-map, any, contains}
 use Rattle.definition.specs.Metrics.{passes, score}
 use Rattle.definition.specs.Numbers.{Quality, base}
 use Rattle.definition.specs.Trials.{Trial, rated, metrics-of, trial, trial-before, trials}
+use Rattle.laws.specs.Bools.{none-left, none-right}
 use Rattle.trials.specs.Kept.{Stands}
 use Rattle.trials.specs.Ranked.{Named, part, part-below}
 
@@ -76,32 +77,24 @@ module _ (P : Trial → Type 0) where
 
 -- ---- one pair
 
-left : (x y : Bool) → (x || y) ≡ false → x ≡ false
-left true y e = e
-left false y e = refl
-
-right : (x y : Bool) → (x || y) ≡ false → y ≡ false
-right true y e = cc
-right false y e = e
-
 -- the four nodes by what `contains` found
 made-sound : (n a b c d : ℕ) (score : Float) → c < n → d < n → (contains (a ∷ b ∷ []) c || contains (a ∷ b ∷ c ∷ []) d) ≡ false
     → Sound n a b (record { score = score; nodes = new-quad a b d c })
 unfolding contains any new-quad
 made-sound n a b c d score hc hd e =
-    let p = left (eqb c a || (eqb c b || false)) _ e in
-    let q = right (eqb c a || (eqb c b || false)) _ e in
-    let r = right (eqb d a) _ q in
+    let p = none-left (eqb c a || (eqb c b || false)) _ e in
+    let q = none-right (eqb c a || (eqb c b || false)) _ e in
+    let r = none-right (eqb d a) _ q in
     record {
       first = refl;
       second = refl;
       third-below = hd;
       fourth-below = hc;
-      third-not-a = eqb-false d a (left _ _ q);
-      third-not-b = eqb-false d b (left _ _ r);
-      third-not-fourth = eqb-false d c (left _ _ (right (eqb d b) _ r));
-      fourth-not-a = eqb-false c a (left _ _ p);
-      fourth-not-b = eqb-false c b (left _ _ (right (eqb c a) _ p));
+      third-not-a = eqb-false d a (none-left _ _ q);
+      third-not-b = eqb-false d b (none-left _ _ r);
+      third-not-fourth = eqb-false d c (none-left _ _ (none-right (eqb d b) _ r));
+      fourth-not-a = eqb-false c a (none-left _ _ p);
+      fourth-not-b = eqb-false c b (none-left _ _ (none-right (eqb c a) _ p));
     }
 
 pair-sound : (y : Quality) (m : Mesh) (n a b c d : ℕ) → c < n → d < n → All (Sound n a b) (trial y m a b c d)

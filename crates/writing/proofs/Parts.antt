@@ -1,15 +1,16 @@
 -- The parts of an answer put together.
 use mathlib.Core.Path.{_≡_, refl, sym, ap, _∙_}
 use mathlib.Core.List.{List, [], _∷_, _++_, append-assoc, append-nil}
-use Prim.Native.Nat.{ℕ, zero, suc, _+_, _≤_}
+use Prim.Native.Nat.{ℕ, _+_, _≤_}
 use native.Mathlib.Omega.{arith}
-use lib.ListN.{length, take, drop}
+use lib.ListN.{length, take}
 use Rattle.definition.specs.Lists.{flat-map, rows}
 use Rattle.definition.specs.Counts as def
 use Rattle.definition.specs.Call.{Lent}
 use Rattle.definition.specs.Call as call
 use Rattle.definition.specs.Text.{Bytes, bytes, show, show-bits, line-of, lines-of, listed, points-between, show-lists}
-use Rattle.writing.specs.Put.{put, Written}
+use Rattle.laws.specs.Lists.{rows-length}
+use Rattle.writing.specs.Put.{Written}
 use Rattle.writing.specs.Answer.{lengths-listed, Answered}
 use Rattle.writing.proofs.Puts.{take-put, drop-put}
 
@@ -36,11 +37,6 @@ lines-append f (x ∷ a) b = ap (λ (t : Bytes). line-of f x ++ t) (lines-append
 -- two tables under one line of names
 pub two-tables : (f : ℕ → Bytes) (t : Bytes) (a b : List (List ℕ)) → (t ++ lines-of f a) ++ lines-of f b ≡ t ++ lines-of f (a ++ b)
 two-tables f t a b = rw (lines-append f a b) (append-assoc t (lines-of f a) (lines-of f b))
-
-rows-length : (w k : ℕ) (xs : List ℕ) → length (rows w k xs) ≡ k
-unfolding rows
-rows-length w zero xs = refl
-rows-length w (suc k) xs = ap suc (rows-length w k (drop w xs))
 
 -- the six parts are the answer
 pub joined : (k : ℕ) (bits : List ℕ) (c : def.Counts) (n : call.Lengths) (l : Lent)

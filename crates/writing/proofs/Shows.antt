@@ -1,16 +1,16 @@
 -- Digits of numbers.
-use mathlib.Core.Bool.{Bool, true, false, not, cond}
+use mathlib.Core.Bool.{Bool, true, false, cond}
 use mathlib.Core.Path.{_≡_, refl, sym, ap, subst, _∙_}
-use mathlib.Core.List.{List, [], _∷_, _++_}
+use mathlib.Core.List.{[], _∷_, _++_}
 use Prim.Native.Nat.{ℕ, zero, suc, _+_, _-_, _*_, _/_, _%_, _^_, _<_, _≤_}
 use native.Mathlib.Nat.{pow-suc}
 use native.Mathlib.Omega.{arith}
 use borrow.Author.Tests.{lt-ltb, le-ltb, ltb-true, ltb-false}
 use lib.Dec.{T, ltb}
 use lib.Ieee.Compare.{differs-from-itself}
-use lib.Ieee.{Float, nan, inf, fin, binary64, toBits, ne, isNan}
+use lib.Ieee.{Float, nan, binary64, toBits, ne}
 use lib.ListN.{length, length-append}
-use Rattle.definition.specs.Text.{Bytes, decimal-in, show, hex-in}
+use Rattle.definition.specs.Text.{decimal-in, show, hex-in}
 
 -- ---- decimal
 
@@ -89,9 +89,3 @@ true-false e = let z : _≡_ {A = ℕ} 0 1 = cc in omega arith
 pub of-nan : (x : Float) → ne x x ≡ true → 9221120237041090560 ≡ toBits binary64 x
 unfolding toBits
 of-nan x h = let e : x ≡ nan = differs-from-itself x (subst T (sym h) tt) in ap (toBits binary64) (sym e)
-
-pub no-nan : (x : Float) → ne x x ≡ false → T (not (isNan x))
-unfolding ne isNan
-no-nan nan h = absurd (true-false h)
-no-nan (inf s) h = tt
-no-nan (fin s m e) h = tt

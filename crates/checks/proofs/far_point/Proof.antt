@@ -10,8 +10,8 @@ use borrow.Author.Count.{below-more}
 use lib.ListN.{getD}
 use Rattle.definition.specs.Floats.{0·0}
 use Rattle.definition.specs.Call.{point-at, outside}
+use Rattle.laws.specs.Bools.{never, holds}
 use Rattle.checks.specs.Stated.{asked}
-use Rattle.checks.specs.Tests.{passes, never}
 use Rattle.checks.specs.Passed.{near-each, near-pass}
 use Rattle.checks.proofs.Near.{read-point}
 use Rattle.checks.proofs.far_point.Statement.{statement}
@@ -33,7 +33,7 @@ returns c =
     let ps = g .before .before .args .points .now in
     let i = g .loop .i in
     let o = c .before .outside .ensures (getD ps (3 * i + 2) 0·0) ∙ ap outside (read-point ps i (omega arith)) in
-    sym (passes _ (λ f. never _ (sym o ∙ c .if1 .taken) ((rw e at (near-each (asked (g .before .before .args .a)) l f)) i (omega arith))))
+    sym (holds _ (λ f. never _ (sym o ∙ c .if1 .taken) ((rw e at (near-each (asked (g .before .before .args .a)) l f)) i (omega arith))))
 
 loop-again : tie.Need-loop-again Inv-loop μ-loop
 loop-again c =

@@ -68,25 +68,16 @@ returns-3 c = λ l h.
     let p = c .before .before in
     rw (in-turn, no-1 (top2 p), no-2 p, sym (c .before .bad-stop .ensures) ∙ c .if3 .taken)
 
-too-short-requires : tie.Need-too-short-requires
-too-short-requires c κs = limited _ (no-1 (top2 (top3 c)))
-
 returns-4 : tie.Need-returns-4
 returns-4 c = λ l h.
     let p = c .before .before in
     rw (in-turn, no-1 (top2 (top3 p)), no-2 (top3 p), no-3 p, sym (c .before .too-short .ensures l h) ∙ c .if4 .taken)
-
-unknown-node-requires : tie.Need-unknown-node-requires
-unknown-node-requires c κs = room c .triangles
 
 returns-5 : tie.Need-returns-5
 returns-5 c = λ l h.
     let p4 = c .before .before in
     let p3 = top4 p4 in
     rw (in-turn, no-1 (top2 (top3 p3)), no-2 (top3 p3), no-3 p3, no-4 p4 l h, sym (c .before .unknown-node .ensures l (h .triangles)) ∙ c .if5 .taken)
-
-repeated-node-requires : tie.Need-repeated-node-requires
-repeated-node-requires c κs = room (top5 c) .triangles
 
 returns-6 : tie.Need-returns-6
 returns-6 c = λ l h.
@@ -120,5 +111,5 @@ pub refusal-spec : {M : Type 1} → statement M
 refusal-spec =
     tie.close
     (tie.spec
-    (λ c κs. search needs) returns (λ c κs. search needs) returns-2 (λ c κs. search needs) returns-3 too-short-requires returns-4 unknown-node-requires
-    returns-5 repeated-node-requires returns-6 far-point-requires returns-7 returns-8)
+    (λ c κs. search needs) returns (λ c κs. search needs) returns-2 (λ c κs. search needs) returns-3 (λ c κs. limited _ (no-1 (top2 (top3 c)))) returns-4
+    (λ c κs. room c .triangles) returns-5 (λ c κs. room (top5 c) .triangles) returns-6 far-point-requires returns-7 returns-8)

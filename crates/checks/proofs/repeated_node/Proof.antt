@@ -8,8 +8,8 @@ use native.Mathlib.Omega.{arith}
 use borrow.Author.Needs.{needs}
 use borrow.Author.Count.{below-more}
 use Rattle.definition.specs.Call.{tri-at, twice}
+use Rattle.laws.specs.Bools.{never, holds}
 use Rattle.checks.specs.Stated.{asked}
-use Rattle.checks.specs.Tests.{passes, never}
 use Rattle.checks.specs.Passed.{apart-each, apart-pass}
 use Rattle.checks.proofs.repeated_node.Statement.{statement}
 use Rattle.checks.proofs.repeated_node.Tie as tie
@@ -29,7 +29,7 @@ returns c =
     λ l e.
     let g = c .before .before .before .before .before .before in
     let t = sym (c .before .twice .ensures) ∙ c .if1 .taken in
-    sym (passes _ (λ f. never _ t ((rw e at (apart-each (asked (g .before .before .args .a)) l f)) (g .loop .i) (omega arith))))
+    sym (holds _ (λ f. never _ t ((rw e at (apart-each (asked (g .before .before .args .a)) l f)) (g .loop .i) (omega arith))))
 
 loop-again : tie.Need-loop-again Inv-loop μ-loop
 unfolding tri-at

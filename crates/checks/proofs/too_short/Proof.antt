@@ -2,37 +2,38 @@
 use mathlib.Core.Path.{refl, sym, ap}
 use native.Mathlib.Omega.{arith}
 use lib.ListN.{length}
-use Rattle.checks.specs.Tests.{passes, too-small, enough}
+use Rattle.laws.specs.Bools.{holds}
+use Rattle.checks.specs.Tests.{too-small, enough}
 use Rattle.checks.specs.Passed.{roomy, room-passes}
 use Rattle.checks.proofs.too_short.Statement.{statement}
 use Rattle.checks.proofs.too_short.Tie as tie
 
 returns : tie.Need-returns
-returns c = λ l h. sym (passes _ (λ e. too-small (roomy _ l e .points) (ap length (h .points)) (c .if1 .taken)))
+returns c = λ l h. sym (holds _ (λ e. too-small (roomy _ l e .points) (ap length (h .points)) (c .if1 .taken)))
 
 returns-2 : tie.Need-returns-2
-returns-2 c = λ l h. sym (passes _ (λ e. too-small (roomy _ l e .triangles) (ap length (h .triangles)) (c .if2 .taken)))
+returns-2 c = λ l h. sym (holds _ (λ e. too-small (roomy _ l e .triangles) (ap length (h .triangles)) (c .if2 .taken)))
 
 returns-3 : tie.Need-returns-3
-returns-3 c = λ l h. sym (passes _ (λ e. too-small (roomy _ l e .quads) (h .quads) (c .if3 .taken)))
+returns-3 c = λ l h. sym (holds _ (λ e. too-small (roomy _ l e .quads) (h .quads) (c .if3 .taken)))
 
 returns-4 : tie.Need-returns-4
-returns-4 c = λ l h. sym (passes _ (λ e. too-small (roomy _ l e .triangles-out) (h .triangles-out) (c .if4 .taken)))
+returns-4 c = λ l h. sym (holds _ (λ e. too-small (roomy _ l e .triangles-out) (h .triangles-out) (c .if4 .taken)))
 
 returns-5 : tie.Need-returns-5
-returns-5 c = λ l h. sym (passes _ (λ e. too-small (roomy _ l e .components) (h .components) (c .if5 .taken)))
+returns-5 c = λ l h. sym (holds _ (λ e. too-small (roomy _ l e .components) (h .components) (c .if5 .taken)))
 
 returns-6 : tie.Need-returns-6
-returns-6 c = λ l h. sym (passes _ (λ e. too-small (roomy _ l e .work) (h .work) (c .if6 .taken)))
+returns-6 c = λ l h. sym (holds _ (λ e. too-small (roomy _ l e .work) (h .work) (c .if6 .taken)))
 
 returns-7 : tie.Need-returns-7
-returns-7 c = λ l h. sym (passes _ (λ e. too-small (roomy _ l e .float-work) (h .float-work) (c .if7 .taken)))
+returns-7 c = λ l h. sym (holds _ (λ e. too-small (roomy _ l e .float-work) (h .float-work) (c .if7 .taken)))
 
 returns-8 : tie.Need-returns-8
-returns-8 c = λ l h. sym (passes _ (λ e. too-small (roomy _ l e .given) refl (c .if8 .taken)))
+returns-8 c = λ l h. sym (holds _ (λ e. too-small (roomy _ l e .given) refl (c .if8 .taken)))
 
 returns-9 : tie.Need-returns-9
-returns-9 c = λ l h. sym (passes _ (λ e. too-small (roomy _ l e .count) refl (c .if9 .taken)))
+returns-9 c = λ l h. sym (holds _ (λ e. too-small (roomy _ l e .count) refl (c .if9 .taken)))
 
 returns-10 : tie.Need-returns-10
 returns-10 c =

@@ -5,8 +5,8 @@ use native.Mathlib.Omega.{arith}
 use borrow.Author.Needs.{needs}
 use borrow.Author.Count.{below-more}
 use lib.ListN.{getD}
+use Rattle.laws.specs.Bools.{holds}
 use Rattle.checks.specs.Stated.{asked}
-use Rattle.checks.specs.Tests.{passes}
 use Rattle.checks.specs.Passed.{known, known-pass}
 use Rattle.checks.proofs.unknown_node.Statement.{statement}
 use Rattle.checks.proofs.unknown_node.Tie as tie
@@ -22,7 +22,7 @@ returns c =
     λ l e.
     let g = c .before .before .before .before in
     let w = c .before .wide .ensures in
-    sym (passes _ (λ f. let h = (rw e at (known (asked (g .before .before .before .args .a)) l f)) (g .loop .i) (omega arith) in omega arith))
+    sym (holds _ (λ f. let h = (rw e at (known (asked (g .before .before .before .args .a)) l f)) (g .loop .i) (omega arith) in omega arith))
 
 loop-again : tie.Need-loop-again Inv-loop μ-loop
 loop-again c =

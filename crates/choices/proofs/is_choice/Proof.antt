@@ -4,15 +4,16 @@ use Rattle.definition.specs.Floats.{_≺_}
 use Rattle.definition.specs.Root.{sqrt}
 use Rattle.definition.specs.Plane.{norm}
 use Rattle.definition.specs.Candidates.{toward}
+use Rattle.cells.proofs.Points.{node-within}
 use Rattle.plane.specs.Vectors.{vec}
 use Rattle.candidates.proofs.Aheads.{ahead-read}
 use Rattle.ideals.specs.Wanted.{turn}
-use Rattle.ideals.proofs.Halves.{toward-read, within}
-use Rattle.ideals.proofs.Closes.{not-was}
+use Rattle.ideals.proofs.Halves.{toward-read}
 use Rattle.choices.specs.Choice.{too-far}
 use Rattle.choices.proofs.Tests.{choice-far, choice-edge, choice-behind, choice-side}
 use Rattle.choices.proofs.Roots.{norm-root, square-fits}
 use borrow.Author.Needs.{needs}
+use borrow.Author.Tests.{not-true}
 use Rattle.choices.proofs.is_choice.Statement.{statement}
 use Rattle.choices.proofs.is_choice.Tie as tie
 
@@ -20,7 +21,7 @@ from-to-requires : tie.Need-from-to-requires
 from-to-requires c κs =
     let t = c .before .before in
     let a = t .args in
-    let y = within (a .q .now) (a .p) (t .pre .0 .0) (t .pre .0 .2 .pts) in
+    let y = node-within (a .q .now) (a .p) (t .pre .0 .0) (t .pre .0 .2 .pts) in
     (y (a .a) (t .pre .0 .4 .first), y (a .v) (t .pre .0 .4 .second))
 
 returns : tie.Need-returns
@@ -63,7 +64,7 @@ returns-3 c =
     λ m g h y e.
     choice-behind (turn (a .left)) m (a .a) (a .other) (vec (a .normal)) (a .target) g (a .v)
     (sym (e2 .if2 .left) ∙ ec .edge-candidate .ensures m (h .rep) (h .pts) y (record { node = e .first; end = e .second }))
-    (not-was (ah .ahead .result) (c .if3 .taken) ∙ ah .ahead .ensures ∙ ahead-read (a .q .now) (a .p) m (h .pts) (a .a) (a .v) e (vec (a .normal)) (vec (ft .from-to .result)) (a .target) (ft .from-to .ensures))
+    (sym (not-true (ah .ahead .result) (c .if3 .taken)) ∙ ah .ahead .ensures ∙ ahead-read (a .q .now) (a .p) m (h .pts) (a .a) (a .v) e (vec (a .normal)) (vec (ft .from-to .result)) (a .target) (ft .from-to .ensures))
 
 side-candidate-requires : tie.Need-side-candidate-requires
 side-candidate-requires c κs =

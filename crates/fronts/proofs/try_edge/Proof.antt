@@ -43,9 +43,6 @@ add-result c =
     let h = t .pre .1 in
     omega (arith, h .rep .room .small, h .inside (record { up = omega (arith, o .if1 .left); front = sym (f .is-front .ensures (t .pre .0) (h .rep)) ∙ not-false (f .is-front .result) (e .if2 .left) }))
 
-same-length-2 : tie.Need-same-length-2
-same-length-2 c = c .before .before .put-edge .kept .0
-
 returns-3 : tie.Need-returns-3
 returns-3 c = λ m h.
     let e = c .before .before .before .before in
@@ -54,4 +51,7 @@ returns-3 c = λ m h.
     taken refl (record { up = omega (arith, o .if1 .left); front = sym (f .is-front .ensures m (h .rep)) ∙ not-false (f .is-front .result) (e .if2 .left) }) (c .before .before .put-edge .ensures)
 
 pub try-edge-spec : {M : Type 1} → statement M
-try-edge-spec = tie.close (tie.spec returns is-front-requires (λ c. refl) returns-2 put-edge-requires add-result same-length-2 returns-3)
+try-edge-spec =
+    tie.close
+    (tie.spec
+    returns is-front-requires (λ c. refl) returns-2 put-edge-requires add-result (λ c. c .before .before .put-edge .kept .0) returns-3)

@@ -1,5 +1,4 @@
 use mathlib.Core.Path.{ap, _∙_}
-use Rattle.definition.specs.Numbers.{base}
 use Rattle.definition.specs.Metrics.{score}
 use Rattle.definition.specs.Plane.{flat}
 use Rattle.plane.specs.Points.{node}

@@ -44,9 +44,6 @@ loop-again c =
     writing-more (a .w .now) (a .out .now) (l .loop .out) _ (a .s) (a .p) (a .used) (l .loop .n) (x .write-slot .result) (l .loop .i)
     (t .pre .0 .0) (t .pre .0 .1) (l .loop .inv) (i .loop-test .taken) (search needs) (x .write-slot .ensures)
 
-same-length : tie.Need-same-length Inv-loop μ-loop
-same-length c = c .before .loop .inv .len
-
 returns : tie.Need-returns Inv-loop μ-loop
 returns c =
     let l = c .before in
@@ -61,4 +58,4 @@ pub write-triangles-spec : {M : Type 1} → statement M
 write-triangles-spec =
     tie.close
     (tie.spec
-    Inv-loop μ-loop loop-holds write-slot-requires (λ c. search needs) (λ c. search needs) loop-again same-length returns)
+    Inv-loop μ-loop loop-holds write-slot-requires (λ c. search needs) (λ c. search needs) loop-again (λ c. c .before .loop .inv .len) returns)

@@ -1,9 +1,10 @@
 -- The loop's invariant: the codes from t up to c are the sentinels of empty rings, and nothing else changed. The measure is what is left.
-use Prim.Native.Nat.{_-_}
+use Prim.Native.Nat.{_-_, _+_}
 use native.Mathlib.Omega.{arith}
 use borrow.Author.Needs.{needs}
 use lib.ListN.{length-set}
-use Rattle.rings.proofs.Opens.{Opened, open-more, open-done, kept-refl}
+use Rattle.laws.specs.Frames.{only-refl}
+use Rattle.rings.proofs.Opens.{Opened, open-more, open-done}
 use Rattle.rings.proofs.open.Statement.{statement}
 use Rattle.rings.proofs.open.Tie as tie
 
@@ -16,7 +17,7 @@ abbrev μ-loop : tie.MeasureT-loop
 loop-holds : tie.Need-loop-holds Inv-loop μ-loop
 loop-holds c =
     let a = c .args in
-    record { above = omega arith; within = c .pre .first; kept = kept-refl (a .w .now) (a .b) (a .n); alone = λ x l h. absurd (omega arith) }
+    record { above = omega arith; within = c .pre .first; kept = only-refl (a .w .now) (a .b) ((a .b) + (a .n) + (a .n)); alone = λ x l h. absurd (omega arith) }
 
 slice-write-w : tie.Need-slice-write-w Inv-loop μ-loop
 slice-write-w c = omega (arith, c .before .loop .inv .kept .len)
@@ -30,9 +31,6 @@ loop-again c =
     let t = c .before .before in
     open-more (t .args .w .now) (l .w) (t .args .b) (t .args .n) (t .args .t) (l .c) (t .pre .fits) (c .loop-test .taken) (l .inv)
 
-same-length : tie.Need-same-length Inv-loop μ-loop
-same-length c = c .before .loop .inv .kept .len
-
 returns : tie.Need-returns Inv-loop μ-loop
 returns c =
     let l = c .before .loop in
@@ -44,4 +42,5 @@ open-spec =
     tie.close
     (tie.spec
     Inv-loop μ-loop loop-holds (λ c. search needs) (λ c. search needs) (λ c. search needs) slice-write-w (λ c. search needs) (λ c. search needs)
-    (λ c. search needs) (λ c. search needs) slice-write-w-2 (λ c. search needs) (λ c. search needs) loop-again same-length returns)
+    (λ c. search needs) (λ c. search needs) slice-write-w-2 (λ c. search needs) (λ c. search needs) loop-again (λ c. c .before .loop .inv .kept .len)
+    returns)

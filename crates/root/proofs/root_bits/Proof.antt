@@ -14,14 +14,9 @@ at-end c =
     root-bits (start .args .b) (parts .result .last) (parts .result .half) (twice .result) (whole .result .root) (whole .result .rest) (c .rounded .result)
     (start .pre .0) (start .pre .1) (parts .ensures) (twice .ensures) (whole .ensures) (c .rounded .ensures)
 
-add-result : tie.Need-add-result
-add-result c = omega (arith, at-end c .below)
-
-returns : tie.Need-returns
-returns c = (at-end c .below, at-end c .is)
-
 pub root-bits-spec : {M : Type 1} → statement M
 root-bits-spec =
     tie.close
     (tie.spec
-    (λ c κs. search needs) (λ c κs. search needs) (λ c κs. search needs) (λ c. search needs) (λ c κs. search needs) add-result returns)
+    (λ c κs. search needs) (λ c κs. search needs) (λ c κs. search needs) (λ c. search needs) (λ c κs. search needs) (λ c. omega (arith, at-end c .below))
+    (λ c. (at-end c .below, at-end c .is)))

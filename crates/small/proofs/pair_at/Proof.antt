@@ -23,9 +23,6 @@ loop-holds c = begun 1 (c .args .from) (c .args .n) (c .args .place) (c .pre .wi
 sub-after-2 : tie.Need-sub-after-2 Inv-loop μ-loop
 sub-after-2 c = passed (c .before .loop .inv) (c .before .loop .after) (sym (ones (c .before .loop .after))) (omega arith) .0
 
-loop-less : tie.Need-loop-less Inv-loop μ-loop
-loop-less c = let h = sub-after-2 c in omega arith
-
 loop-again : tie.Need-loop-again Inv-loop μ-loop
 loop-again c = passed (c .before .loop .inv) (c .before .loop .after) (sym (ones (c .before .loop .after))) (omega arith) .1
 
@@ -45,13 +42,5 @@ pub pair-at-spec : {M : Type 1} → statement M
 pair-at-spec =
     tie.close
     (tie.spec
-    Inv-loop
-    μ-loop
-    sub-after
-    loop-holds
-    sub-after-2
-    (λ c. omega arith)
-    loop-less
-    loop-again
-    (λ c. omega arith) (λ c. omega arith)
-    returns)
+    Inv-loop μ-loop sub-after loop-holds sub-after-2 (λ c. omega arith) (λ c. let h = sub-after-2 c in omega arith) loop-again (λ c. omega arith)
+    (λ c. omega arith) returns)

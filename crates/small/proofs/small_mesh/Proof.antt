@@ -34,23 +34,9 @@ list-at-requires c κs =
     let n = c .before .before .before .before .before .before .args .points in
     omega (arith, triangles-few n (omega arith), triangles-some n (omega arith) (omega arith))
 
-returns-4 : tie.Need-returns-4
-returns-4 c = c .list-at .ensures
-
 pub small-mesh-spec : {M : Type 1} → statement M
 small-mesh-spec =
     tie.close
     (tie.spec
-    returns
-    returns-2
-    (λ c κs. omega arith)
-    pairs-requires
-    (λ c. omega arith)
-    triples-requires-2
-    (λ c. omega arith)
-    sub-last
-    (λ c. omega arith)
-    returns-3
-    (λ c. omega arith)
-    list-at-requires
-    returns-4)
+    returns returns-2 (λ c κs. omega arith) pairs-requires (λ c. omega arith) triples-requires-2 (λ c. omega arith) sub-last (λ c. omega arith) returns-3
+    (λ c. omega arith) list-at-requires (λ c. c .list-at .ensures))

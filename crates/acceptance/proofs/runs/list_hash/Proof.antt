@@ -1,6 +1,6 @@
 -- `runs::list_hash`. Invariant: h is the hash of the first s settings. The measure is what is left of them.
 use mathlib.Core.Path.{_≡_, refl, ap, _∙_}
-use Prim.Native.Nat.{ℕ, _-_, _≤_}
+use Prim.Native.Nat.{_-_, _≤_}
 use native.Mathlib.Omega.{arith}
 use borrow.Author.Needs.{needs}
 use Rattle.hashing.specs.Hash.{basis}

@@ -1,12 +1,13 @@
-use mathlib.Core.Path.{_≡_, ap, _∙_}
+use mathlib.Core.Path.{_≡_, ap, _∙_, sym}
 use mathlib.Core.Bool.{true, false}
 use Prim.Native.Nat.{ℕ}
 use lib.ListN.{length}
 use Rattle.definition.specs.Cells.{key}
 use Rattle.candidates.specs.Hand.{open-edge}
 use Rattle.lives.proofs.Steps.{corners-of, edge-is}
-use Rattle.candidates.proofs.Fences.{cell-0, cell-1, cell-2, ends-are, not-was, was}
+use Rattle.candidates.proofs.Fences.{cell-0, cell-1, cell-2, ends-are}
 use borrow.Author.Needs.{needs}
+use borrow.Author.Tests.{not-true, not-false}
 use Rattle.candidates.proofs.inside.open_cell.Statement.{statement}
 use Rattle.candidates.proofs.inside.open_cell.Tie as tie
 
@@ -49,7 +50,7 @@ returns c =
     let ex : x ≡ k .t .n0 = n1 .node .ensures ∙ d .read .n0 in
     let ey : y ≡ k .t .n1 = n2 .node2 .ensures ∙ d .read .n1 in
     let ez : z ≡ k .t .n2 = n3 .node3 .ensures ∙ d .read .n2 in
-    let v0 : false ≡ open-edge m (a .a) (a .b) (key (k .t .n0) (k .t .n1)) = not-was (o1 .open-edge .result) (c .if1 .taken) ∙ o1 .open-edge .ensures m r h e (ends-are m x y (k .t .n0) (k .t .n1) ex ey (d .k0) (d .k1)) ∙ ap (open-edge m (a .a) (a .b)) (ap (λ (n : ℕ). key n y) ex ∙ ap (key _) ey) in
+    let v0 : false ≡ open-edge m (a .a) (a .b) (key (k .t .n0) (k .t .n1)) = sym (not-true (o1 .open-edge .result) (c .if1 .taken)) ∙ o1 .open-edge .ensures m r h e (ends-are m x y (k .t .n0) (k .t .n1) ex ey (d .k0) (d .k1)) ∙ ap (open-edge m (a .a) (a .b)) (ap (λ (n : ℕ). key n y) ex ∙ ap (key _) ey) in
     cell-0 m (a .a) (a .b) (k .t) v0
 
 open-edge-requires-2 : tie.Need-open-edge-requires-2
@@ -94,8 +95,8 @@ returns-2 c =
     let ex : x ≡ k .t .n0 = n1 .node .ensures ∙ d .read .n0 in
     let ey : y ≡ k .t .n1 = n2 .node2 .ensures ∙ d .read .n1 in
     let ez : z ≡ k .t .n2 = n3 .node3 .ensures ∙ d .read .n2 in
-    let v0 : true ≡ open-edge m (a .a) (a .b) (key (k .t .n0) (k .t .n1)) = was (o1 .open-edge .result) (e1 .if1 .left) ∙ o1 .open-edge .ensures m r h e (ends-are m x y (k .t .n0) (k .t .n1) ex ey (d .k0) (d .k1)) ∙ ap (open-edge m (a .a) (a .b)) (ap (λ (n : ℕ). key n y) ex ∙ ap (key _) ey) in
-    let v1 : false ≡ open-edge m (a .a) (a .b) (key (k .t .n1) (k .t .n2)) = not-was (o2 .open-edge2 .result) (c .if2 .taken) ∙ o2 .open-edge2 .ensures m r h e (ends-are m y z (k .t .n1) (k .t .n2) ey ez (d .k1) (d .k2)) ∙ ap (open-edge m (a .a) (a .b)) (ap (λ (n : ℕ). key n z) ey ∙ ap (key _) ez) in
+    let v0 : true ≡ open-edge m (a .a) (a .b) (key (k .t .n0) (k .t .n1)) = sym (not-false (o1 .open-edge .result) (e1 .if1 .left)) ∙ o1 .open-edge .ensures m r h e (ends-are m x y (k .t .n0) (k .t .n1) ex ey (d .k0) (d .k1)) ∙ ap (open-edge m (a .a) (a .b)) (ap (λ (n : ℕ). key n y) ex ∙ ap (key _) ey) in
+    let v1 : false ≡ open-edge m (a .a) (a .b) (key (k .t .n1) (k .t .n2)) = sym (not-true (o2 .open-edge2 .result) (c .if2 .taken)) ∙ o2 .open-edge2 .ensures m r h e (ends-are m y z (k .t .n1) (k .t .n2) ey ez (d .k1) (d .k2)) ∙ ap (open-edge m (a .a) (a .b)) (ap (λ (n : ℕ). key n z) ey ∙ ap (key _) ez) in
     cell-1 m (a .a) (a .b) (k .t) v0 v1
 
 open-edge-requires-3 : tie.Need-open-edge-requires-3
@@ -143,8 +144,8 @@ returns-3 c =
     let ex : x ≡ k .t .n0 = n1 .node .ensures ∙ d .read .n0 in
     let ey : y ≡ k .t .n1 = n2 .node2 .ensures ∙ d .read .n1 in
     let ez : z ≡ k .t .n2 = n3 .node3 .ensures ∙ d .read .n2 in
-    let v0 : true ≡ open-edge m (a .a) (a .b) (key (k .t .n0) (k .t .n1)) = was (o1 .open-edge .result) (e1 .if1 .left) ∙ o1 .open-edge .ensures m r h e (ends-are m x y (k .t .n0) (k .t .n1) ex ey (d .k0) (d .k1)) ∙ ap (open-edge m (a .a) (a .b)) (ap (λ (n : ℕ). key n y) ex ∙ ap (key _) ey) in
-    let v1 : true ≡ open-edge m (a .a) (a .b) (key (k .t .n1) (k .t .n2)) = was (o2 .open-edge2 .result) (e2 .if2 .left) ∙ o2 .open-edge2 .ensures m r h e (ends-are m y z (k .t .n1) (k .t .n2) ey ez (d .k1) (d .k2)) ∙ ap (open-edge m (a .a) (a .b)) (ap (λ (n : ℕ). key n z) ey ∙ ap (key _) ez) in
+    let v0 : true ≡ open-edge m (a .a) (a .b) (key (k .t .n0) (k .t .n1)) = sym (not-false (o1 .open-edge .result) (e1 .if1 .left)) ∙ o1 .open-edge .ensures m r h e (ends-are m x y (k .t .n0) (k .t .n1) ex ey (d .k0) (d .k1)) ∙ ap (open-edge m (a .a) (a .b)) (ap (λ (n : ℕ). key n y) ex ∙ ap (key _) ey) in
+    let v1 : true ≡ open-edge m (a .a) (a .b) (key (k .t .n1) (k .t .n2)) = sym (not-false (o2 .open-edge2 .result) (e2 .if2 .left)) ∙ o2 .open-edge2 .ensures m r h e (ends-are m y z (k .t .n1) (k .t .n2) ey ez (d .k1) (d .k2)) ∙ ap (open-edge m (a .a) (a .b)) (ap (λ (n : ℕ). key n z) ey ∙ ap (key _) ez) in
     let v2 : c .open-edge3 .result ≡ open-edge m (a .a) (a .b) (key (k .t .n2) (k .t .n0)) = c .open-edge3 .ensures m r h e (ends-are m z x (k .t .n2) (k .t .n0) ez ex (d .k2) (d .k0)) ∙ ap (open-edge m (a .a) (a .b)) (ap (λ (n : ℕ). key n x) ez ∙ ap (key _) ex) in
     cell-2 m (a .a) (a .b) (k .t) (c .open-edge3 .result) v0 v1 v2
 

@@ -1,5 +1,6 @@
 use mathlib.Core.Path.{_∙_}
-use Rattle.candidates.proofs.Fences.{passes-ua, passes-va, passes-ub, passes-vb, passes-clear, crosses-read, node-within}
+use Rattle.cells.proofs.Points.{node-within}
+use Rattle.candidates.proofs.Fences.{passes-ua, passes-va, passes-ub, passes-vb, passes-clear, crosses-read}
 use Rattle.candidates.proofs.inside.passes_by.Statement.{statement}
 use Rattle.candidates.proofs.inside.passes_by.Tie as tie
 

@@ -6,9 +6,10 @@ use native.Mathlib.Omega.{arith}
 use Rattle.definition.specs.Cells.{Live, Mesh}
 use Rattle.definition.specs.Candidates.{walls, segment-inside}
 use Rattle.candidates.specs.Hand.{InHand, Ends}
-use Rattle.candidates.proofs.Fences.{open-cell, not-was, was}
+use Rattle.candidates.proofs.Fences.{open-cell}
 use Rattle.candidates.proofs.Scans.{Passing, scan-here, passing-start, passing-stop, passing-more, passing-end, spot-open}
 use borrow.Author.Needs.{needs}
+use borrow.Author.Tests.{not-true, not-false}
 use Rattle.candidates.proofs.inside.segment_inside.Statement.{statement}
 use Rattle.candidates.proofs.inside.segment_inside.Tie as tie
 
@@ -79,7 +80,7 @@ returns c =
     λ m g h e.
     let b = x .inv .1 m g h e in
     let y = scan-here (a .w .now) (a .s) (a .p) (a .n) (x .k) (wd .wide .result) m (b .rest) (h .rep) (b .scan) (i .loop-test .taken) (wd .wide .ensures) in
-    passing-stop (a .w .now) (a .s) (a .p) (a .n) (x .k) m (open-cell m (a .a) (a .b)) (segment-inside m (a .a) (a .b) (walls m g)) (wd .wide .result) b y (spot-open m (wd .wide .result) (a .a) (a .b) (y .x) (y .top) ∙ sym (oc .open-cell .ensures m (h .rep) (h .pts) e (y .top .t)) ∙ sym (not-was (oc .open-cell .result) (c .if1 .taken)))
+    passing-stop (a .w .now) (a .s) (a .p) (a .n) (x .k) m (open-cell m (a .a) (a .b)) (segment-inside m (a .a) (a .b) (walls m g)) (wd .wide .result) b y (spot-open m (wd .wide .result) (a .a) (a .b) (y .x) (y .top) ∙ sym (oc .open-cell .ensures m (h .rep) (h .pts) e (y .top .t)) ∙ sym (sym (not-true (oc .open-cell .result) (c .if1 .taken))))
 
 loop-less : tie.Need-loop-less Inv-loop μ-loop
 loop-less c =
@@ -101,7 +102,7 @@ loop-again c =
       λ m g h e.
           let b = x .inv .1 m g h e in
           let y = scan-here (a .w .now) (a .s) (a .p) (a .n) (x .k) (wd .wide .result) m (b .rest) (h .rep) (b .scan) (i .loop-test .taken) (wd .wide .ensures) in
-          passing-more (a .w .now) (a .s) (a .p) (a .n) (x .k) m (open-cell m (a .a) (a .b)) (segment-inside m (a .a) (a .b) (walls m g)) (wd .wide .result) b y (spot-open m (wd .wide .result) (a .a) (a .b) (y .x) (y .top) ∙ sym (oc .open-cell .ensures m (h .rep) (h .pts) e (y .top .t)) ∙ sym (was (oc .open-cell .result) (c .if1 .left))),
+          passing-more (a .w .now) (a .s) (a .p) (a .n) (x .k) m (open-cell m (a .a) (a .b)) (segment-inside m (a .a) (a .b) (walls m g)) (wd .wide .result) b y (spot-open m (wd .wide .result) (a .a) (a .b) (y .x) (y .top) ∙ sym (oc .open-cell .ensures m (h .rep) (h .pts) e (y .top .t)) ∙ sym (sym (not-false (oc .open-cell .result) (c .if1 .left)))),
     )
 
 returns-2 : tie.Need-returns-2 Inv-loop μ-loop

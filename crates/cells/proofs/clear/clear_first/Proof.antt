@@ -2,7 +2,7 @@
 use Prim.Native.Nat.{_-_}
 use native.Mathlib.Omega.{arith}
 use borrow.Author.Needs.{needs}
-use Rattle.cells.proofs.Frames.{keeps-refl}
+use Rattle.laws.specs.Frames.{keeps-refl}
 use Rattle.cells.proofs.Clears.{Cleared, cleared-more}
 use Rattle.cells.proofs.clear.clear_first.Statement.{statement}
 use Rattle.cells.proofs.clear.clear_first.Tie as tie

@@ -21,9 +21,6 @@ loop-holds c =
     let a = t .args in
     part-start 0·0 (a .w .now)
 
-loop-less : tie.Need-loop-less Inv-loop μ-loop
-loop-less c = omega (arith, c .before .loop .inv .len)
-
 loop-again : tie.Need-loop-again Inv-loop μ-loop
 unfolding 0·0 ofBits f64
 loop-again c =
@@ -47,4 +44,5 @@ pub clear-floats-spec : {M : Type 1} → statement M
 clear-floats-spec =
     tie.close
     (tie.spec
-    Inv-loop μ-loop loop-holds (λ c. search needs) (λ c. search needs) (λ c. search needs) loop-less loop-again same-length returns)
+    Inv-loop μ-loop loop-holds (λ c. search needs) (λ c. search needs) (λ c. search needs) (λ c. omega (arith, c .before .loop .inv .len)) loop-again
+    same-length returns)

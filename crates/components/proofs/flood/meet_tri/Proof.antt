@@ -91,18 +91,12 @@ slice-read-z c =
     let a = t .args in
     omega (arith, tri-inside (a .w .now) (a .s) (a .p) (t .pre .0) (t .pre .2 .rep) (a .i) (t .pre .3), t .pre .2 .rep .room .small, t .pre .2 .rep .room .fits)
 
-wide-requires : tie.Need-wide-requires
-wide-requires c κs = tt
-
 meet-two-requires : tie.Need-meet-two-requires
 meet-two-requires c κs =
     let t = c .before .before .before .before .before .before in
     let a = t .args in
     let r = tri-read (a .w .now) (a .s) (a .p) (a .i) (t .pre .0) (t .pre .2 .rep) (t .pre .3) in
     ((t .pre .0, t .pre .1, t .pre .2), rw (c .wide .ensures) (r .in0))
-
-wide-requires-2 : tie.Need-wide-requires-2
-wide-requires-2 c κs = tt
 
 meet-two-requires-2 : tie.Need-meet-two-requires-2
 meet-two-requires-2 c κs =
@@ -127,5 +121,5 @@ pub meet-tri-spec : {M : Type 1} → statement M
 meet-tri-spec =
     tie.close
     (tie.spec
-    mul-x add-x mul-x-2 slice-read-x mul-y add-y add-y-2 mul-y-2 slice-read-y mul-z add-z add-z-2 mul-z-2 slice-read-z wide-requires meet-two-requires
-    wide-requires-2 meet-two-requires-2 (λ c. search needs) returns)
+    mul-x add-x mul-x-2 slice-read-x mul-y add-y add-y-2 mul-y-2 slice-read-y mul-z add-z add-z-2 mul-z-2 slice-read-z (λ c κs. tt) meet-two-requires
+    (λ c κs. tt) meet-two-requires-2 (λ c. search needs) returns)

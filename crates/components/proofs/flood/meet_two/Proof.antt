@@ -125,9 +125,6 @@ loop-again c =
           rw (c .next2 .ensures ∙ going-next (a .w .now) (l .loop .w) (a .s) (a .p) (a .x) (a .y) (a .z) (l .loop .k) (l .loop .c) m xs g h (o .meet-one .last .0) (o .meet-one .result) f) (going-on (a .w .now) (l .loop .w) (a .s) (a .p) (a .x) (a .y) (a .z) (l .loop .k) (l .loop .c) m xs g h (o .meet-one .last .0) (o .meet-one .result) f),
     )
 
-same-length : tie.Need-same-length Inv-loop μ-loop
-same-length c = c .before .loop .inv .0
-
 returns : tie.Need-returns Inv-loop μ-loop
 returns c = λ m xs h.
     let l = c .before in
@@ -138,22 +135,5 @@ pub meet-two-spec : {M : Type 1} → statement M
 meet-two-spec =
     tie.close
     (tie.spec
-    Inv-loop
-    μ-loop
-    mul-next
-    mul-next-2
-    add-next
-    mul-next-3
-    add-next-2
-    next-requires
-    loop-holds
-    mul-loop
-    meet-one-requires
-    mul-next-4
-    mul-next-5
-    add-next-3
-    next-requires-2
-    loop-less
-    loop-again
-    same-length
-    returns)
+    Inv-loop μ-loop mul-next mul-next-2 add-next mul-next-3 add-next-2 next-requires loop-holds mul-loop meet-one-requires mul-next-4 mul-next-5
+    add-next-3 next-requires-2 loop-less loop-again (λ c. c .before .loop .inv .0) returns)

@@ -29,9 +29,6 @@ loop-again c =
           (wipe-more (a .w .now) (l .loop .w) (a .s) (a .p) (l .loop .i) (l .loop .inv .2) (c .loop-test .taken)),
     )
 
-same-length : tie.Need-same-length Inv-loop μ-loop
-same-length c = c .before .loop .inv .0
-
 returns : tie.Need-returns Inv-loop μ-loop
 returns c =
     let l = c .before in
@@ -43,4 +40,4 @@ wipe-marks-spec =
     tie.close
     (tie.spec
     Inv-loop μ-loop (λ c κs. search needs) loop-holds (λ c. search needs) (λ c. search needs) (λ c. search needs) (λ c. search needs) (λ c. search needs)
-    loop-again same-length returns)
+    loop-again (λ c. c .before .loop .inv .0) returns)

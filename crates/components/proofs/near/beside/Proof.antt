@@ -16,9 +16,6 @@ Inv-loop w s p n i₀ i = (k : ℕ) (m : Mesh) (region xs : List Live) → Aroun
 abbrev μ-loop : tie.MeasureT-loop
 μ-loop w s p n i₀ i = n - i
 
-loop-holds : tie.Need-loop-holds Inv-loop μ-loop
-loop-holds c = λ k m region xs a. looking-start m region xs
-
 listed-requires : tie.Need-listed-requires Inv-loop μ-loop
 listed-requires c κs =
     let l = c .before in
@@ -72,4 +69,5 @@ pub beside-spec : {M : Type 1} → statement M
 beside-spec =
     tie.close
     (tie.spec
-    Inv-loop μ-loop loop-holds listed-requires look-tri-requires returns (λ c. search needs) (λ c. search needs) loop-again returns-2)
+    Inv-loop μ-loop (λ c. λ k m region xs a. looking-start m region xs) listed-requires look-tri-requires returns (λ c. search needs) (λ c. search needs)
+    loop-again returns-2)

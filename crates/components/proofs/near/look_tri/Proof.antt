@@ -91,9 +91,6 @@ shared-slice-read-z c =
     let a = t .args in
     omega (arith, tri-inside (a .w .now) (a .s) (a .p) (t .pre .1) (t .pre .3 .rep) (a .i) (t .pre .4), t .pre .3 .rep .room .small, t .pre .3 .rep .room .fits)
 
-wide-requires : tie.Need-wide-requires
-wide-requires c κs = tt
-
 look-two-requires : tie.Need-look-two-requires
 look-two-requires c κs =
     let t = c .before .before .before .before .before in
@@ -106,9 +103,6 @@ returns c = λ k m xs h i.
     let o = c .before in
     let a = c .before .before .before .before .before .before .before .args in
     looked-other (a .s) (o .look-two .result) m xs _ (Beside (i .t)) (o .look-two .ensures k m xs h) (c .if1 .taken)
-
-wide-requires-2 : tie.Need-wide-requires-2
-wide-requires-2 c κs = tt
 
 look-two-requires-2 : tie.Need-look-two-requires-2
 look-two-requires-2 c κs =
@@ -130,23 +124,5 @@ pub look-tri-spec : {M : Type 1} → statement M
 look-tri-spec =
     tie.close
     (tie.spec
-    mul-x
-    add-x
-    mul-x-2
-    shared-slice-read-x
-    mul-y
-    add-y
-    add-y-2
-    mul-y-2
-    shared-slice-read-y
-    mul-z
-    add-z
-    add-z-2
-    mul-z-2
-    shared-slice-read-z
-    wide-requires
-    look-two-requires
-    returns
-    wide-requires-2
-    look-two-requires-2
-    returns-2)
+    mul-x add-x mul-x-2 shared-slice-read-x mul-y add-y add-y-2 mul-y-2 shared-slice-read-y mul-z add-z add-z-2 mul-z-2 shared-slice-read-z (λ c κs. tt)
+    look-two-requires returns (λ c κs. tt) look-two-requires-2 returns-2)

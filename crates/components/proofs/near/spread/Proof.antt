@@ -33,9 +33,6 @@ loop-holds c =
       λ m xs x h. h,
     )
 
-same-length : tie.Need-same-length Inv-loop μ-loop
-same-length c = c .before .before .loop .inv .0
-
 returns : tie.Need-returns Inv-loop μ-loop
 returns c =
     let l = c .before .before in
@@ -91,9 +88,6 @@ loop-again c =
           flood-on (a .w .now) (l .loop .w) (a .s) (a .p) (l .loop .count) (l .loop .head) m xs x (d .listed .result) b (o .meet-tri .last .0) (o .meet-tri .result) f,
     )
 
-same-length-2 : tie.Need-same-length-2 Inv-loop μ-loop
-same-length-2 c = c .before .loop .inv .0
-
 returns-2 : tie.Need-returns-2 Inv-loop μ-loop
 returns-2 c =
     let l = c .before in
@@ -104,5 +98,5 @@ pub spread-spec : {M : Type 1} → statement M
 spread-spec =
     tie.close
     (tie.spec
-    Inv-loop μ-loop loop-holds same-length returns listed-requires meet-tri-requires (λ c. search needs) (λ c. search needs) loop-again same-length-2
-    returns-2)
+    Inv-loop μ-loop loop-holds (λ c. c .before .before .loop .inv .0) returns listed-requires meet-tri-requires (λ c. search needs) (λ c. search needs)
+    loop-again (λ c. c .before .loop .inv .0) returns-2)

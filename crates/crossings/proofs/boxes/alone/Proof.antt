@@ -2,8 +2,5 @@ use Rattle.crossings.proofs.Boxing.{starts}
 use Rattle.crossings.proofs.boxes.alone.Statement.{statement}
 use Rattle.crossings.proofs.boxes.alone.Tie as tie
 
-returns : tie.Need-returns
-returns c = starts (c .args .i) (c .args .x)
-
 pub alone-spec : {M : Type 1} → statement M
-alone-spec = tie.close (tie.spec returns)
+alone-spec = tie.close (tie.spec (λ c. starts (c .args .i) (c .args .x)))

@@ -2,8 +2,8 @@ use mathlib.Core.Bool.{false≢true}
 use native.Mathlib.Omega.{arith}
 use borrow.Author.Needs.{needs}
 use borrow.Author.Tests.{not-false}
+use Rattle.laws.specs.Frames.{keeps-refl}
 use Rattle.cells.specs.Layout.{mesh-end}
-use Rattle.cells.proofs.Frames.{keeps-refl}
 use Rattle.crossings.proofs.Boxing.{near-known}
 use Rattle.crossings.proofs.Noted.{small, known-noted, keeps-noted, more-noted}
 use Rattle.crossings.proofs.boxes.make_box.Statement.{statement}

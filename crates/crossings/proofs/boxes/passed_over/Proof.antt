@@ -2,8 +2,8 @@
 use mathlib.Core.Bool.{false≢true}
 use native.Mathlib.Omega.{arith}
 use borrow.Author.Needs.{needs}
+use Rattle.laws.specs.Frames.{keeps-refl}
 use Rattle.cells.specs.Layout.{mesh-end}
-use Rattle.cells.proofs.Frames.{keeps-refl}
 use Rattle.crossings.proofs.Noted.{can-note, can-look, away}
 use Rattle.crossings.proofs.boxes.passed_over.Statement.{statement}
 use Rattle.crossings.proofs.boxes.passed_over.Tie as tie

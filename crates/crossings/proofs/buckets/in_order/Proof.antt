@@ -13,8 +13,5 @@ returns c = λ e.
     let a = t .before .args in
     in-order (a .bucket) (a .x) (a .y) (k .bucket-key .result) (c .bucket-key2 .result) (t .if1 .taken) (k .bucket-key .ensures) (c .bucket-key2 .ensures) e
 
-returns-2 : tie.Need-returns-2
-returns-2 c = λ e. absurd (false≢true e)
-
 pub in-order-spec : {M : Type 1} → statement M
-in-order-spec = tie.close (tie.spec (λ c κs. search needs) (λ c κs. search needs) returns returns-2)
+in-order-spec = tie.close (tie.spec (λ c κs. search needs) (λ c κs. search needs) returns (λ c. λ e. absurd (false≢true e)))

@@ -4,9 +4,8 @@ use native.Mathlib.Omega.{arith}
 use borrow.Author.Needs.{needs}
 use mathlib.Core.Path.{_∙_}
 use Rattle.definition.specs.Cells.{Mesh}
+use Rattle.laws.specs.Frames.{Keeps, keeps-refl, keeps-trans}
 use Rattle.cells.specs.Layout.{mesh-end}
-use Rattle.cells.specs.Frames.{Keeps}
-use Rattle.cells.proofs.Frames.{keeps-refl, keeps-trans}
 use Rattle.crossings.specs.Cross.{Known}
 use Rattle.crossings.proofs.Crosses.{NoneBelow, none-more, first-at, first-none}
 use Rattle.crossings.proofs.cross.first_crossing.Statement.{statement}
@@ -70,9 +69,6 @@ loop-again c =
           (z .0, none-more (a .w .now) (a .s) (a .p) (a .n) (a .u) (a .v) m (k .rep) (l .loop .a) (q .least-near .result) (y .1) (k .count) (z .1) (c .if1 .left)),
     )
 
-same-length-2 : tie.Need-same-length-2 Inv-loop μ-loop
-same-length-2 c = c .before .loop .inv .1 .len
-
 returns-2 : tie.Need-returns-2 Inv-loop μ-loop
 returns-2 c =
     let l = c .before in
@@ -87,5 +83,5 @@ pub first-crossing-spec : {M : Type 1} → statement M
 first-crossing-spec =
     tie.close
     (tie.spec
-    Inv-loop μ-loop limits-of-requires loop-holds least-near-requires same-length returns (λ c. search needs) (λ c. search needs) loop-again same-length-2
-    returns-2)
+    Inv-loop μ-loop limits-of-requires loop-holds least-near-requires same-length returns (λ c. search needs) (λ c. search needs) loop-again
+    (λ c. c .before .loop .inv .1 .len) returns-2)

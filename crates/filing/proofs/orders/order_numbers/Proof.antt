@@ -5,19 +5,8 @@ use mathlib.Core.Path.{sym}
 use Rattle.filing.proofs.orders.order_numbers.Statement.{statement}
 use Rattle.filing.proofs.orders.order_numbers.Tie as tie
 
-returns : tie.Need-returns
-returns c = sym (less-is _ _ (c .if1 .taken))
-
-returns-2 : tie.Need-returns-2
-returns-2 c = sym (more-is _ _ (c .if2 .taken))
-
 returns-3 : tie.Need-returns-3
 returns-3 c = sym (equal-is _ _ (let h = c .before .if1 .left in let k = c .if2 .left in omega arith))
 
 pub order-numbers-spec : {M : Type 1} → statement M
-order-numbers-spec =
-    tie.close
-    (tie.spec
-    returns
-    returns-2
-    returns-3)
+order-numbers-spec = tie.close (tie.spec (λ c. sym (less-is _ _ (c .if1 .taken))) (λ c. sym (more-is _ _ (c .if2 .taken))) returns-3)

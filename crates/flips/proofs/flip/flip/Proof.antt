@@ -6,10 +6,10 @@ use lib.ListN.{length}
 use borrow.Author.Tests.{not-true, not-false}
 use Rattle.definition.specs.Cells.{Tri, Mesh}
 use Rattle.definition.specs.Flips.{third, flipped, convex-pair}
+use Rattle.laws.specs.Frames.{keeps-refl}
 use Rattle.plane.specs.Points.{Within}
 use Rattle.cells.specs.Layout.{mesh-end}
 use Rattle.cells.specs.Rep.{Rep, Pts}
-use Rattle.cells.proofs.Frames.{keeps-refl}
 use Rattle.cells.proofs.Slots.{rep-see}
 use Rattle.flips.specs.Nodes.{tri-read}
 use Rattle.flips.specs.Flip.{TwinsAt, IsFlip}

@@ -1,7 +1,7 @@
 use Rattle.definition.specs.Cells.{set-cell}
+use Rattle.laws.specs.Frames.{keeps-trans}
 use Rattle.cells.specs.Layout.{mesh-end}
 use Rattle.meshes.specs.Changes.{tri-of-nodes}
-use Rattle.cells.proofs.Frames.{keeps-trans}
 use Rattle.flips.specs.Nodes.{tri-read}
 use Rattle.flips.proofs.Flips.{can-xuy, can-xyu, can-yvx, can-yxv, turned-along, turned-back}
 use borrow.Author.Needs.{needs}

@@ -5,9 +5,8 @@ use native.Mathlib.Omega.{arith}
 use borrow.Author.Needs.{needs}
 use borrow.Author.Tests.{not-true, not-false}
 use Rattle.definition.specs.Cells.{Mesh}
+use Rattle.laws.specs.Frames.{Keeps, keeps-refl, keeps-trans}
 use Rattle.cells.specs.Layout.{mesh-end}
-use Rattle.cells.specs.Frames.{Keeps}
-use Rattle.cells.proofs.Frames.{keeps-refl, keeps-trans}
 use Rattle.crossings.specs.Cross.{Known, FirstAt}
 use Rattle.crossings.specs.Crossings.{IsFirst}
 use Rattle.flips.proofs.Recovers.{is-edge, is-up, Going, going-start, going-as, going-there, going-none, going-stuck, going-on, going-end}

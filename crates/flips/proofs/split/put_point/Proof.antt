@@ -6,9 +6,6 @@ use borrow.Author.Needs.{needs}
 use Rattle.flips.proofs.split.put_point.Statement.{statement}
 use Rattle.flips.proofs.split.put_point.Tie as tie
 
-slice-write-q-2 : tie.Need-slice-write-q-2
-slice-write-q-2 c = simp length-set (omega (arith, c .pre))
-
 returns : tie.Need-returns
 unfolding 0·0 f64
 returns c = refl
@@ -17,5 +14,6 @@ pub put-point-spec : {M : Type 1} → statement M
 put-point-spec =
     tie.close
     (tie.spec
-    (λ c. search needs) (λ c. search needs) (λ c. search needs) (λ c. search needs) (λ c. search needs) (λ c. search needs) slice-write-q-2
-    (λ c. search needs) (λ c. search needs) (λ c. search needs) (λ c. search needs) (λ c. search needs) returns)
+    (λ c. search needs) (λ c. search needs) (λ c. search needs) (λ c. search needs) (λ c. search needs) (λ c. search needs)
+    (λ c. simp length-set (omega (arith, c .pre))) (λ c. search needs) (λ c. search needs) (λ c. search needs) (λ c. search needs) (λ c. search needs)
+    returns)

@@ -3,10 +3,10 @@ use native.Mathlib.Omega.{arith}
 use Rattle.definition.specs.Plane.{Node}
 use Rattle.definition.specs.Cells.{Mesh, set-cell, push-cell}
 use Rattle.definition.specs.Insertion.{with-point}
+use Rattle.laws.specs.Frames.{keeps-trans}
 use Rattle.cells.specs.Layout.{mesh-end}
 use Rattle.cells.specs.Rep.{Rep}
 use Rattle.meshes.specs.Changes.{CanSet, CanPush, tri-of-nodes}
-use Rattle.cells.proofs.Frames.{keeps-trans}
 use Rattle.cells.proofs.Slots.{rep-point}
 use Rattle.flips.specs.Split.{CanSplit}
 use Rattle.flips.proofs.Splits.{origin, Parts, parts, split-see, can-set, can-push, can-push2, split-is}

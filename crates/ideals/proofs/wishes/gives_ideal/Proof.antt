@@ -7,10 +7,11 @@ use Rattle.definition.specs.Numbers.{ideal-sum, tiny-length}
 use Rattle.definition.specs.Plane.{Vec, norm, over}
 use Rattle.definition.specs.Cells.{is-front}
 use Rattle.definition.specs.Candidates.{toward, plus}
+use Rattle.cells.proofs.Points.{node-within}
 use Rattle.cells.proofs.Edges.{key-swap}
 use Rattle.plane.specs.Vectors.{vec}
 use Rattle.ideals.specs.Wanted.{every}
-use Rattle.ideals.proofs.Halves.{half-gives, by-same, by-other, by-inner, by-tiny, by-half, toward-read, within}
+use Rattle.ideals.proofs.Halves.{half-gives, by-same, by-other, by-inner, by-tiny, by-half, toward-read}
 use borrow.Author.Needs.{needs}
 use Rattle.ideals.proofs.wishes.gives_ideal.Statement.{statement}
 use Rattle.ideals.proofs.wishes.gives_ideal.Tie as tie
@@ -41,7 +42,7 @@ from-to-requires c κs =
     let e1 = e2 .before in
     let t = e1 .before .before .before in
     let a = t .args in
-    let y = within (a .q .now) (a .p) (t .pre .0) (t .pre .2) in
+    let y = node-within (a .q .now) (a .p) (t .pre .0) (t .pre .2) in
     (y (a .a) (t .pre .3 .node), y (a .v) (t .pre .3 .end))
 
 returns-3 : tie.Need-returns-3

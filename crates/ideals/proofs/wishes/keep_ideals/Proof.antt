@@ -6,10 +6,10 @@ use lib.ListN.{length}
 use Rattle.plane.specs.Points.{Within}
 use Rattle.plane.specs.Vectors.{vec}
 use Rattle.ideals.specs.Wishes.{ideal-from, Kept, Besides}
-use Rattle.ideals.proofs.Closes.{was}
 use Rattle.ideals.proofs.Givers.{besides-refl}
 use Rattle.ideals.proofs.Nears.{keep-none, keep-more, keep-besides}
 use borrow.Author.Needs.{needs}
+use borrow.Author.Tests.{not-false}
 use Rattle.ideals.proofs.wishes.keep_ideals.Statement.{statement}
 use Rattle.ideals.proofs.wishes.keep_ideals.Tie as tie
 
@@ -23,9 +23,6 @@ loop-holds : tie.Need-loop-holds Inv-loop μ-loop
 loop-holds c =
     let a = c .before .before .args in
     (refl, omega arith, keep-none (a .w .now) (a .q .now) (a .s) (a .a) (vec (a .u)) (a .b), besides-refl (a .w .now) (a .b + 2 * a .s) (4 * a .s))
-
-same-length : tie.Need-same-length Inv-loop μ-loop
-same-length c = c .before .before .loop .inv .0
 
 returns : tie.Need-returns Inv-loop μ-loop
 returns c =
@@ -153,7 +150,7 @@ loop-again c =
       omega (arith, i .loop-test .taken),
       keep-more (x .w) w1 w2 (a .q .now) (a .s) (a .a) (vec (a .u)) (a .b) (x .i) f v (p1 .put .ensures) (p2 .put2 .ensures) (x .inv .2)
           (it .ideal-toward .ensures ∙ ap (ideal-from (a .q .now) (a .a) (vec (a .u))) (wd .wide .ensures))
-          (n1 .is-number .ensures (sym (was (n1 .is-number .result) (n2 .before .if2 .left)))) (n2 .is-number2 .ensures (sym (was (n2 .is-number2 .result) (p1 .before .before .if3 .left)))),
+          (n1 .is-number .ensures (sym (sym (not-false (n1 .is-number .result) (n2 .before .if2 .left))))) (n2 .is-number2 .ensures (sym (sym (not-false (n2 .is-number2 .result) (p1 .before .before .if3 .left))))),
       keep-besides (x .w) w1 w2 (a .q .now) (a .s) (a .a) (vec (a .u)) (a .b) (x .i) f v (p1 .put .ensures) (p2 .put2 .ensures) (a .w .now) (x .inv .3),
     )
 
@@ -173,9 +170,6 @@ returns-3 c =
     let x = c .before .before .before .before .before .before .before .before .before .loop in
     record { kept = x .inv .2; some = x .inv .1; besides = x .inv .3 }
 
-same-length-4 : tie.Need-same-length-4 Inv-loop μ-loop
-same-length-4 c = c .before .loop .inv .0
-
 returns-4 : tie.Need-returns-4 Inv-loop μ-loop
 returns-4 c =
     let x = c .before .loop in
@@ -185,5 +179,6 @@ pub keep-ideals-spec : {M : Type 1} → statement M
 keep-ideals-spec =
     tie.close
     (tie.spec
-    Inv-loop μ-loop loop-holds same-length returns add-wide mul-wide slice-read-wide (λ c κs. search needs) ideal-toward-requires (λ c κs. search needs) same-length-2 returns-2
-    (λ c κs. search needs) same-length-3 returns-3 mul-at add-at mul-at-2 add-at-2 put-requires add-put put-requires-2 add-i loop-less loop-again same-length-4 returns-4)
+    Inv-loop μ-loop loop-holds (λ c. c .before .before .loop .inv .0) returns add-wide mul-wide slice-read-wide (λ c κs. search needs)
+    ideal-toward-requires (λ c κs. search needs) same-length-2 returns-2 (λ c κs. search needs) same-length-3 returns-3 mul-at add-at mul-at-2 add-at-2
+    put-requires add-put put-requires-2 add-i loop-less loop-again (λ c. c .before .loop .inv .0) returns-4)

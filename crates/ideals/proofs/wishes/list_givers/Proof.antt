@@ -172,9 +172,6 @@ loop-again c =
           (ad .add .last .0) (ad2 .add2 .last .0) (ad .add .result) (ad2 .add2 .result) (ad .add .ensures) (ad2 .add2 .ensures),
     )
 
-same-length : tie.Need-same-length Inv-loop μ-loop
-same-length c = c .before .loop .inv .0
-
 returns : tie.Need-returns Inv-loop μ-loop
 returns c =
     let l = c .before in
@@ -187,6 +184,6 @@ pub list-givers-spec : {M : Type 1} → statement M
 list-givers-spec =
     tie.close
     (tie.spec
-    Inv-loop μ-loop (λ c. search needs) (λ c. search needs) (λ c. search needs) (λ c. search needs) (λ c. search needs) next-requires loop-holds (λ c. search needs)
-    node-after-requires node-before-requires (λ c. search needs) (λ c. search needs) (λ c. search needs) next-requires-2 gives-ideal-requires gives-ideal-requires-2 add-requires add-requires-2 loop-less
-    loop-again same-length returns)
+    Inv-loop μ-loop (λ c. search needs) (λ c. search needs) (λ c. search needs) (λ c. search needs) (λ c. search needs) next-requires loop-holds
+    (λ c. search needs) node-after-requires node-before-requires (λ c. search needs) (λ c. search needs) (λ c. search needs) next-requires-2
+    gives-ideal-requires gives-ideal-requires-2 add-requires add-requires-2 loop-less loop-again (λ c. c .before .loop .inv .0) returns)

@@ -4,11 +4,8 @@ use Rattle.ideals.proofs.Bits.{of-nan, no-nan}
 use Rattle.ideals.proofs.words.bits_of.Statement.{statement}
 use Rattle.ideals.proofs.words.bits_of.Tie as tie
 
-returns : tie.Need-returns
-returns c = of-nan (c .before .args .x) (c .if1 .taken)
-
-float-to-bits-result : tie.Need-float-to-bits-result
-float-to-bits-result c = no-nan (c .before .args .x) (c .if1 .left)
-
 pub bits-of-spec : {M : Type 1} → statement M
-bits-of-spec = tie.close (tie.spec returns float-to-bits-result (λ c. search needs))
+bits-of-spec =
+    tie.close
+    (tie.spec
+    (λ c. of-nan (c .before .args .x) (c .if1 .taken)) (λ c. no-nan (c .before .args .x) (c .if1 .left)) (λ c. search needs))

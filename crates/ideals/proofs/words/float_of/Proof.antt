@@ -4,12 +4,9 @@ use Rattle.definition.specs.Floats.{f64}
 use Rattle.ideals.proofs.words.float_of.Statement.{statement}
 use Rattle.ideals.proofs.words.float_of.Tie as tie
 
-float-from-bits-result : tie.Need-float-from-bits-result
-float-from-bits-result c = c .pre
-
 returns : tie.Need-returns
 unfolding ofBits f64
 returns c = search needs
 
 pub float-of-spec : {M : Type 1} → statement M
-float-of-spec = tie.close (tie.spec float-from-bits-result returns)
+float-of-spec = tie.close (tie.spec (λ c. c .pre) returns)

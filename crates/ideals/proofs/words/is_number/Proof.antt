@@ -4,11 +4,8 @@ use Rattle.ideals.proofs.Bits.{a-number}
 use Rattle.ideals.proofs.words.is_number.Statement.{statement}
 use Rattle.ideals.proofs.words.is_number.Tie as tie
 
-returns : tie.Need-returns
-returns c = λ h. absurd (false≢true h)
-
 returns-2 : tie.Need-returns-2
 returns-2 c = λ h. a-number (c .before .args .x) (c .if1 .left)
 
 pub is-number-spec : {M : Type 1} → statement M
-is-number-spec = tie.close (tie.spec returns returns-2)
+is-number-spec = tie.close (tie.spec (λ c. λ h. absurd (false≢true h)) returns-2)

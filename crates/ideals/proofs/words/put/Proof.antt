@@ -7,9 +7,6 @@ use borrow.Author.Needs.{needs}
 use Rattle.ideals.proofs.words.put.Statement.{statement}
 use Rattle.ideals.proofs.words.put.Tie as tie
 
-slice-write-w-2 : tie.Need-slice-write-w-2
-slice-write-w-2 c = simp length-set (omega arith)
-
 returns : tie.Need-returns
 returns c =
     let t = c .before .before in
@@ -19,5 +16,5 @@ pub put-spec : {M : Type 1} → statement M
 put-spec =
     tie.close
     (tie.spec
-    (λ c κs. search needs) (λ c. search needs) (λ c. search needs) (λ c. search needs) (λ c. search needs) (λ c. search needs) (λ c. search needs) slice-write-w-2
-    (λ c. search needs) returns)
+    (λ c κs. search needs) (λ c. search needs) (λ c. search needs) (λ c. search needs) (λ c. search needs) (λ c. search needs) (λ c. search needs)
+    (λ c. simp length-set (omega arith)) (λ c. search needs) returns)

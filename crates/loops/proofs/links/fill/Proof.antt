@@ -27,9 +27,6 @@ loop-again c =
     let a = t .args in
     (omega (arith, c .loop-test .taken), fill-more (a .w .now) (x .w) (a .a) (x .i) (a .x) (omega (arith, t .pre, c .loop-test .taken)) (x .inv .1))
 
-same-length : tie.Need-same-length Inv-loop μ-loop
-same-length c = c .before .loop .inv .1 .len
-
 returns : tie.Need-returns Inv-loop μ-loop
 returns c =
     let x = c .before .loop in
@@ -41,5 +38,5 @@ pub fill-spec : {M : Type 1} → statement M
 fill-spec =
     tie.close
     (tie.spec
-    Inv-loop μ-loop loop-holds (λ c. search needs) (λ c. search needs) slice-write-w (λ c. search needs) (λ c. search needs) loop-again same-length
-    returns)
+    Inv-loop μ-loop loop-holds (λ c. search needs) (λ c. search needs) slice-write-w (λ c. search needs) (λ c. search needs) loop-again
+    (λ c. c .before .loop .inv .1 .len) returns)

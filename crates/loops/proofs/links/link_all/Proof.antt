@@ -53,9 +53,6 @@ loop-again c =
           (le .link-edge .ensures n (a .k) (g .m) es (going-next (a .w .now) (x .w) (a .s) (a .p) n (a .k) es (x .i) h g)),
     )
 
-same-length : tie.Need-same-length Inv-loop μ-loop
-same-length c = c .before .loop .inv .0
-
 returns : tie.Need-returns Inv-loop μ-loop
 returns c =
     let l = c .before in
@@ -64,4 +61,7 @@ returns c =
     λ n es q. going-end (a .w .now) (x .w) (a .s) (a .p) n (a .k) es (x .i) (c .loop-test .left) (x .inv .1 n es q)
 
 pub link-all-spec : {M : Type 1} → statement M
-link-all-spec = tie.close (tie.spec Inv-loop μ-loop loop-holds (λ c. search needs) link-edge-requires loop-less loop-again same-length returns)
+link-all-spec =
+    tie.close
+    (tie.spec
+    Inv-loop μ-loop loop-holds (λ c. search needs) link-edge-requires loop-less loop-again (λ c. c .before .loop .inv .0) returns)

@@ -41,9 +41,6 @@ add-i c =
     let t = h .before .before .before .before in
     omega (arith, h .loop-test .taken, t .fits .e)
 
-loop-less : tie.Need-loop-less Inv-loop μ-loop
-loop-less c = omega (arith, c .before .loop-test .taken)
-
 loop-again : tie.Need-loop-again Inv-loop μ-loop
 unfolding _⊕_
 loop-again c =
@@ -65,4 +62,5 @@ returns c =
 pub perimeter-spec : {M : Type 1} → statement M
 perimeter-spec =
     tie.close
-    (tie.spec Inv-loop μ-loop loop-holds span-requires add-i loop-less loop-again returns)
+    (tie.spec
+    Inv-loop μ-loop loop-holds span-requires add-i (λ c. omega (arith, c .before .loop-test .taken)) loop-again returns)

@@ -156,9 +156,6 @@ loop-again c =
           u .on (c .perimeter .result) (c .perimeter .ensures m (u .loop) (u .places)),
     )
 
-same-length : tie.Need-same-length Inv-loop μ-loop
-same-length c = c .before .loop .inv .0
-
 returns : tie.Need-returns Inv-loop μ-loop
 returns c =
     let l = c .before in
@@ -173,4 +170,4 @@ perimeters-spec =
     tie.close
     (tie.spec
     Inv-loop μ-loop loop-holds (λ c κs. search needs) add-wide mul-wide shared-slice-read-wide (λ c κs. search needs) end-of-requires perimeter-requires
-    mul-f slice-write-f add-j loop-less loop-again same-length returns)
+    mul-f slice-write-f add-j loop-less loop-again (λ c. c .before .loop .inv .0) returns)

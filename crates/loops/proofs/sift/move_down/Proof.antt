@@ -73,9 +73,6 @@ add-i c =
     let t = c .before .before .before .before .before in
     omega (arith, c .before .loop-test .taken, t .pre .1 .1, t .pre .0 .small)
 
-loop-less : tie.Need-loop-less Inv-loop μ-loop
-loop-less c = omega (arith, c .before .loop-test .taken)
-
 loop-again : tie.Need-loop-again Inv-loop μ-loop
 loop-again c =
     let l = c .before .before in
@@ -90,9 +87,6 @@ loop-again c =
       subst (λ (z : ℕ). Moved (a .w .now) (set w (z + (a .t + i)) (getD w (z + (a .b + i)) 0)) (a .s) (a .p) (a .t) (a .b) (i + 1)) d to,
     )
 
-same-length : tie.Need-same-length Inv-loop μ-loop
-same-length c = c .before .loop .inv .1 .len
-
 returns : tie.Need-returns Inv-loop μ-loop
 returns c =
     let l = c .before in
@@ -106,20 +100,5 @@ pub move-down-spec : {M : Type 1} → statement M
 move-down-spec =
     tie.close
     (tie.spec
-    Inv-loop
-    μ-loop
-    order-at-requires
-    loop-holds
-    add-w
-    add-w-2
-    mul-w
-    slice-read-w
-    add-w-3
-    add-w-4
-    mul-w-2
-    slice-write-w
-    add-i
-    loop-less
-    loop-again
-    same-length
-    returns)
+    Inv-loop μ-loop order-at-requires loop-holds add-w add-w-2 mul-w slice-read-w add-w-3 add-w-4 mul-w-2 slice-write-w add-i
+    (λ c. omega (arith, c .before .loop-test .taken)) loop-again (λ c. c .before .loop .inv .1 .len) returns)

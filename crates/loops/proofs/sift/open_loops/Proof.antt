@@ -54,9 +54,6 @@ loop-again c =
           g .on (so .sift-one .last .0) (so .sift-one .result .loops) (so .sift-one .result .edges) (so .sift-one .ensures n (g .kept) (g .loop) (g .rest) bl (g .sifting)),
     )
 
-same-length : tie.Need-same-length Inv-loop μ-loop
-same-length c = c .before .loop .inv .0
-
 returns : tie.Need-returns Inv-loop μ-loop
 returns c =
     let l = c .before in
@@ -66,15 +63,4 @@ returns c =
     λ n ls bl o. sofar-end (a .w .now) (x .w) (a .s) (a .p) n (a .k) (a .r) (x .j) (x .x .loops) (x .x .edges) ls bl o (x .inv .1 n ls bl o) (c .loop-test .left)
 
 pub open-loops-spec : {M : Type 1} → statement M
-open-loops-spec =
-    tie.close
-    (tie.spec
-    Inv-loop
-    μ-loop
-    loop-holds
-    sift-one-requires
-    add-j
-    loop-less
-    loop-again
-    same-length
-    returns)
+open-loops-spec = tie.close (tie.spec Inv-loop μ-loop loop-holds sift-one-requires add-j loop-less loop-again (λ c. c .before .loop .inv .0) returns)

@@ -1,8 +1,9 @@
 use mathlib.Core.Path.{ap, sym, _∙_}
 use Prim.Native.Nat.{ℕ, _+_}
 use lib.ListN.{getD}
-use Rattle.loops.proofs.Sifting.{not-true, not-false, sift-loop, sift-can-keep, sift-off, sift-on}
+use Rattle.loops.proofs.Sifting.{sift-loop, sift-can-keep, sift-off, sift-on}
 use borrow.Author.Needs.{needs}
+use borrow.Author.Tests.{not-true, not-false}
 use Rattle.loops.proofs.sift.sift_one.Statement.{statement}
 use Rattle.loops.proofs.sift.sift_one.Tie as tie
 

@@ -169,9 +169,6 @@ loop-again c =
           (c .first-left2 .ensures n es (f .placed .ready) (d .known)),
     )
 
-same-length-2 : tie.Need-same-length-2 Inv-loop μ-loop
-same-length-2 c = c .before .loop .inv .0
-
 returns-2 : tie.Need-returns-2 Inv-loop μ-loop
 returns-2 c =
     let l = c .before in
@@ -186,17 +183,5 @@ pub walk-spec : {M : Type 1} → statement M
 walk-spec =
     tie.close
     (tie.spec
-    Inv-loop
-    μ-loop
-    first-left-requires
-    loop-holds
-    place-requires
-    add-count
-    far-requires
-    same-length
-    returns
-    first-left-requires-2
-    loop-less
-    loop-again
-    same-length-2
-    returns-2)
+    Inv-loop μ-loop first-left-requires loop-holds place-requires add-count far-requires same-length returns first-left-requires-2 loop-less loop-again
+    (λ c. c .before .loop .inv .0) returns-2)

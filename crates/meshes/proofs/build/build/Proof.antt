@@ -4,11 +4,10 @@ use Prim.Native.Nat.{_-_, _≤_}
 use native.Mathlib.Omega.{arith}
 use borrow.Author.Needs.{needs}
 use Rattle.definition.specs.Cells.{Mesh}
+use Rattle.laws.specs.Frames.{Keeps, keeps-refl, keeps-trans}
 use Rattle.cells.specs.Layout.{mesh-end}
 use Rattle.cells.specs.Rep.{Rep}
 use Rattle.meshes.specs.Build.{IsNew}
-use Rattle.cells.specs.Frames.{Keeps}
-use Rattle.cells.proofs.Frames.{keeps-refl, keeps-trans}
 use Rattle.meshes.proofs.Builds.{sample, sample-new, build-can, build-more, new-none}
 use Rattle.meshes.proofs.build.build.Statement.{statement}
 use Rattle.meshes.proofs.build.build.Tie as tie

@@ -3,8 +3,8 @@ use mathlib.Core.Path.{_∙_}
 use native.Mathlib.Omega.{arith}
 use borrow.Author.Needs.{needs}
 use lib.ListN.{length-set}
+use Rattle.laws.specs.Frames.{keeps-trans}
 use Rattle.cells.specs.Layout.{fronts-at}
-use Rattle.cells.proofs.Frames.{keeps-trans}
 use Rattle.meshes.proofs.Puts.{forget-filling, place-can, place-done, place-keeps}
 use Rattle.meshes.proofs.store.place.Statement.{statement}
 use Rattle.meshes.proofs.store.place.Tie as tie

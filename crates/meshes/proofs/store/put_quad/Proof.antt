@@ -5,10 +5,10 @@ use native.Mathlib.Omega.{arith}
 use borrow.Author.Needs.{needs}
 use lib.ListN.{set, length-set}
 use Rattle.definition.specs.Cells.{nodes, quad-nodes, new-quad}
+use Rattle.laws.specs.Frames.{keeps-trans, keeps-more, keeps-set}
 use Rattle.cells.specs.Layout.{fronts-at, mesh-end}
 use Rattle.meshes.specs.Changes.{quad-of-nodes}
 use Rattle.meshes.proofs.Puts.{put-start, put-done, known-at}
-use Rattle.cells.proofs.Frames.{keeps-set, keeps-trans, keeps-more}
 use Rattle.meshes.proofs.store.put_quad.Statement.{statement}
 use Rattle.meshes.proofs.store.put_quad.Tie as tie
 

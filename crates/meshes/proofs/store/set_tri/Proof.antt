@@ -3,8 +3,8 @@ use mathlib.Core.Path.{_∙_}
 use Prim.Native.Nat.{_≤_}
 use native.Mathlib.Omega.{arith}
 use Rattle.definition.specs.Cells.{remove-cell}
+use Rattle.laws.specs.Frames.{keeps-trans}
 use Rattle.cells.specs.Layout.{mesh-end}
-use Rattle.cells.proofs.Frames.{keeps-trans}
 use Rattle.meshes.specs.Changes.{tri-of-nodes}
 use Rattle.meshes.proofs.Evens.{forgotten-rep, forgotten-none, forgotten-keeps, forgotten-length}
 use Rattle.meshes.proofs.Removes.{set-put, set-is}

@@ -5,11 +5,11 @@ use native.Mathlib.Omega.{arith}
 use borrow.Author.Needs.{needs}
 use lib.ListN.{getD, set, length-set}
 use Rattle.definition.specs.Cells.{Mesh}
+use Rattle.laws.specs.Frames.{Keeps, keeps-refl, keeps-trans, keeps-more, keeps-set}
 use Rattle.cells.specs.Layout.{rings-at, codes, fronts-at, mesh-end}
 use Rattle.cells.specs.Rep.{Rep}
-use Rattle.cells.specs.Frames.{Keeps}
 use Rattle.meshes.proofs.Removes.{Lifting, lift-start, lift-can-forget, lift-can, lift-more, lift-done, kind-most}
-use Rattle.cells.proofs.Frames.{keeps-refl, keeps-trans, keeps-kept, keeps-more, keeps-set}
+use Rattle.cells.proofs.Frames.{keeps-kept}
 use Rattle.meshes.proofs.store.take_out.Statement.{statement}
 use Rattle.meshes.proofs.store.take_out.Tie as tie
 

@@ -17,11 +17,5 @@ returns-2 c =
     let s = k .before .before .before in
     half-size _ _ (s .good .0 .1) (k .before .before .if1 .taken) (rw (← k .abs .ensures) (c .if3 .taken)) (rw (← k .abs .ensures) e)
 
-returns-3 : tie.Need-returns-3
-returns-3 c = λ e. absurd (false≢true e)
-
-returns-4 : tie.Need-returns-4
-returns-4 c = λ e. absurd (false≢true e)
-
 pub half-of-spec : {M : Type 1} → statement M
-half-of-spec = tie.close (tie.spec returns (λ c κs. search needs) returns-2 returns-3 returns-4)
+half-of-spec = tie.close (tie.spec returns (λ c κs. search needs) returns-2 (λ c. λ e. absurd (false≢true e)) (λ c. λ e. absurd (false≢true e)))

@@ -4,9 +4,9 @@ use Prim.Native.Nat.{_+_, _*_}
 use Rattle.definition.specs.Floats.{0·0}
 use Rattle.definition.specs.Plane.{flat}
 use Rattle.definition.specs.Call.{point-at}
+use Rattle.laws.specs.Lists.{getD-any}
 use lib.Ieee.{nan}
 use Rattle.plane.specs.Points.{node, ground}
-use Rattle.plane.proofs.Laws.{getD-any}
 use borrow.Author.Needs.{needs}
 use Rattle.plane.proofs.points.at.Statement.{statement}
 use Rattle.plane.proofs.points.at.Tie as tie

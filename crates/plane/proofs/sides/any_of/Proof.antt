@@ -1,6 +1,6 @@
 use mathlib.Core.Path.{sym}
+use mathlib.Core.Bool.{or-false}
 use Rattle.definition.specs.Lists.{any}
-use Rattle.plane.proofs.Laws.{or-false}
 use Rattle.plane.proofs.sides.any_of.Statement.{statement}
 use Rattle.plane.proofs.sides.any_of.Tie as tie
 

@@ -17,12 +17,6 @@ digit-there c = sym (c .before .is-digit .ensures) ∙ c .if2 .taken
 returns : tie.Need-returns
 returns c = one-end (now (c .before .before .args .s)) (c .before .before .args .at) (c .if1 .taken)
 
-sub-t10 : tie.Need-sub-t10
-sub-t10 c = digit-within _ (digit-there c) .0
-
-cast-t11 : tie.Need-cast-t11
-cast-t11 c = omega (arith, digit-within _ (digit-there c))
-
 returns-2 : tie.Need-returns-2
 returns-2 c = one-here (now (c .before .before .before .before .before .args .s)) (c .before .before .before .before .before .args .at) (omega arith) (digit-there c)
 
@@ -30,4 +24,8 @@ returns-3 : tie.Need-returns-3
 returns-3 c = one-other (now (c .before .before .before .before .before .args .s)) (c .before .before .before .before .before .args .at) (omega arith) (sym (c .before .is-digit .ensures) ∙ c .if2 .left)
 
 pub digit-spec : {M : Type 1} → statement M
-digit-spec = tie.close (tie.spec returns (λ c. search needs) (λ c κs. search needs) sub-t10 cast-t11 (λ c. search needs) returns-2 returns-3)
+digit-spec =
+    tie.close
+    (tie.spec
+    returns (λ c. search needs) (λ c κs. search needs) (λ c. digit-within _ (digit-there c) .0) (λ c. omega (arith, digit-within _ (digit-there c)))
+    (λ c. search needs) returns-2 returns-3)

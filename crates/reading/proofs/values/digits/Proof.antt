@@ -23,9 +23,6 @@ abbrev μ-loop : tie.MeasureT-loop
 digit-there : (c : tie.Else1 Inv-loop μ-loop) → is-digit (getD (now (c .before .before .before .before .before .before .args .s)) (c .before .before .before .before .loop .p) 0) ≡ true
 digit-there c = sym (c .before .is-digit .ensures) ∙ not-false _ (c .if1 .left)
 
-loop-holds : tie.Need-loop-holds Inv-loop μ-loop
-loop-holds c = (omega arith, decimal-start _)
-
 cast-t12 : tie.Need-cast-t12 Inv-loop μ-loop
 cast-t12 c = omega (arith, c .before .before .before .before .before .before .fits .most)
 
@@ -38,12 +35,6 @@ returns c =
 
 mul-v : tie.Need-mul-v Inv-loop μ-loop
 mul-v c = omega (arith, c .before .before .before .before .before .before .fits .most)
-
-sub-v : tie.Need-sub-v Inv-loop μ-loop
-sub-v c = digit-within _ (digit-there c) .0
-
-cast-v : tie.Need-cast-v Inv-loop μ-loop
-cast-v c = omega (arith, digit-within _ (digit-there c))
 
 add-v : tie.Need-add-v Inv-loop μ-loop
 add-v c = omega (arith, digit-within _ (digit-there c), c .before .before .before .before .before .before .fits .most)
@@ -74,5 +65,6 @@ pub digits-spec : {M : Type 1} → statement M
 digits-spec =
     tie.close
     (tie.spec
-    Inv-loop μ-loop loop-holds (λ c. search needs) (λ c κs. search needs) cast-t12 returns mul-v sub-v cast-v add-v returns-2 (λ c. search needs)
-    (λ c. search needs) loop-again cast-t15 returns-3)
+    Inv-loop μ-loop (λ c. (omega arith, decimal-start _)) (λ c. search needs) (λ c κs. search needs) cast-t12 returns mul-v
+    (λ c. digit-within _ (digit-there c) .0) (λ c. omega (arith, digit-within _ (digit-there c))) add-v returns-2 (λ c. search needs) (λ c. search needs)
+    loop-again cast-t15 returns-3)

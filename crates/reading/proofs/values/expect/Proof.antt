@@ -16,9 +16,6 @@ Inv-loop s at text p₀ i₀ p i = (i ≤ length text) × (exactly text (drop at
 abbrev μ-loop : tie.MeasureT-loop
 μ-loop s at text p₀ i₀ p i = length text - i
 
-loop-holds : tie.Need-loop-holds Inv-loop μ-loop
-loop-holds c = (omega arith, refl)
-
 returns : tie.Need-returns Inv-loop μ-loop
 returns c =
     let a = c .before .before .before .args in
@@ -47,5 +44,5 @@ pub expect-spec : {M : Type 1} → statement M
 expect-spec =
     tie.close
     (tie.spec
-    Inv-loop μ-loop loop-holds returns (λ c. search needs) (λ c. search needs) returns-2 (λ c. search needs) (λ c. search needs) (λ c. search needs)
-    loop-again returns-3)
+    Inv-loop μ-loop (λ c. (omega arith, refl)) returns (λ c. search needs) (λ c. search needs) returns-2 (λ c. search needs) (λ c. search needs)
+    (λ c. search needs) loop-again returns-3)

@@ -6,9 +6,10 @@ use native.Mathlib.Omega.{arith}
 use lib.ListN.{length}
 use Rattle.definition.specs.Cells.{Mesh, new-quad, quad-edges}
 use Rattle.definition.specs.Region.{flood}
+use Rattle.laws.specs.Frames.{under-sym}
 use Rattle.cells.specs.Layout.{mesh-end}
 use Rattle.cells.specs.Rep.{Rep, TriIn}
-use Rattle.cells.proofs.Frames.{rep-under, under-sym}
+use Rattle.cells.proofs.Frames.{rep-under}
 use Rattle.regions.specs.Flood.{tri-live}
 use Rattle.regions.proofs.Listings.{aside-refl, few}
 use Rattle.regions.proofs.Visits.{tri-inside, reached-from}

@@ -102,9 +102,6 @@ loop-again c =
           going-on (a .w .now) (l .loop .w) (a .s) (a .p) (a .u) (a .v) (l .loop .k) (l .loop .c) m done todo g hh (o .visit-one .last .0) (o .visit-one .result) f (c .next-owner .result) (c .next-owner .ensures) (c .before .before .if1 .left),
     )
 
-same-length-2 : tie.Need-same-length-2 Inv-loop μ-loop
-same-length-2 c = c .before .loop .inv .0
-
 returns-2 : tie.Need-returns-2 Inv-loop μ-loop
 returns-2 c =
     let l = c .before in
@@ -117,4 +114,4 @@ visit-edge-spec =
     tie.close
     (tie.spec
     Inv-loop μ-loop first-owner-requires loop-holds (λ c. search needs) visit-one-requires same-length returns next-owner-requires loop-less loop-again
-    same-length-2 returns-2)
+    (λ c. c .before .loop .inv .0) returns-2)

@@ -5,9 +5,8 @@ use Prim.Native.Nat.{_-_, _^_, _≤_}
 use native.Mathlib.Omega.{arith}
 use lib.ListN.{length}
 use Rattle.definition.specs.Cells.{Live, Mesh}
+use Rattle.laws.specs.Frames.{Keeps, keeps-refl, keeps-trans}
 use Rattle.cells.specs.Layout.{mesh-end}
-use Rattle.cells.specs.Frames.{Keeps}
-use Rattle.cells.proofs.Frames.{keeps-refl, keeps-trans}
 use Rattle.regions.specs.Listing.{Listed}
 use Rattle.regions.proofs.Listings.{few}
 use Rattle.regions.proofs.Places.{Removing, remove-start, remove-end, remove-more, removed-inside}
@@ -61,9 +60,6 @@ loop-again c =
       λ m xs h. remove-more (a .w .now) (l .loop .w) (a .s) (a .p) (a .n) (l .loop .i) m xs h (l .loop .inv .4) (l .loop .inv .5 m xs h) (i .loop-test .taken) (ls .listed .result) (ls .listed .ensures) (o .remove-cell .last .0) (o .remove-cell .ensures),
     )
 
-same-length : tie.Need-same-length Inv-loop μ-loop
-same-length c = c .before .loop .inv .0
-
 returns : tie.Need-returns Inv-loop μ-loop
 returns c =
     let l = c .before in
@@ -75,4 +71,5 @@ pub remove-listed-spec : {M : Type 1} → statement M
 remove-listed-spec =
     tie.close
     (tie.spec
-    Inv-loop μ-loop loop-holds listed-requires remove-cell-requires (λ c. search needs) (λ c. search needs) loop-again same-length returns)
+    Inv-loop μ-loop loop-holds listed-requires remove-cell-requires (λ c. search needs) (λ c. search needs) loop-again (λ c. c .before .loop .inv .0)
+    returns)

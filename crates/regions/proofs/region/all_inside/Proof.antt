@@ -4,12 +4,13 @@ use mathlib.Core.List.{List}
 use Prim.Native.Nat.{_-_, _^_, _≤_}
 use native.Mathlib.Omega.{arith}
 use lib.ListN.{drop}
+use borrow.Author.Tests.{not-true, not-false}
 use Rattle.definition.specs.Lists.{all}
 use Rattle.definition.specs.Cells.{Live, Mesh, new-quad}
 use Rattle.definition.specs.Region.{cell-inside}
 use Rattle.regions.specs.Fill.{Known, Shown, Drawn}
 use Rattle.regions.proofs.Listings.{few}
-use Rattle.regions.proofs.Fills.{item, item-can, items-end, all-next, all-stop, all-end, was, was-not}
+use Rattle.regions.proofs.Fills.{item, item-can, items-end, all-next, all-stop, all-end}
 use Rattle.regions.proofs.region.all_inside.Statement.{statement}
 use Rattle.regions.proofs.region.all_inside.Tie as tie
 
@@ -53,7 +54,7 @@ returns c =
     λ m xs h k.
     let it = item (a .w .now) (a .s) (a .p) (a .n) (l .loop .i) m xs (h .list) (i .loop-test .taken) (o .before .listed .result) (o .before .listed .ensures) in
     let dr : Drawn (a .w .now) (a .q .now) (a .s) (a .p) (o .before .listed .result) m = record { rep = h .list .rep; pts = h .pts; tri = it .tri } in
-    sym (sym (l .loop .inv .2 m xs h k) ∙ all-stop m xs (l .loop .i) (o .before .listed .result) it (cell-inside m (new-quad (a .a) (a .b) (a .c) (a .d))) (sym (o .tri-inside .ensures m dr k) ∙ was-not (o .tri-inside .result) (c .if1 .taken)))
+    sym (sym (l .loop .inv .2 m xs h k) ∙ all-stop m xs (l .loop .i) (o .before .listed .result) it (cell-inside m (new-quad (a .a) (a .b) (a .c) (a .d))) (sym (o .tri-inside .ensures m dr k) ∙ not-true (o .tri-inside .result) (c .if1 .taken)))
 
 loop-again : tie.Need-loop-again Inv-loop μ-loop
 loop-again c =
@@ -67,7 +68,7 @@ loop-again c =
       λ m xs h k.
           let it = item (a .w .now) (a .s) (a .p) (a .n) (l .loop .i) m xs (h .list) (i .loop-test .taken) (o .before .listed .result) (o .before .listed .ensures) in
           let dr : Drawn (a .w .now) (a .q .now) (a .s) (a .p) (o .before .listed .result) m = record { rep = h .list .rep; pts = h .pts; tri = it .tri } in
-          all-next m xs (l .loop .i) (o .before .listed .result) it (cell-inside m (new-quad (a .a) (a .b) (a .c) (a .d))) (sym (o .tri-inside .ensures m dr k) ∙ was (o .tri-inside .result) (c .if1 .left)) ∙ l .loop .inv .2 m xs h k,
+          all-next m xs (l .loop .i) (o .before .listed .result) it (cell-inside m (new-quad (a .a) (a .b) (a .c) (a .d))) (sym (o .tri-inside .ensures m dr k) ∙ not-false (o .tri-inside .result) (c .if1 .left)) ∙ l .loop .inv .2 m xs h k,
     )
 
 returns-2 : tie.Need-returns-2 Inv-loop μ-loop

@@ -1,6 +1,7 @@
-use Rattle.regions.proofs.Fills.{cells, region-none, region-outside, region-off, region-found, was, was-not}
+use Rattle.regions.proofs.Fills.{cells, region-none, region-outside, region-off, region-found}
 use Rattle.regions.specs.Fill.{Shown}
 use borrow.Author.Needs.{needs}
+use borrow.Author.Tests.{not-true, not-false}
 use Rattle.regions.proofs.region.region.Statement.{statement}
 use Rattle.regions.proofs.region.region.Tie as tie
 
@@ -37,7 +38,7 @@ returns-2 c =
     λ m dr k.
     let ce = cells (a .w .now) (fl .flood .last .0) (a .s) (a .p) (fl .flood .result) (a .seed) m (a .a) (a .b) (a .c) (a .d) (dr .rep) (dr .tri) (fl .flood .ensures m (dr .rep) (dr .tri)) (e1 .if1 .left) in
     let sh : Shown (fl .flood .last .0) (a .q .now) (a .s) (a .p) (fl .flood .result) m (ce .xs) = record { list = ce .grown .state .list; pts = dr .pts } in
-    region-outside (a .w .now) (fl .flood .last .0) (a .s) (a .p) (fl .flood .result) (a .seed) m (a .a) (a .b) (a .c) (a .d) (dr .rep) (dr .tri) (fl .flood .ensures m (dr .rep) (dr .tri)) ce (ai .all-inside .result) (ai .all-inside .ensures m (ce .xs) sh k) (was-not (ai .all-inside .result) (c .if2 .taken))
+    region-outside (a .w .now) (fl .flood .last .0) (a .s) (a .p) (fl .flood .result) (a .seed) m (a .a) (a .b) (a .c) (a .d) (dr .rep) (dr .tri) (fl .flood .ensures m (dr .rep) (dr .tri)) ce (ai .all-inside .result) (ai .all-inside .ensures m (ce .xs) sh k) (not-true (ai .all-inside .result) (c .if2 .taken))
 
 area-agrees-requires : tie.Need-area-agrees-requires
 area-agrees-requires c κs =
@@ -65,7 +66,7 @@ returns-3 c =
     let ce = cells (a .w .now) (fl .flood .last .0) (a .s) (a .p) (fl .flood .result) (a .seed) m (a .a) (a .b) (a .c) (a .d) (dr .rep) (dr .tri) (fl .flood .ensures m (dr .rep) (dr .tri)) (e1 .if1 .left) in
     let sh : Shown (fl .flood .last .0) (a .q .now) (a .s) (a .p) (fl .flood .result) m (ce .xs) = record { list = ce .grown .state .list; pts = dr .pts } in
     region-off (a .w .now) (fl .flood .last .0) (a .s) (a .p) (fl .flood .result) (a .seed) m (a .a) (a .b) (a .c) (a .d) (dr .rep) (dr .tri) (fl .flood .ensures m (dr .rep) (dr .tri)) ce (ai .all-inside .result) (ai .all-inside .ensures m (ce .xs) sh k)
-    (ag .area-agrees .result) (ag .area-agrees .ensures m (ce .xs) sh k) (was (ai .all-inside .result) (e2 .if2 .left)) (was-not (ag .area-agrees .result) (c .if3 .taken))
+    (ag .area-agrees .result) (ag .area-agrees .ensures m (ce .xs) sh k) (not-false (ai .all-inside .result) (e2 .if2 .left)) (not-true (ag .area-agrees .result) (c .if3 .taken))
 
 returns-4 : tie.Need-returns-4
 returns-4 c =
@@ -80,7 +81,7 @@ returns-4 c =
     let ce = cells (a .w .now) (fl .flood .last .0) (a .s) (a .p) (fl .flood .result) (a .seed) m (a .a) (a .b) (a .c) (a .d) (dr .rep) (dr .tri) (fl .flood .ensures m (dr .rep) (dr .tri)) (e1 .if1 .left) in
     let sh : Shown (fl .flood .last .0) (a .q .now) (a .s) (a .p) (fl .flood .result) m (ce .xs) = record { list = ce .grown .state .list; pts = dr .pts } in
     region-found (a .w .now) (fl .flood .last .0) (a .s) (a .p) (fl .flood .result) (a .seed) m (a .a) (a .b) (a .c) (a .d) (dr .rep) (dr .tri) (fl .flood .ensures m (dr .rep) (dr .tri)) ce (ai .all-inside .result) (ai .all-inside .ensures m (ce .xs) sh k)
-    (ag .area-agrees .result) (ag .area-agrees .ensures m (ce .xs) sh k) (was (ai .all-inside .result) (e2 .if2 .left)) (was (ag .area-agrees .result) (c .if3 .left))
+    (ag .area-agrees .result) (ag .area-agrees .ensures m (ce .xs) sh k) (not-false (ai .all-inside .result) (e2 .if2 .left)) (not-false (ag .area-agrees .result) (c .if3 .left))
 
 pub region-spec : {M : Type 1} → statement M
 region-spec =

@@ -1,6 +1,7 @@
 use native.Mathlib.Omega.{arith}
+use borrow.Author.Tests.{not-true, not-false}
 use Rattle.cells.proofs.Slots.{rep-see}
-use Rattle.regions.proofs.Fills.{drawn-inside, three, four, first-out, second-out, third-test, was, was-not}
+use Rattle.regions.proofs.Fills.{drawn-inside, three, four, first-out, second-out, third-test}
 use Rattle.regions.proofs.region.tri_inside.Statement.{statement}
 use Rattle.regions.proofs.region.tri_inside.Tie as tie
 
@@ -44,7 +45,7 @@ returns c =
     λ m h k.
     let th = three (a .w .now) (a .q .now) (a .s) (a .p) (a .j) m h (n1 .node .result) (n2 .node2 .result) (n3 .node3 .result) (n1 .node .ensures) (n2 .node2 .ensures) (n3 .node3 .ensures) in
     let fo = four (a .q .now) (a .p) m (h .pts) (a .a) (a .b) (a .c) (a .d) k in
-    first-out (a .q .now) m (a .a) (a .b) (a .c) (a .d) fo (a .j) (h .tri .t) (n1 .node .result) (n2 .node2 .result) (n3 .node3 .result) th (i1 .inside-quad .result) (i1 .inside-quad .ensures) (was-not (i1 .inside-quad .result) (c .if1 .taken))
+    first-out (a .q .now) m (a .a) (a .b) (a .c) (a .d) fo (a .j) (h .tri .t) (n1 .node .result) (n2 .node2 .result) (n3 .node3 .result) th (i1 .inside-quad .result) (i1 .inside-quad .ensures) (not-true (i1 .inside-quad .result) (c .if1 .taken))
 
 inside-quad-requires-2 : tie.Need-inside-quad-requires-2
 inside-quad-requires-2 c κs =
@@ -70,7 +71,7 @@ returns-2 c =
     λ m h k.
     let th = three (a .w .now) (a .q .now) (a .s) (a .p) (a .j) m h (n1 .node .result) (n2 .node2 .result) (n3 .node3 .result) (n1 .node .ensures) (n2 .node2 .ensures) (n3 .node3 .ensures) in
     let fo = four (a .q .now) (a .p) m (h .pts) (a .a) (a .b) (a .c) (a .d) k in
-    second-out (a .q .now) m (a .a) (a .b) (a .c) (a .d) fo (a .j) (h .tri .t) (n1 .node .result) (n2 .node2 .result) (n3 .node3 .result) th (i1 .inside-quad .result) (i1 .inside-quad .ensures) (was (i1 .inside-quad .result) (e1 .if1 .left)) (i2 .inside-quad2 .result) (i2 .inside-quad2 .ensures) (was-not (i2 .inside-quad2 .result) (c .if2 .taken))
+    second-out (a .q .now) m (a .a) (a .b) (a .c) (a .d) fo (a .j) (h .tri .t) (n1 .node .result) (n2 .node2 .result) (n3 .node3 .result) th (i1 .inside-quad .result) (i1 .inside-quad .ensures) (not-false (i1 .inside-quad .result) (e1 .if1 .left)) (i2 .inside-quad2 .result) (i2 .inside-quad2 .ensures) (not-true (i2 .inside-quad2 .result) (c .if2 .taken))
 
 inside-quad-requires-3 : tie.Need-inside-quad-requires-3
 inside-quad-requires-3 c κs =
@@ -97,7 +98,7 @@ returns-3 c =
     λ m h k.
     let th = three (a .w .now) (a .q .now) (a .s) (a .p) (a .j) m h (n1 .node .result) (n2 .node2 .result) (n3 .node3 .result) (n1 .node .ensures) (n2 .node2 .ensures) (n3 .node3 .ensures) in
     let fo = four (a .q .now) (a .p) m (h .pts) (a .a) (a .b) (a .c) (a .d) k in
-    third-test (a .q .now) m (a .a) (a .b) (a .c) (a .d) fo (a .j) (h .tri .t) (n1 .node .result) (n2 .node2 .result) (n3 .node3 .result) th (i1 .inside-quad .result) (i1 .inside-quad .ensures) (was (i1 .inside-quad .result) (e1 .if1 .left)) (i2 .inside-quad2 .result) (i2 .inside-quad2 .ensures) (was (i2 .inside-quad2 .result) (e2 .if2 .left)) (c .inside-quad3 .result) (c .inside-quad3 .ensures)
+    third-test (a .q .now) m (a .a) (a .b) (a .c) (a .d) fo (a .j) (h .tri .t) (n1 .node .result) (n2 .node2 .result) (n3 .node3 .result) th (i1 .inside-quad .result) (i1 .inside-quad .ensures) (not-false (i1 .inside-quad .result) (e1 .if1 .left)) (i2 .inside-quad2 .result) (i2 .inside-quad2 .ensures) (not-false (i2 .inside-quad2 .result) (e2 .if2 .left)) (c .inside-quad3 .result) (c .inside-quad3 .ensures)
 
 pub tri-inside-spec : {M : Type 1} → statement M
 tri-inside-spec =

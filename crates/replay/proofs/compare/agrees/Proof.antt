@@ -9,8 +9,8 @@ use Rattle.replay.proofs.compare.agrees.Tie as tie
 returns : tie.Need-returns
 returns c = (omega arith, λ e. sym (c .before .before .before .before .reply .ensures .text) ∙ c .before .same .ensures (c .if1 .taken))
 
-returns-2 : tie.Need-returns-2
-returns-2 c = (omega arith, λ e. absurd (omega arith))
-
 pub agrees-spec : {M : Type 1} → statement M
-agrees-spec = tie.close (tie.spec (λ c. search needs) (λ c κs. search needs) (λ c. search needs) (λ c κs. search needs) returns returns-2)
+agrees-spec =
+    tie.close
+    (tie.spec
+    (λ c. search needs) (λ c κs. search needs) (λ c. search needs) (λ c κs. search needs) returns (λ c. (omega arith, λ e. absurd (omega arith))))

@@ -19,14 +19,9 @@ put-node-requires c κs = omega (arith, c .before .before .loop .inv, c .before 
 loop-again : tie.Need-loop-again Inv-loop μ-loop
 loop-again c = c .before .before .put-node .ensures ∙ c .before .before .before .before .before .loop .inv
 
-same-length : tie.Need-same-length Inv-loop μ-loop
-same-length c = c .before .loop .inv
-
-returns : tie.Need-returns Inv-loop μ-loop
-returns c = c .before .loop .inv
-
 pub put-points-spec : {M : Type 1} → statement M
 put-points-spec =
     tie.close
     (tie.spec
-    Inv-loop μ-loop (λ c. refl) put-node-requires (λ c. search needs) (λ c. search needs) loop-again same-length returns)
+    Inv-loop μ-loop (λ c. refl) put-node-requires (λ c. search needs) (λ c. search needs) loop-again (λ c. c .before .loop .inv)
+    (λ c. c .before .loop .inv))

@@ -16,9 +16,6 @@ Inv-loop bits n points₀ i₀ points i = (i ≤ n) × (length points ≡ length
 abbrev μ-loop : tie.MeasureT-loop
 μ-loop bits n points₀ i₀ points i = n - i
 
-loop-holds : tie.Need-loop-holds Inv-loop μ-loop
-loop-holds c = (omega arith, refl, filled-none _ _)
-
 loop-again : tie.Need-loop-again Inv-loop μ-loop
 loop-again c =
     let start = c .before .before .before .before .before .before in
@@ -32,9 +29,6 @@ loop-again c =
           ∙ filled-more (l .i) (now (a .bits)) (now (a .points)) (omega (arith, start .pre)) (omega (arith, start .pre)),
     )
 
-same-length : tie.Need-same-length Inv-loop μ-loop
-same-length c = c .before .loop .inv .1
-
 returns : tie.Need-returns Inv-loop μ-loop
 returns c =
     let a = c .before .before .before .before .args in
@@ -46,5 +40,5 @@ pub fill-spec : {M : Type 1} → statement M
 fill-spec =
     tie.close
     (tie.spec
-    Inv-loop μ-loop loop-holds (λ c. search needs) (λ c. search needs) (λ c κs. search needs) (λ c. search needs) (λ c. search needs) (λ c. search needs)
-    (λ c. search needs) loop-again same-length returns)
+    Inv-loop μ-loop (λ c. (omega arith, refl, filled-none _ _)) (λ c. search needs) (λ c. search needs) (λ c κs. search needs) (λ c. search needs)
+    (λ c. search needs) (λ c. search needs) (λ c. search needs) loop-again (λ c. c .before .loop .inv .1) returns)

@@ -7,9 +7,6 @@ use borrow.Author.Needs.{needs}
 use Rattle.root.proofs.exact.scaled.Statement.{statement}
 use Rattle.root.proofs.exact.scaled.Tie as tie
 
-returns : tie.Need-returns
-returns c = normal (c .before .args .b) (c .if1 .taken)
-
 returns-2 : tie.Need-returns-2
 returns-2 c =
     let start = c .before .before .before .args .b in
@@ -21,5 +18,5 @@ pub scaled-spec : {M : Type 1} → statement M
 scaled-spec =
     tie.close
     (tie.spec
-    (λ c. search needs) (λ c. search needs) returns (λ c κs. search needs) (λ c. search needs) (λ c κs. search needs) (λ c. search needs)
-    (λ c. search needs) (λ c. search needs) returns-2)
+    (λ c. search needs) (λ c. search needs) (λ c. normal (c .before .args .b) (c .if1 .taken)) (λ c κs. search needs) (λ c. search needs)
+    (λ c κs. search needs) (λ c. search needs) (λ c. search needs) (λ c. search needs) returns-2)

@@ -15,15 +15,9 @@ product a x h k =
 rise : (c : tie.After-wide2) → c .wide2 .result * c .before .before .args .x < 2 ^ 36
 rise c = product (c .wide2 .result) (c .before .before .args .x) (c .wide2 .ensures) (c .before .before .pre .1)
 
-mul-result-2 : tie.Need-mul-result-2
-mul-result-2 c = omega (arith, rise c)
-
-add-result : tie.Need-add-result
-add-result c = omega (arith, rise c)
-
 pub line-spec : {M : Type 1} → statement M
 line-spec =
     tie.close
     (tie.spec
     (λ c. search needs) (λ c. search needs) (λ c κs. search needs) (λ c. search needs) (λ c. search needs) (λ c. search needs) (λ c κs. search needs)
-    mul-result-2 add-result (λ c. search needs))
+    (λ c. omega (arith, rise c)) (λ c. omega (arith, rise c)) (λ c. search needs))

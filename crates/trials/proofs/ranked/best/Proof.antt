@@ -27,15 +27,6 @@ inside c = omega (arith, below c, c .before .before .before .before .before .pre
 loop-holds : tie.Need-loop-holds Inv-loop μ-loop
 loop-holds c = gone-none _ _ _ _ (length-part _ _ _ (c .before .before .before .pre .1 .near)) _ (c .none .ensures)
 
-add-c : tie.Need-add-c Inv-loop μ-loop
-add-c c = let h = inside c in search needs
-
-mul-c : tie.Need-mul-c Inv-loop μ-loop
-mul-c c = let h = inside c in search needs
-
-shared-slice-read-c : tie.Need-shared-slice-read-c Inv-loop μ-loop
-shared-slice-read-c c = inside (c .before)
-
 cast-c : tie.Need-cast-c Inv-loop μ-loop
 cast-c c = search (needs, c .shared-slice-known3 .given (c .before .before .before .before .before .before .args .near-at + (c .before .before .loop .i - 1)))
 
@@ -69,5 +60,5 @@ pub best-spec : {M : Type 1} → statement M
 best-spec =
     tie.close
     (tie.spec
-    Inv-loop μ-loop (λ c κs. search needs) loop-holds (λ c. search needs) add-c mul-c shared-slice-read-c cast-c with-node-requires (λ c. search needs)
-    loop-again returns)
+    Inv-loop μ-loop (λ c κs. search needs) loop-holds (λ c. search needs) (λ c. let h = inside c in search needs) (λ c. let h = inside c in search needs)
+    (λ c. inside (c .before)) cast-c with-node-requires (λ c. search needs) loop-again returns)

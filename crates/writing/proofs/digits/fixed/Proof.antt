@@ -18,9 +18,6 @@ Inv-loop out₀ at text p₀ i₀ out p i = (i ≤ length text) × (p ≡ at + i
 abbrev μ-loop : tie.MeasureT-loop
 μ-loop out₀ at text p₀ i₀ out p i = length text - i
 
-loop-holds : tie.Need-loop-holds Inv-loop μ-loop
-loop-holds c = (omega arith, omega arith, refl, no-text _ _)
-
 loop-again : tie.Need-loop-again Inv-loop μ-loop
 loop-again c =
     let l = c .before .before .loop in
@@ -32,9 +29,6 @@ loop-again c =
           (sym (rw (add-one (l .i)) (take-suc t (l .i) 0 (c .before .loop-test .taken)))),
     )
 
-same-length : tie.Need-same-length Inv-loop μ-loop
-same-length c = c .before .loop .inv .2
-
 returns : tie.Need-returns Inv-loop μ-loop
 returns c = same-text (c .before .loop .inv .3) (take-all (c .before .loop .i) (now (c .before .before .args .text)) (c .loop-test .left))
 
@@ -42,5 +36,5 @@ pub fixed-spec : {M : Type 1} → statement M
 fixed-spec =
     tie.close
     (tie.spec
-    Inv-loop μ-loop loop-holds (λ c. search needs) (λ c. omega arith) (λ c. search needs) (λ c. search needs) (λ c. search needs) loop-again same-length
-    returns)
+    Inv-loop μ-loop (λ c. (omega arith, omega arith, refl, no-text _ _)) (λ c. search needs) (λ c. omega arith) (λ c. search needs) (λ c. search needs)
+    (λ c. search needs) loop-again (λ c. c .before .loop .inv .2) returns)

@@ -27,9 +27,6 @@ fits-next c = mul-le-mul-left (c .before .before .before .before .args .w) (omeg
 loop-holds : tie.Need-loop-holds Inv-loop μ-loop
 loop-holds c = (omega arith, omega arith, omega arith, refl, same-text (no-text _ _) (no-lines show (c .before .before .args .w) (now (c .before .before .args .xs))))
 
-line-requires : tie.Need-line-requires Inv-loop μ-loop
-line-requires c κs = omega (arith, fits-next (c .before))
-
 add-from : tie.Need-add-from Inv-loop μ-loop
 add-from c = omega (arith, fits-next (c .before .before .before .before), c .before .before .before .before .before .before .before .before .good .1 .1 .0 .0, c .before .before .before .before .before .loop .inv .1, c .before .before .before .before .before .before .before .before .pre)
 
@@ -46,9 +43,6 @@ loop-again c =
           (rw (l .inv .1) (lines-more show (a .w) (l .i) (now (a .xs)))),
     )
 
-same-length : tie.Need-same-length Inv-loop μ-loop
-same-length c = c .before .loop .inv .3
-
 returns : tie.Need-returns Inv-loop μ-loop
 returns c =
     let a = c .before .before .before .before .args in
@@ -63,4 +57,5 @@ pub table-spec : {M : Type 1} → statement M
 table-spec =
     tie.close
     (tie.spec
-    Inv-loop μ-loop loop-holds line-requires add-from (λ c. search needs) (λ c. search needs) loop-again same-length returns)
+    Inv-loop μ-loop loop-holds (λ c κs. omega (arith, fits-next (c .before))) add-from (λ c. search needs) (λ c. search needs) loop-again
+    (λ c. c .before .loop .inv .3) returns)

@@ -15,14 +15,8 @@ whole c = simp length-map at (c .good .0 .1 .1 .0 .1 .0 .1)
 within : (c : tie.Start) → c .args .i < c .args .t1 .count
 within c = omega (arith, c .pre .1, length-listed (c .args .t1) (omega (arith, whole c)))
 
-mul-result : tie.Need-mul-result
-mul-result c = let h = within c in search needs
-
-element-copy-out-result : tie.Need-element-copy-out-result
-element-copy-out-result c = omega (arith, within c)
-
 returns : tie.Need-returns
 returns c = record { at = λ d. listed-at (c .before .args .t1) (c .before .args .i) d _ (within (c .before)) (omega (arith, whole (c .before))) }
 
 pub get-spec : {M : Type 1} → statement M
-get-spec = tie.close (tie.spec mul-result element-copy-out-result returns)
+get-spec = tie.close (tie.spec (λ c. let h = within c in search needs) (λ c. omega (arith, within c)) returns)

@@ -1,17 +1,13 @@
 -- The count is the list's length, since the array is longer.
-use mathlib.Core.Path.{_≡_, sym}
+use mathlib.Core.Path.{sym}
 use native.Mathlib.Omega.{arith}
-use lib.ListN.{length, length-map}
+use lib.ListN.{length-map}
 use Rattle.trials.proofs.Steps.{length-listed}
 use Rattle.trials.proofs.kept.Trials.len.Statement.{statement}
 use Rattle.trials.proofs.kept.Trials.len.Tie as tie
 
--- the array's length, of what owning it tells
-whole : (c : tie.Start) → length (c .args .self .kept) ≡ 8
-whole c = simp length-map at (c .good .0 .1 .1 .0 .1 .0 .1)
-
 returns : tie.Need-returns
-returns c = (sym (length-listed (c .args .self) (omega (arith, whole c))), c .pre)
+returns c = (sym (length-listed (c .args .self) (omega (arith, simp length-map at (c .good .0 .1 .1 .0 .1 .0 .1)))), c .pre)
 
 pub len-spec : {M : Type 1} → statement M
 len-spec = tie.close (tie.spec returns)

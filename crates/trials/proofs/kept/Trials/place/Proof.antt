@@ -1,5 +1,5 @@
 -- The loop's invariant: the first p come before t. The measure is what is left of the count.
-use mathlib.Core.Path.{_≡_, sym, _∙_}
+use mathlib.Core.Path.{sym, _∙_}
 use Prim.Native.Nat.{_≤_, _-_}
 use native.Mathlib.Omega.{arith}
 use borrow.Author.Tests.{not-true, not-false}
@@ -15,15 +15,8 @@ Inv-loop t self count p₀ p = Met t self count p
 abbrev μ-loop : tie.MeasureT-loop
 μ-loop t self count p₀ p = count - p
 
--- the array's length, of what owning it tells
-whole : (c : tie.Start Inv-loop μ-loop) → length (c .args .t1 .kept) ≡ 8
-whole c = simp length-map at (c .good .0 .1 .1 .0 .1 .0 .1)
-
 room : (c : tie.Start Inv-loop μ-loop) → c .args .t1 .count ≤ length (c .args .t1 .kept)
-room c = omega (arith, whole c, c .pre)
-
-loop-holds : tie.Need-loop-holds Inv-loop μ-loop
-loop-holds c = met-none _ _
+room c = omega (arith, simp length-map at (c .good .0 .1 .1 .0 .1 .0 .1), c .pre)
 
 returns : tie.Need-returns Inv-loop μ-loop
 returns c = let k = c .before .before .before in met-place _ _ _ _ (k .before .loop .inv) (room (k .before .before)) _ (k .loop-test .taken) (sym (c .before .before2 .ensures) ∙ not-true _ (c .if1 .taken))
@@ -38,5 +31,5 @@ pub place-spec : {M : Type 1} → statement M
 place-spec =
     tie.close
     (tie.spec
-    Inv-loop μ-loop loop-holds (λ c. search needs) (λ c. search needs) (λ c κs. search needs) returns (λ c. search needs) (λ c. search needs) loop-again
-    returns-2)
+    Inv-loop μ-loop (λ c. met-none _ _) (λ c. search needs) (λ c. search needs) (λ c κs. search needs) returns (λ c. search needs) (λ c. search needs)
+    loop-again returns-2)

@@ -18,9 +18,6 @@ abbrev μ-loop : tie.MeasureT-loop
 whole : (c : tie.Start Inv-loop μ-loop) → length (c .args .t1 .kept) ≡ 8
 whole c = simp length-map at (c .good .0 .1 .1 .0 .1 .0 .1)
 
-loop-holds : tie.Need-loop-holds Inv-loop μ-loop
-loop-holds c = pushed-none _ _ _ (c .pre .0)
-
 loop-again : tie.Need-loop-again Inv-loop μ-loop
 loop-again c = let k = c .before .before in pushed-more _ _ _ _ _ _ _ (k .loop .inv) _ (c .before .loop-test .taken) (omega (arith, whole (k .before), k .before .pre .1))
 
@@ -34,5 +31,5 @@ pub put-spec : {M : Type 1} → statement M
 put-spec =
     tie.close
     (tie.spec
-    Inv-loop μ-loop loop-holds (λ c. search needs) (λ c. search needs) (λ c. search needs) (λ c. search needs) (λ c. search needs) (λ c. search needs)
-    loop-again returns (λ c. search needs) (λ c. search needs) (λ c. search needs) returns-2)
+    Inv-loop μ-loop (λ c. pushed-none _ _ _ (c .pre .0)) (λ c. search needs) (λ c. search needs) (λ c. search needs) (λ c. search needs)
+    (λ c. search needs) (λ c. search needs) loop-again returns (λ c. search needs) (λ c. search needs) (λ c. search needs) returns-2)

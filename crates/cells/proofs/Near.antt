@@ -1,25 +1,15 @@
 -- The owners of an edge are among the cells at its first node.
-use mathlib.Core.Path.{_≡_, refl, ap, sym, _∙_, subst}
-use mathlib.Core.Logic.{_≢_}
-use mathlib.Core.Bool.{Bool, true, false, not, cond, _&&_, _||_, or-false, false≢true}
+use mathlib.Core.Path.{_≡_, refl, ap, sym, _∙_}
+use mathlib.Core.Bool.{Bool, true, false, _&&_, _||_, false≢true}
 use mathlib.Core.List.{List, [], _∷_}
-use Prim.Native.Nat.{ℕ, min, max}
-use native.Mathlib.Omega.{arith}
+use Prim.Native.Nat.{ℕ}
 use lib.Dec.{eqb}
-use borrow.Author.Tests.{eq-eqb, ne-eqb}
-use Rattle.rings.proofs.Lists.{Same, same, differ, decide}
 use Rattle.definition.specs.Lists.{filter, any, contains}
 use Rattle.definition.specs.Plane.{Edge}
-use Rattle.definition.specs.Cells.{Tri, Quad, Cell, tri, quad, Live, Mesh, nodes, tri-nodes, quad-nodes, key, tri-has, has-side, owns, owners, has-node, cells-at, front-owners, is-front}
-use Rattle.cells.proofs.Edges.{joins, tri-side, quad-side}
-use Rattle.cells.proofs.Fronts.{filter-hit, filter-miss}
-
-eqb-swap : (a b : ℕ) → eqb a b ≡ eqb b a
-eqb-swap a b = go (decide a b)
-  where
-    go : Same a b → eqb a b ≡ eqb b a
-    go (same e) = rw (eq-eqb a b e, eq-eqb b a (sym e))
-    go (differ e) = rw (ne-eqb a b e, ne-eqb b a (λ z. e (sym z)))
+use Rattle.definition.specs.Cells.{Cell, tri, quad, Live, Mesh, nodes, tri-nodes, quad-nodes, key, tri-has, has-side, owns, owners, has-node, cells-at, front-owners, is-front}
+use Rattle.laws.specs.Numbers.{eqb-swap}
+use Rattle.laws.specs.Lists.{filter-yes, filter-no}
+use Rattle.cells.proofs.Edges.{tri-side, quad-side, key-swap}
 
 tri-bool : (a b c d : Bool) → (((a || b) || c) && d) ≡ true → (a || (b || (c || false))) ≡ true
 tri-bool true b c d h = refl
@@ -60,10 +50,6 @@ side-node u v (quad q) h =
     rw (eqb-swap u (q .n0), eqb-swap u (q .n1), eqb-swap u (q .n2), eqb-swap u (q .n3))
     (quad-bool (eqb (q .n0) u) (eqb (q .n1) u) (eqb (q .n2) u) (eqb (q .n3) u) (eqb (q .n0) v) (eqb (q .n1) v) (eqb (q .n2) v) (eqb (q .n3) v) (sym (quad-side q u v) ∙ h))
 
-key-swap : (u v : ℕ) → key u v ≡ key v u
-unfolding key
-key-swap u v = let p : min u v ≡ min v u = omega arith in let q : max u v ≡ max v u = omega arith in rw (p, q)
-
 -- and the node v
 pub side-end : (u v : ℕ) (c : Cell) → has-side (key u v) c ≡ true → contains (nodes c) v ≡ true
 side-end u v c h = side-node v u c (ap (λ (e : Edge). has-side e c) (key-swap v u) ∙ h)
@@ -75,9 +61,9 @@ among-near u v (x ∷ l) = go (has-node u x) refl (owns (key u v) x) refl (among
   where
     go : (b : Bool) → has-node u x ≡ b → (d : Bool) → owns (key u v) x ≡ d → filter (owns (key u v)) (filter (has-node u) l) ≡ filter (owns (key u v)) l
         → filter (owns (key u v)) (filter (has-node u) (x ∷ l)) ≡ filter (owns (key u v)) (x ∷ l)
-    go true p true q r = ap (filter (owns (key u v))) (filter-hit (has-node u) x l p) ∙ filter-hit (owns (key u v)) x (filter (has-node u) l) q ∙ ap (λ (k : List Live). x ∷ k) r ∙ sym (filter-hit (owns (key u v)) x l q)
-    go true p false q r = ap (filter (owns (key u v))) (filter-hit (has-node u) x l p) ∙ filter-miss (owns (key u v)) x (filter (has-node u) l) q ∙ r ∙ sym (filter-miss (owns (key u v)) x l q)
-    go false p false q r = ap (filter (owns (key u v))) (filter-miss (has-node u) x l p) ∙ r ∙ sym (filter-miss (owns (key u v)) x l q)
+    go true p true q r = ap (filter (owns (key u v))) (filter-yes (has-node u) x l p) ∙ filter-yes (owns (key u v)) x (filter (has-node u) l) q ∙ ap (λ (k : List Live). x ∷ k) r ∙ sym (filter-yes (owns (key u v)) x l q)
+    go true p false q r = ap (filter (owns (key u v))) (filter-yes (has-node u) x l p) ∙ filter-no (owns (key u v)) x (filter (has-node u) l) q ∙ r ∙ sym (filter-no (owns (key u v)) x l q)
+    go false p false q r = ap (filter (owns (key u v))) (filter-no (has-node u) x l p) ∙ r ∙ sym (filter-no (owns (key u v)) x l q)
     go false p true q r = absurd (false≢true (sym p ∙ side-node u v (x .cell) q))
 
 pub near-owners : (m : Mesh) (u v : ℕ) → filter (owns (key u v)) (cells-at m u) ≡ owners m (key u v)

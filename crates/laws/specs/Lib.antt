@@ -1,0 +1,7 @@
+pub mod Bools
+pub mod Numbers
+pub mod Lists
+pub mod Sorts
+pub mod Frames
+pub mod Cells
+pub mod Isqrt
