@@ -1,4 +1,4 @@
-pub mod Shared
-pub mod Fences
-pub mod Scans
-pub mod Aheads
+pub mod Tests
+pub mod Lists
+pub mod Roots
+pub mod Growth

@@ -1,3 +1,193 @@
-// Side nodes for an end of a front edge.
-pub mod inside;
-pub mod sides;
+// The side nodes for an end of a front edge, ascending.
+mod spans;
+
+use crate::spans::span_for;
+use cells::layout::stack_at;
+use edge_candidates::EDGE_HIGH;
+use edge_candidates::edge_candidate;
+use edge_candidates::wishes::Wish;
+use edge_candidates::wishes::add;
+use edge_candidates::wishes::wish_at;
+use live_regions::live::live_region;
+use plane::points::at;
+use plane::vectors::Vec;
+use plane::vectors::from_to;
+use plane::vectors::norm;
+use side_candidates::sides::SIDE_HIGH;
+use side_candidates::sides::ahead;
+use side_candidates::sides::side_candidate;
+ghost use mathlib.Core.Path.{_≡_};
+ghost use mathlib.Core.List.{List};
+ghost use Prim.Native.Nat.{_+_, _*_, _<_};
+ghost use lib.ListN.{length};
+ghost use Rattle.definition.specs.Floats.{_⊕_, _⊗_};
+ghost use Rattle.definition.specs.Lists.{filter, below};
+ghost use Rattle.definition.specs.Numbers.{base, side-margin};
+ghost use Rattle.definition.specs.Cells.{Live, Mesh, node-at};
+ghost use Rattle.definition.specs.Candidates.{live-region, candidates};
+ghost use Rattle.plane.specs.Vectors.{vec};
+ghost use Rattle.live_regions.specs.Stack.{Lent, LiveTo};
+ghost use Rattle.side_candidates.specs.Hand.{InHand, Ends};
+ghost use Rattle.edge_candidates.specs.Wanted.{turn};
+ghost use Rattle.edge_candidates.specs.Wishes.{Wished};
+ghost use Rattle.candidates.specs.Choice.{CanChoose, ChosenTo, too-far, square, FarFrom, is-choice, CanScan, ScannedTo};
+
+// Side nodes are looked for within the side's highest factor and this many targets more.
+pub const SIDE_MARGIN: f64 = 0.8;
+
+// A length is tried as too far at this many times the highest factor.
+const FARTHER: f64 = 1.001;
+
+// A length beyond the reach of either kind of candidate.
+fn too_far(d: f64, target: f64) -> bool
+    ensures { λ r. ⌜ r ≡ too-far d target ⌝ }
+{
+    if d > EDGE_HIGH * target {
+        return d > SIDE_HIGH * target;
+    }
+    false
+}
+
+// The square of a vector's length, whose root is the length.
+fn square(d: Vec) -> f64
+    ensures { λ r. ⌜ r ≡ square (vec d) ⌝ }
+{
+    d.dx * d.dx + d.dy * d.dy
+}
+
+// A number that the square of a length is beyond only where the length is too far, so that the root need not be taken; infinity where none is found.
+fn far_square(target: f64) -> f64
+    ensures { λ r. ⌜ FarFrom r target ⌝ }
+{
+    let d = Vec {
+        dx: EDGE_HIGH * target * FARTHER,
+        dy: 0.0,
+    };
+    let z = square(d);
+    if z > 0.0 {
+        if too_far(norm(d), target) {
+            return z;
+        }
+    }
+    1.0 / 0.0
+}
+
+// v is a side node for a: an edge candidate by what is wanted, listed from b on, or a side candidate in the region of k triangles in hand. A node whose distance has a square beyond `far` is neither, which is found out first.
+fn is_choice(
+    w: &[u32],
+    q: &[f64],
+    s: usize,
+    p: usize,
+    k: usize,
+    left: bool,
+    a: usize,
+    other: usize,
+    normal: Vec,
+    target: f64,
+    far: f64,
+    b: usize,
+    o: Wish,
+    v: usize,
+) -> bool
+    requires { ⌜ ((m : Mesh) × (region : List Live) × InHand (now w) (now q) s p k m region × Wished (now w) (now q) s b o m a other × Ends m a v) ⌝ }
+    requires { ⌜ FarFrom far target ⌝ }
+    ensures { λ r. ⌜ ((m : Mesh) (region : List Live) → InHand (now (w .entry)) (now (q .entry)) s p k m region → Wished (now (w .entry)) (now (q .entry)) s b o m a other → Ends m a v → r ≡ is-choice (turn left) m a other (vec normal) target region v) ⌝ }
+{
+    let d = from_to(q, a, v);
+    if square(d) > far {
+        return false;
+    }
+    if edge_candidate(w, q, s, p, a, other, target, left, b, o, v) {
+        return true;
+    }
+    if !ahead(normal, d, target) {
+        return false;
+    }
+    side_candidate(w, q, s, p, k, a, other, normal, target, v)
+}
+
+// The side nodes for a, with the region of k triangles in hand and what is wanted listed from i on, ascending, come to b; how many they are. Only nodes of that region and nodes that have an edge with a can be such.
+fn scan(
+    w: &mut [u32],
+    q: &[f64],
+    s: usize,
+    p: usize,
+    k: usize,
+    n: usize,
+    b: usize,
+    left: bool,
+    a: usize,
+    other: usize,
+    normal: Vec,
+    target: f64,
+    i: usize,
+    o: Wish,
+) -> usize
+    requires { ⌜ ((m : Mesh) × (region : List Live) × CanScan (now w) (now q) s p k n b a other i o m region) ⌝ }
+    ensures { λ r. ⌜ ((m : Mesh) (region : List Live) → CanScan (now (w .entry)) (now (q .entry)) s p k n b a other i o m region → ScannedTo (now (w .entry)) (now (w .exit)) p n b r (filter (is-choice (turn left) m a other (vec normal) target region) (below n))) ⌝ }
+{
+    let far = far_square(target);
+    let g = span_for(w, s, p, k, a);
+    let mut r: usize = 0;
+    let mut v: usize = g.low;
+    while v <= g.high {
+        let yes = is_choice(w, q, s, p, k, left, a, other, normal, target, far, i, o, v);
+        r = add(w, b, r, v, yes);
+        v += 1;
+    }
+    r
+}
+
+// The live region around the node a that its side nodes are looked for in; how many triangles it has.
+fn region_around(
+    w: &mut [u32],
+    q: &[f64],
+    s: usize,
+    p: usize,
+    used: usize,
+    seed: usize,
+    a: usize,
+    target: f64,
+) -> usize
+    requires { ⌜ ((m : Mesh) × Lent (now w) (now q) s p used m × (a < length (m .points))) ⌝ }
+    requires { ⌜ seed < s ⌝ }
+    ensures { λ k. ⌜ ((m : Mesh) → Lent (now (w .entry)) (now (q .entry)) s p used m → a < length (m .points) → LiveTo (now (w .entry)) (now (w .exit)) s p k m (live-region m seed (node-at m a) ((base .side-high ⊕ side-margin) ⊗ target))) ⌝ }
+{
+    let o = at(q, a);
+    live_region(
+        w,
+        q,
+        s,
+        p,
+        used,
+        seed,
+        o.x,
+        o.y,
+        (SIDE_HIGH + SIDE_MARGIN) * target,
+    )
+}
+
+// The side nodes for the end a of the edge from a to other, ascending, come to `at`; how many they are. What is wanted at a is listed where the stack of the region was.
+pub fn candidates(
+    w: &mut [u32],
+    q: &[f64],
+    s: usize,
+    p: usize,
+    used: usize,
+    n: usize,
+    at: usize,
+    left: bool,
+    a: usize,
+    other: usize,
+    seed: usize,
+    normal: Vec,
+    target: f64,
+) -> usize
+    requires { ⌜ ((m : Mesh) × CanChoose (now w) (now q) s p used n at a other seed m) ⌝ }
+    ensures { λ k. ⌜ ((m : Mesh) → CanChoose (now (w .entry)) (now (q .entry)) s p used n at a other seed m → ChosenTo (now (w .entry)) (now (w .exit)) s p n at k (candidates base (turn left) m a other seed (vec normal) target)) ⌝ }
+{
+    let k = region_around(w, q, s, p, used, seed, a, target);
+    let i = stack_at(s, p);
+    let o = wish_at(w, q, s, p, a, other, i);
+    scan(w, q, s, p, k, n, at, left, a, other, normal, target, i, o)
+}

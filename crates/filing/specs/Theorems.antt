@@ -14,8 +14,8 @@ use Rattle.definition.specs.Plane.{Node}
 use Rattle.definition.specs.Cells.{Tri}
 use Rattle.definition.specs.Call.{point-at, first-points, most-coordinate}
 use Rattle.definition.specs.Account.{All, Rearranged}
-use Rattle.checks.specs.Passed.{near}
-use Rattle.checks.specs.Refusals.{number-of}
+use Rattle.refusals.specs.Passed.{near}
+use Rattle.refusals.specs.Refusals.{number-of}
 use Rattle.account.specs.Rearranged.{same-length, sort-same}
 use Rattle.sorting.specs.Ascending.{sorts-same}
 use Rattle.sorting.specs.Rows.{all-row}

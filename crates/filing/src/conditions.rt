@@ -1,10 +1,10 @@
 // The refusals 1, 4, 5, 6 and 7 of a mesh: they read it, and touch nothing.
-use checks::Stated;
-use checks::far_point;
-use checks::repeated_node;
-use checks::unknown_node;
+use refusals::Stated;
+use refusals::far_point;
+use refusals::repeated_node;
+use refusals::unknown_node;
 ghost use mathlib.Core.Path.{_≡_};
-ghost use Rattle.checks.specs.Refusals.{number-of};
+ghost use Rattle.refusals.specs.Refusals.{number-of};
 ghost use Rattle.filing.specs.Filing.{refused};
 ghost use Rattle.filing.specs.Promise.{mesh};
 

@@ -9,7 +9,7 @@ use lib.ListN.{length, set}
 use lib.Seq.{sets-eq}
 use borrow.Author.Tests.{eq-eqb, ne-eqb}
 use Rattle.definition.specs.Call.{Asked, Lent, onto}
-use Rattle.checks.specs.Refusals.{first-refusal}
+use Rattle.refusals.specs.Refusals.{first-refusal}
 use Rattle.mesher.specs.declared.Answer.{Answer}
 use Rattle.library.specs.Exported.{numbers, handed, up-to-4, Roomy, Exported}
 

@@ -7,7 +7,7 @@ use lib.Dec.{eqb}
 use lib.ListN.{length}
 use Rattle.definition.specs.Numbers.{base}
 use Rattle.definition.specs.Call.{Asked, Lent, call, onto}
-use Rattle.checks.specs.Refusals.{first-refusal}
+use Rattle.refusals.specs.Refusals.{first-refusal}
 use Rattle.mesher.specs.declared.Answer.{Answer}
 use Rattle.mesher.specs.Promise.{Returns, Kept-account}
 

@@ -2,17 +2,17 @@
 mod orders;
 mod small_meshes;
 
-use checks::Room;
-use checks::Stated;
-use checks::refusal;
 use mesher::Answer;
 use mesher::run_front;
+use refusals::Room;
+use refusals::Stated;
+use refusals::refusal;
 ghost use mathlib.Core.Path.{_≡_};
 ghost use Prim.Native.Nat.{_≤_};
 ghost use lib.ListN.{length};
 ghost use Rattle.definition.specs.Call.{Lent, onto};
-ghost use Rattle.checks.specs.Stated.{Lends, asked};
-ghost use Rattle.checks.specs.Refusals.{first-refusal};
+ghost use Rattle.refusals.specs.Stated.{Lends, asked};
+ghost use Rattle.refusals.specs.Refusals.{first-refusal};
 ghost use Rattle.mesher.specs.Promise.{asked-of, lent-of};
 ghost use Rattle.library.specs.Exported.{numbers, up-to-4, Exported};
 

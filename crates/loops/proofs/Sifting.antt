@@ -17,8 +17,8 @@ use Rattle.laws.specs.Lists.{concat-cons, concat-length}
 use Rattle.laws.specs.Cells.{same-ends}
 use Rattle.laws.specs.Frames.{only-refl, only-trans}
 use Rattle.edges.specs.Laws.{edges-right, loops-few}
-use Rattle.blocks.specs.Records.{IsEdge}
-use Rattle.blocks.proofs.Framing.{framed}
+use Rattle.blocked_edges.specs.Records.{IsEdge}
+use Rattle.blocked_edges.proofs.Framing.{framed}
 use Rattle.cells.specs.Layout.{refused-at, front-u-at, front-v-at, order-at, starts-at, done-at}
 use Rattle.edges.specs.Stored.{Edges, edge-on, edges-on, LoopsAt}
 use Rattle.loops.specs.Span.{CanEnd, EndTo}

@@ -8,8 +8,8 @@ use lib.ListN.{length, getD}
 use Rattle.definition.specs.Lists.{concat}
 use Rattle.definition.specs.Plane.{Edge}
 use Rattle.laws.specs.Frames.{Only}
-use Rattle.blocks.specs.Records.{IsEdge}
-use Rattle.blocks.specs.Blocks.{Blocks}
+use Rattle.blocked_edges.specs.Records.{IsEdge}
+use Rattle.blocked_edges.specs.Blocks.{Blocks}
 use Rattle.cells.specs.Layout.{refused-at, order-at, starts-at, done-at}
 use Rattle.cells.specs.Rep.{Room}
 use Rattle.edges.specs.Stored.{Edges, edge-on, edges-on, LoopsAt}

@@ -7,7 +7,7 @@ use lib.ListN.{length, getD}
 use Rattle.definition.specs.Lists.{any, filter}
 use Rattle.definition.specs.Plane.{Edge}
 use Rattle.definition.specs.Cells.{has-edge-in}
-use Rattle.blocks.specs.Blocks.{Blocks}
+use Rattle.blocked_edges.specs.Blocks.{Blocks}
 use Rattle.cells.specs.Layout.{refused-at, order-at, done-at}
 use Rattle.cells.specs.Rep.{Room}
 use Rattle.edges.specs.Stored.{LoopList}

@@ -1,6 +1,6 @@
 // The loops that have an edge that is not blocked.
 use crate::measure::end_of;
-use blocks::is_blocked;
+use blocked_edges::is_blocked;
 use cells::layout::RECORDS;
 use cells::layout::front_u_at;
 use cells::layout::front_v_at;

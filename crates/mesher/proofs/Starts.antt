@@ -17,9 +17,9 @@ use Rattle.account.specs.Finished.{sized, given-proper, given-within, points-nu
 use Rattle.cells.specs.Rep.{Shape, Rep, Pts}
 use Rattle.cells.specs.declared.counters.Counters.{Counters}
 use Rattle.meshes.specs.Build.{Given, IsNew, Builds, CanBuild}
-use Rattle.checks.specs.Passed.{Apart}
-use Rattle.checks.specs.Refusals.{first-refusal, passed, none-holds}
-use Rattle.lending.specs.Ready.{Small}
+use Rattle.refusals.specs.Passed.{Apart}
+use Rattle.refusals.specs.Refusals.{first-refusal, passed, none-holds}
+use Rattle.outcomes.specs.Ready.{Small}
 use Rattle.settling.specs.declared.standing.Run.{Run}
 use Rattle.rounds.specs.Loop.{CanRun, LeftRun, RunTo}
 use Rattle.mesher.specs.Parts.{bucket-of, rules-with, rules-of, progress-of, CanMesh}

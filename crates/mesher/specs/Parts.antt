@@ -16,7 +16,7 @@ use Rattle.definition.specs.Front.{Progress, front-loop, start}
 use Rattle.definition.specs.Call.{Asked, Lent, given-points, given-tris, onto, settings}
 use Rattle.rules.specs.declared.Rules.{Rules}
 use Rattle.cells.specs.Rep.{Rep}
-use Rattle.checks.specs.Refusals.{first-refusal}
+use Rattle.refusals.specs.Refusals.{first-refusal}
 use Rattle.mesher.specs.declared.Answer.{Answer}
 use Rattle.settling.specs.declared.standing.Standing.{Standing}
 use Rattle.settling.specs.declared.standing.Finish.{Finish}

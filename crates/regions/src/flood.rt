@@ -64,7 +64,7 @@ fn is_pair(a: usize, b: usize, u: usize, v: usize) -> bool
 }
 
 // The edge a-b is the edge u-v.
-fn is_joint(u: usize, v: usize, a: usize, b: usize) -> bool
+fn same_edge(u: usize, v: usize, a: usize, b: usize) -> bool
     ensures { λ r. ⌜ r ≡ joins u v a b ⌝ }
 {
     if is_pair(a, b, u, v) {
@@ -77,16 +77,16 @@ fn is_joint(u: usize, v: usize, a: usize, b: usize) -> bool
 fn is_side(u: usize, v: usize, a: usize, b: usize, c: usize, d: usize) -> bool
     ensures { λ r. ⌜ r ≡ has-edge-in (quad-edges (new-quad a b c d)) (key u v) ⌝ }
 {
-    if is_joint(u, v, a, b) {
+    if same_edge(u, v, a, b) {
         return true;
     }
-    if is_joint(u, v, b, c) {
+    if same_edge(u, v, b, c) {
         return true;
     }
-    if is_joint(u, v, c, d) {
+    if same_edge(u, v, c, d) {
         return true;
     }
-    is_joint(u, v, d, a)
+    same_edge(u, v, d, a)
 }
 
 // The owners of u-v are reached, unless that is a side of the quad a b c d.

@@ -20,20 +20,20 @@ use Rattle.account.specs.Reach.{begun}
 use Rattle.account.specs.Rounds.{Gains, round-gains}
 use Rattle.cells.specs.Layout.{refused-at}
 use Rattle.cells.specs.declared.counters.Counters.{Counters}
-use Rattle.blocks.specs.Records as Records
-use Rattle.blocks.specs.Blocks.{OpenTo}
-use Rattle.lending.specs.Ready.{Ready}
+use Rattle.blocked_edges.specs.Records as Records
+use Rattle.blocked_edges.specs.Blocks.{OpenTo}
+use Rattle.outcomes.specs.Ready.{Ready}
 use Rattle.settling.specs.declared.standing.Standing.{Standing}
 use Rattle.settling.specs.declared.standing.Step.{Step}
 use Rattle.settling.specs.declared.standing.Run.{Run}
 use Rattle.settling.specs.Standings.{counts-of}
 use Rattle.settling.specs.Settles.{want-kind}
-use Rattle.steps.specs.Runs.{Begun, Setup, setup, Fixed, Leaves, Goes}
+use Rattle.attempts.specs.Runs.{Begun, Setup, setup, Fixed, Leaves, Goes}
 use Rattle.rounds.specs.Rounds.{Rounded}
 use Rattle.rounds.specs.Loop.{is-progressed, finish-of, want-finish, Finished, Begins, CanRun, LeftRun, RunTo}
 use Rattle.settling.proofs.Tallies.{same-counts}
-use Rattle.steps.proofs.Reaching.{sound}
-use Rattle.steps.proofs.Attempting.{ready-under}
+use Rattle.attempts.proofs.Reaching.{sound}
+use Rattle.attempts.proofs.Attempting.{ready-under}
 
 -- ---- one round more
 

@@ -18,7 +18,7 @@ use Rattle.rules.specs.Settings.{settings-of}
 use Rattle.account.specs.Start.{Proper}
 use Rattle.exact.specs.Theorems.{Within}
 use Rattle.cells.specs.declared.counters.Counters.{Counters}
-use Rattle.lending.specs.Ready.{Ready, Behind}
+use Rattle.outcomes.specs.Ready.{Ready, Behind}
 use Rattle.settling.specs.declared.standing.Standing.{Standing}
 use Rattle.settling.specs.declared.standing.Going.{Going}
 use Rattle.settling.specs.declared.standing.Going.the-variants as goings
@@ -26,7 +26,7 @@ use Rattle.settling.specs.declared.standing.Finish.{Finish}
 use Rattle.settling.specs.declared.standing.Finish.the-variants as finishes
 use Rattle.settling.specs.declared.standing.Run.{Run}
 use Rattle.settling.specs.Standings.{counts-of}
-use Rattle.steps.specs.Runs.{Setup, Sized, Leaves}
+use Rattle.attempts.specs.Runs.{Setup, Sized, Leaves}
 
 -- ---- how it ends
 

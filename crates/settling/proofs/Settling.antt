@@ -9,12 +9,12 @@ use Rattle.definition.specs.Plane.{Edge}
 use Rattle.definition.specs.Cells.{Quad}
 use Rattle.laws.specs.Frames.{only-refl}
 use Rattle.cells.specs.Layout.{refused-at}
-use Rattle.blocks.specs.Records.{size}
-use Rattle.blocks.specs.Blocks.{Blocks, with-edge}
-use Rattle.lending.specs.Ends.{end-of, end-for, spent-of}
-use Rattle.lending.specs.declared.Tried.{Tried}
-use Rattle.lending.specs.declared.End.{End}
-use Rattle.lending.specs.declared.End.the-variants as ends
+use Rattle.blocked_edges.specs.Records.{size}
+use Rattle.blocked_edges.specs.Blocks.{Blocks, with-edge}
+use Rattle.outcomes.specs.Ends.{end-of, end-for, spent-of}
+use Rattle.outcomes.specs.declared.Tried.{Tried}
+use Rattle.outcomes.specs.declared.End.{End}
+use Rattle.outcomes.specs.declared.End.the-variants as ends
 use Rattle.settling.specs.declared.standing.Standing.{Standing}
 use Rattle.settling.specs.declared.standing.Step.{Step}
 use Rattle.settling.specs.Standings.{counts-of, sort-of, TriedMore, CountsMore}

@@ -3,8 +3,8 @@ use mathlib.Core.Path.{_≡_, ap, _∙_}
 use Prim.Native.Nat.{ℕ, _+_}
 use native.Mathlib.Omega.{arith}
 use Rattle.definition.specs.Counts.{Counts, tally, _⊞_, one-attempt, spending, at-limit, emptied, Refusal, Placement, Shape, Recovery, Region, OddRegion, refused-by}
-use Rattle.lending.specs.declared.End.{End}
-use Rattle.lending.specs.Ends.{end-of, only-inserted}
+use Rattle.outcomes.specs.declared.End.{End}
+use Rattle.outcomes.specs.Ends.{end-of, only-inserted}
 use Rattle.settling.specs.declared.standing.Tally.{Tally}
 use Rattle.settling.specs.Standings.{tally-refused}
 

@@ -10,11 +10,11 @@ use Rattle.definition.specs.Cells.{Quad, new-quad, quad-nodes}
 use Rattle.definition.specs.Front.{freed}
 use Rattle.definition.specs.Call.{onto}
 use Rattle.cells.specs.Layout.{refused-at}
-use Rattle.blocks.specs.Records.{IsEdge, Kept, size}
-use Rattle.blocks.specs.Blocks.{Blocks, CanBlock, with-edge}
-use Rattle.lending.specs.Ends.{end-of, end-for, quad-of, spent-of}
-use Rattle.lending.specs.declared.Tried.{Tried}
-use Rattle.lending.specs.declared.End.the-variants as ends
+use Rattle.blocked_edges.specs.Records.{IsEdge, Kept, size}
+use Rattle.blocked_edges.specs.Blocks.{Blocks, CanBlock, with-edge}
+use Rattle.outcomes.specs.Ends.{end-of, end-for, quad-of, spent-of}
+use Rattle.outcomes.specs.declared.Tried.{Tried}
+use Rattle.outcomes.specs.declared.End.the-variants as ends
 use Rattle.settling.specs.declared.standing.Standing.{Standing}
 use Rattle.settling.specs.declared.standing.Step.{Step}
 use Rattle.settling.specs.declared.standing.Going.{Going}

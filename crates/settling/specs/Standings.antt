@@ -4,10 +4,10 @@ use mathlib.Core.Bool.{Bool, true, false}
 use Prim.Native.Nat.{ℕ, _+_, _^_, _<_}
 use Rattle.definition.specs.Counts.{Counts, _⊞_, one-attempt, spending}
 use Rattle.cells.specs.Counting.{Attempted}
-use Rattle.lending.specs.Ends.{only-inserted}
+use Rattle.outcomes.specs.Ends.{only-inserted}
 use Rattle.cells.specs.declared.counters.Counters.{Counters}
-use Rattle.lending.specs.declared.End.{End}
-use Rattle.lending.specs.declared.End.the-variants as ends
+use Rattle.outcomes.specs.declared.End.{End}
+use Rattle.outcomes.specs.declared.End.the-variants as ends
 use Rattle.settling.specs.declared.standing.Tally.{Tally}
 use Rattle.settling.specs.declared.standing.Standing.{Standing}
 use Rattle.settling.specs.declared.standing.Going.{Going}

@@ -1,11 +1,11 @@
 // What a run counted, and how a step of it ends.
 use cells::counters::Counters;
-use lending::End;
+use outcomes::End;
 ghost use mathlib.Core.Path.{_≡_};
 ghost use Prim.Native.Nat.{_+_, _^_, _<_};
 ghost use Rattle.definition.specs.Counts.{Refusal, at-limit, emptied, refused-by};
 ghost use Rattle.cells.specs.Counting.{Few};
-ghost use Rattle.lending.specs.Ends.{end-of};
+ghost use Rattle.outcomes.specs.Ends.{end-of};
 ghost use Rattle.settling.specs.Standings.{FewCounts, CountedOne, CountsMore, TriedMore, Quadded, Recorded, sort-of, is-stuck, FewTally, tally-refused};
 
 // What a run counted so far, attempts apart (they stand in the counters).

@@ -1,7 +1,7 @@
 -- Refused by the first mesh, by the second, or filed.
 use mathlib.Core.Path.{_≡_, sym, _∙_}
 use Rattle.filing.specs.declared.Answer.the-variants.{Filed}
-use Rattle.checks.specs.Refusals.{number-of}
+use Rattle.refusals.specs.Refusals.{number-of}
 use Rattle.filing.specs.Refusals.{first-refused, second-refused, both-filed, readable}
 use Rattle.filing.specs.Filing.{Mesh, refused, filed, input}
 use Rattle.filing.specs.Promise.{mesh, returned}

@@ -2,7 +2,7 @@ use mathlib.Core.Path.{ap, sym, _∙_, subst}
 use Prim.Native.Nat.{ℕ, _+_, _*_}
 use native.Mathlib.Omega.{arith}
 use lib.ListN.{getD}
-use Rattle.blocks.specs.Blocks.{Blocks}
+use Rattle.blocked_edges.specs.Blocks.{Blocks}
 use Rattle.loops.proofs.Sifting.{number-low, read-edge, read-open}
 use borrow.Author.Needs.{needs}
 use Rattle.loops.proofs.sift.is_open_at.Statement.{statement}

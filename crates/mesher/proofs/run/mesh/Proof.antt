@@ -4,8 +4,8 @@ use native.Mathlib.Omega.{arith}
 use borrow.Author.Needs.{needs}
 use Rattle.definition.specs.Numbers.{max-attempts}
 use Rattle.definition.specs.Call.{Asked, Lent, given-tris, given-points}
-use Rattle.checks.specs.Refusals.{passed}
-use Rattle.checks.specs.Stated.{asked}
+use Rattle.refusals.specs.Refusals.{passed}
+use Rattle.refusals.specs.Stated.{asked}
 use Rattle.rounds.specs.Loop.{CanRun}
 use Rattle.mesher.specs.Parts.{rules-with, CanMesh}
 use Rattle.mesher.proofs.Starts.{mesh-build, mesh-run, mesh-ran}

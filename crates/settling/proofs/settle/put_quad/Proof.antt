@@ -4,7 +4,7 @@ use Prim.Native.Nat.{ℕ, _+_, _*_}
 use native.Mathlib.Omega.{arith}
 use lib.ListN.{length, length-append}
 use Rattle.cells.specs.Layout.{refused-at}
-use Rattle.blocks.specs.Blocks.{FreeTo, Blocks}
+use Rattle.blocked_edges.specs.Blocks.{FreeTo, Blocks}
 use Rattle.definition.specs.Cells.{new-quad}
 use Rattle.definition.specs.Front.{freed}
 use Rattle.settling.proofs.Texts.{put-text}

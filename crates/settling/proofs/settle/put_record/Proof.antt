@@ -1,5 +1,5 @@
 use Rattle.cells.specs.Layout.{refused-at}
-use Rattle.blocks.specs.Blocks.{CanBlock, BlockTo}
+use Rattle.blocked_edges.specs.Blocks.{CanBlock, BlockTo}
 use Rattle.settling.specs.Standings.{Recorded}
 use mathlib.Core.Path.{refl, sym, subst}
 use Prim.Native.Nat.{ℕ, _*_}

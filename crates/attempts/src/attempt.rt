@@ -1,0 +1,86 @@
+// One attempt: counted, tested against the limits, made, and settled.
+use cells::counters::Counters;
+use cells::find::is_front;
+use outcomes::End;
+use outcomes::without_quad;
+use rules::Rules;
+use settling::settle::settle;
+use settling::standing::Going;
+use settling::standing::Standing;
+use settling::standing::Step;
+use settling::standing::counted;
+use settling::standing::limited;
+use try_quad::tried::try_quad;
+ghost use mathlib.Core.Path.{_≡_};
+ghost use mathlib.Core.Bool.{_||_};
+ghost use mathlib.Core.List.{List, _∷_};
+ghost use Prim.Native.Nat.{ℕ, _≤_};
+ghost use lib.Dec.{ltb};
+ghost use Rattle.definition.specs.Numbers.{max-triangles};
+ghost use Rattle.definition.specs.Plane.{Edge};
+ghost use Rattle.definition.specs.Front.{State, attempt};
+ghost use Rattle.rules.specs.Settings.{settings-of};
+ghost use Rattle.attempts.specs.Runs.{Begun, setup, Goes, Makes, StepTo};
+
+// The most live triangles.
+pub const LIVE_EACH: usize = 4;
+
+pub const LIVE_MORE: usize = 100;
+
+// A limit is passed, the attempt in hand counted.
+fn past_limit(most: usize, given: usize, c: Counters) -> bool
+    requires { ⌜ given ≤ 4096 ⌝ }
+    ensures { λ r. ⌜ r ≡ (ltb most (c .attempts) || ltb (max-triangles given) (c .live)) ⌝ }
+{
+    if c.attempts > most {
+        return true;
+    }
+    c.live > LIVE_EACH * given + LIVE_MORE
+}
+
+// The attempt on the edge u-v is made; g has counted it. An edge that a flip of its round took off the front is refused under placement.
+fn make_attempt(
+    w: &mut [u32],
+    q: &mut [f64],
+    quads: &mut [u32],
+    rules: Rules,
+    g: Standing,
+    u: usize,
+    v: usize,
+) -> Step
+    requires { ⌜ ((k : Begun) × (st : State) × (es : List Edge) × Makes (now w) (now q) (now quads) (setup rules k) g st (u, v) es) ⌝ }
+    ensures { λ r. ⌜ ((k : Begun) (st : State) (es : List Edge) → Makes (now (w .entry)) (now (q .entry)) (now (quads .entry)) (setup rules k) g st (u, v) es → StepTo (now (w .entry)) (now (w .exit)) (now (q .exit)) (now (quads .exit)) (setup rules k) es (attempt (settings-of rules) (rules .given) st (u, v)) r) ⌝ }
+{
+    let c = g.counters;
+    if !is_front(w, rules.slots, rules.capacity, u, v) {
+        let off = without_quad(End::Placement, c, 0);
+        return settle(w, quads, rules.slots, rules.capacity, g, off, u, v);
+    }
+    let t = try_quad(w, q, rules, c, u, v);
+    settle(w, quads, rules.slots, rules.capacity, g, t, u, v)
+}
+
+// One attempt on the edge u-v, from the standing `before`. The attempt that passes a limit is counted and not made.
+pub fn attempt_one(
+    w: &mut [u32],
+    q: &mut [f64],
+    quads: &mut [u32],
+    rules: Rules,
+    before: Standing,
+    u: usize,
+    v: usize,
+) -> Step
+    requires { ⌜ ((k : Begun) × (st : State) × (es : List Edge) × Goes (now w) (now q) (now quads) (setup rules k) before st ((u, v) ∷ es)) ⌝ }
+    ensures { λ r. ⌜ ((k : Begun) (st : State) (es : List Edge) → Goes (now (w .entry)) (now (q .entry)) (now (quads .entry)) (setup rules k) before st ((u, v) ∷ es) → StepTo (now (w .entry)) (now (w .exit)) (now (q .exit)) (now (quads .exit)) (setup rules k) es (attempt (settings-of rules) (rules .given) st (u, v)) r) ⌝ }
+{
+    let g = counted(before);
+    let c = g.counters;
+    if past_limit(rules.attempts, rules.given, c) {
+        let h = limited(g);
+        return Step {
+            kind: Going::Limited,
+            standing: h,
+        };
+    }
+    make_attempt(w, q, quads, rules, g, u, v)
+}

@@ -1,0 +1,29 @@
+use mathlib.Core.Path.{ap, sym, _∙_, subst}
+use lib.Ieee.{Float, binary64, fits}
+use Rattle.definition.specs.Floats.{_≺_, 0·0, f64}
+use Rattle.definition.specs.Root.{sqrt}
+use Rattle.candidates.specs.Choice.{too-far, square, FarFrom}
+use Rattle.candidates.proofs.Roots.{norm-root, far-from, far-endless, endless, square-fits}
+use borrow.Author.Needs.{needs}
+use Rattle.candidates.proofs.far_square.Statement.{statement}
+use Rattle.candidates.proofs.far_square.Tie as tie
+
+returns : tie.Need-returns
+unfolding _≺_ 0·0 f64
+returns c =
+    let tf = c .before in
+    let nm = tf .before in
+    let t1 = nm .before in
+    let sq = t1 .before in
+    let a = sq .before .args in
+    far-from (sq .square .result) (a .target) (ap (fits binary64) (sq .square .ensures) ∙ square-fits _) (t1 .if1 .taken)
+    (sym (c .if2 .taken) ∙ tf .too-far .ensures ∙ ap (λ (x : Float). too-far x (a .target)) (nm .norm .ensures ∙ norm-root _ ∙ ap sqrt (sym (sq .square .ensures))))
+
+returns-2 : tie.Need-returns-2
+unfolding f64
+returns-2 c =
+    let target = c .before .before .args .target in
+    subst (λ (x : Float). FarFrom x target) (sym endless) (far-endless target)
+
+pub far-square-spec : {M : Type 1} → statement M
+far-square-spec = tie.close (tie.spec (λ c κs. search needs) (λ c κs. search needs) (λ c κs. search needs) returns returns-2)

@@ -1,4 +1,0 @@
-pub mod Tests
-pub mod Lists
-pub mod Roots
-pub mod Growth

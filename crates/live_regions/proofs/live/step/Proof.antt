@@ -1,0 +1,128 @@
+use mathlib.Core.Path.{sym, _∙_}
+use mathlib.Core.List.{[], _∷_, _++_, foldl}
+use native.Mathlib.Omega.{arith}
+use Rattle.definition.specs.Candidates.{on-top, neighbours}
+use Rattle.live_regions.proofs.Steps.{top-tri, can-list, seen-few, step-near, step-far, push-trans}
+use borrow.Author.Needs.{needs}
+use Rattle.live_regions.proofs.live.step.Statement.{statement}
+use Rattle.live_regions.proofs.live.step.Tie as tie
+
+is-near-requires : tie.Need-is-near-requires
+is-near-requires c κs =
+    let tk = c .before .before .before in
+    let t = tk .before .before .before .before in
+    let a = t .args in
+    let w = a .w .now in
+    let w1 = tk .take .last .0 in
+    let m = t .pre .0 in
+    let out = t .pre .1 in
+    let seen = t .pre .2 in
+    let st = t .pre .3 in
+    let x = t .pre .4 in
+    let pts = t .pre .5 in
+    let h = t .pre .6 in
+    let k = top-tri w (a .s) (a .p) (a .n) (a .i) m out seen st x h in
+    let f1 = tk .take .ensures m out seen st x (h .top) in
+    ((m, f1 .hold .rep, pts, k .t), h .top .inside)
+
+list-one-requires : tie.Need-list-one-requires
+list-one-requires c κs =
+    let nr = c .before .before in
+    let tk = nr .before .before .before .before in
+    let t = tk .before .before .before .before in
+    let a = t .args in
+    let w = a .w .now in
+    let w1 = tk .take .last .0 in
+    let m = t .pre .0 in
+    let out = t .pre .1 in
+    let seen = t .pre .2 in
+    let st = t .pre .3 in
+    let x = t .pre .4 in
+    let pts = t .pre .5 in
+    let h = t .pre .6 in
+    let k = top-tri w (a .s) (a .p) (a .n) (a .i) m out seen st x h in
+    let f1 = tk .take .ensures m out seen st x (h .top) in
+    (m, out, x ∷ seen, st, x, can-list w (a .s) (a .p) (a .n) (a .i) m out seen st x h w1 f1)
+
+push-around-requires : tie.Need-push-around-requires
+push-around-requires c κs =
+    let lo = c .before .before .before in
+    let nr = lo .before .before .before in
+    let tk = nr .before .before .before .before in
+    let t = tk .before .before .before .before in
+    let a = t .args in
+    let w = a .w .now in
+    let w1 = tk .take .last .0 in
+    let m = t .pre .0 in
+    let out = t .pre .1 in
+    let seen = t .pre .2 in
+    let st = t .pre .3 in
+    let x = t .pre .4 in
+    let pts = t .pre .5 in
+    let h = t .pre .6 in
+    let k = top-tri w (a .s) (a .p) (a .n) (a .i) m out seen st x h in
+    let f1 = tk .take .ensures m out seen st x (h .top) in
+    let cl = can-list w (a .s) (a .p) (a .n) (a .i) m out seen st x h w1 f1 in
+    let w2 = lo .list-one .last .0 in
+    let f2 = lo .list-one .ensures m out (x ∷ seen) st x cl in
+    ((m, out ++ x ∷ [], x ∷ seen, st, f2 .hold, k .t), h .top .inside)
+
+add-result : tie.Need-add-result
+add-result c =
+    let pa = c .before .before in
+    let lo = pa .before .before .before .before in
+    let nr = lo .before .before .before in
+    let tk = nr .before .before .before .before in
+    let t = tk .before .before .before .before in
+    let a = t .args in
+    let w = a .w .now in
+    let w1 = tk .take .last .0 in
+    let m = t .pre .0 in
+    let out = t .pre .1 in
+    let seen = t .pre .2 in
+    let st = t .pre .3 in
+    let x = t .pre .4 in
+    let pts = t .pre .5 in
+    let h = t .pre .6 in
+    omega (arith, h .len, h .top .hold .few, seen-few w (a .s) (a .p) (a .n) (a .i) m out seen st x h, h .top .hold .rep .used, h .top .hold .rep .room .small)
+
+returns : tie.Need-returns
+returns c =
+    let pa = c .before .before in
+    let lo = pa .before .before .before .before in
+    let nr = lo .before .before .before in
+    let tk = nr .before .before .before .before in
+    let t = tk .before .before .before .before in
+    let a = t .args in
+    let w = a .w .now in
+    let w1 = tk .take .last .0 in
+    λ m out seen st x pts h.
+    let k = top-tri w (a .s) (a .p) (a .n) (a .i) m out seen st x h in
+    let f1 = tk .take .ensures m out seen st x (h .top) in
+    let cl = can-list w (a .s) (a .p) (a .n) (a .i) m out seen st x h w1 f1 in
+    let w2 = lo .list-one .last .0 in
+    let f2 = lo .list-one .ensures m out (x ∷ seen) st x cl in
+    let w3 = pa .push-around .last .0 in
+    let f3 = pa .push-around .ensures m (out ++ x ∷ []) (x ∷ seen) st x (f2 .hold) (k .t) (k .is) in
+    let st3 = foldl (on-top (x ∷ seen)) st (neighbours m x) in
+    step-near w (a .s) (a .p) (a .n) (a .i) m out seen st x h (a .x) (a .y) (a .r) w3 (sym (lo .before .before .if1 .taken) ∙ nr .is-near .ensures m (f1 .hold .rep) pts (k .t))
+    (push-trans w w1 w3 (a .s) (a .p) m (out ++ x ∷ []) (x ∷ seen) st3 (f1 .scratch) (push-trans w1 w2 w3 (a .s) (a .p) m (out ++ x ∷ []) (x ∷ seen) st3 (f2 .scratch) f3))
+
+returns-2 : tie.Need-returns-2
+returns-2 c =
+    let nr = c .before in
+    let tk = nr .before .before .before .before in
+    let t = tk .before .before .before .before in
+    let a = t .args in
+    let w = a .w .now in
+    let w1 = tk .take .last .0 in
+    λ m out seen st x pts h.
+    let k = top-tri w (a .s) (a .p) (a .n) (a .i) m out seen st x h in
+    let f1 = tk .take .ensures m out seen st x (h .top) in
+    step-far w (a .s) (a .p) (a .n) (a .i) m out seen st x h (a .x) (a .y) (a .r) w1 (sym (c .if1 .left) ∙ nr .is-near .ensures m (f1 .hold .rep) pts (k .t)) f1
+
+pub step-spec : {M : Type 1} → statement M
+step-spec =
+    tie.close
+    (tie.spec
+    (λ c κs. search needs) is-near-requires list-one-requires push-around-requires add-result (λ c. search needs) returns (λ c. search needs) returns-2)

@@ -1,0 +1,129 @@
+use mathlib.Core.Path.{_≡_, sym, _∙_, subst}
+use mathlib.Core.List.{List, foldl}
+use lib.ListN.{length}
+use Rattle.definition.specs.Cells.{Live, key, owners}
+use Rattle.definition.specs.Candidates.{on-top}
+use Rattle.live_regions.specs.Stack.{PushTo}
+use Rattle.live_regions.proofs.Steps.{corners-of, edge-is, around-read, push-trans}
+use borrow.Author.Needs.{needs}
+use Rattle.live_regions.proofs.stack.push_around.Statement.{statement}
+use Rattle.live_regions.proofs.stack.push_around.Tie as tie
+
+push-edge-requires : tie.Need-push-edge-requires
+push-edge-requires c κs =
+    let z3 = c .before in
+    let z2 = z3 .before .before in
+    let z1 = z2 .before .before in
+    let t = z1 .before .before .before in
+    let a = t .args in
+    let w = a .w .now in
+    let u = z1 .node .result in
+    let v = z2 .node2 .result in
+    let y = z3 .node3 .result in
+    let m = t .pre .0 .0 in
+    let out = t .pre .0 .1 in
+    let seen = t .pre .0 .2 in
+    let st = t .pre .0 .3 in
+    let h = t .pre .0 .4 in
+    let k = t .pre .0 .5 in
+    let d = corners-of w (a .s) (a .p) (a .i) m (h .rep) k in
+    let eu : u ≡ k .t .n0 = z1 .node .ensures ∙ d .read .n0 in
+    let ev : v ≡ k .t .n1 = z2 .node2 .ensures ∙ d .read .n1 in
+    let ey : y ≡ k .t .n2 = z3 .node3 .ensures ∙ d .read .n2 in
+    ((m, out, seen, st, h), edge-is (a .p) (length (m .points)) (k .t .n0) (k .t .n1) u v eu ev (d .k0) (h .rep .points) (d .d01))
+
+push-edge-requires-2 : tie.Need-push-edge-requires-2
+push-edge-requires-2 c κs =
+    let o1 = c .before .before .before in
+    let z3 = o1 .before .before in
+    let z2 = z3 .before .before in
+    let z1 = z2 .before .before in
+    let t = z1 .before .before .before in
+    let a = t .args in
+    let w = a .w .now in
+    let u = z1 .node .result in
+    let v = z2 .node2 .result in
+    let y = z3 .node3 .result in
+    let m = t .pre .0 .0 in
+    let out = t .pre .0 .1 in
+    let seen = t .pre .0 .2 in
+    let st = t .pre .0 .3 in
+    let h = t .pre .0 .4 in
+    let k = t .pre .0 .5 in
+    let d = corners-of w (a .s) (a .p) (a .i) m (h .rep) k in
+    let eu : u ≡ k .t .n0 = z1 .node .ensures ∙ d .read .n0 in
+    let ev : v ≡ k .t .n1 = z2 .node2 .ensures ∙ d .read .n1 in
+    let ey : y ≡ k .t .n2 = z3 .node3 .ensures ∙ d .read .n2 in
+    let w1 = o1 .push-edge .last .0 in
+    let f1 = o1 .push-edge .ensures m out seen st h in
+    let st1 = foldl (on-top seen) st (owners m (key u v)) in
+    ((m, out, seen, st1, f1 .hold), edge-is (a .p) (length (m .points)) (k .t .n1) (k .t .n2) v y ev ey (d .k1) (h .rep .points) (d .d12))
+
+push-edge-requires-3 : tie.Need-push-edge-requires-3
+push-edge-requires-3 c κs =
+    let o2 = c .before .before .before in
+    let o1 = o2 .before .before .before .before in
+    let z3 = o1 .before .before in
+    let z2 = z3 .before .before in
+    let z1 = z2 .before .before in
+    let t = z1 .before .before .before in
+    let a = t .args in
+    let w = a .w .now in
+    let u = z1 .node .result in
+    let v = z2 .node2 .result in
+    let y = z3 .node3 .result in
+    let m = t .pre .0 .0 in
+    let out = t .pre .0 .1 in
+    let seen = t .pre .0 .2 in
+    let st = t .pre .0 .3 in
+    let h = t .pre .0 .4 in
+    let k = t .pre .0 .5 in
+    let d = corners-of w (a .s) (a .p) (a .i) m (h .rep) k in
+    let eu : u ≡ k .t .n0 = z1 .node .ensures ∙ d .read .n0 in
+    let ev : v ≡ k .t .n1 = z2 .node2 .ensures ∙ d .read .n1 in
+    let ey : y ≡ k .t .n2 = z3 .node3 .ensures ∙ d .read .n2 in
+    let w1 = o1 .push-edge .last .0 in
+    let f1 = o1 .push-edge .ensures m out seen st h in
+    let st1 = foldl (on-top seen) st (owners m (key u v)) in
+    let w2 = o2 .push-edge2 .last .0 in
+    let f2 = o2 .push-edge2 .ensures m out seen st1 (f1 .hold) in
+    let st2 = foldl (on-top seen) st1 (owners m (key v y)) in
+    ((m, out, seen, st2, f2 .hold), edge-is (a .p) (length (m .points)) (k .t .n2) (k .t .n0) y u ey eu (d .k2) (h .rep .points) (d .d20))
+
+returns : tie.Need-returns
+returns c =
+    let o3 = c .before .before in
+    let o2 = o3 .before .before .before .before in
+    let o1 = o2 .before .before .before .before in
+    let z3 = o1 .before .before in
+    let z2 = z3 .before .before in
+    let z1 = z2 .before .before in
+    let t = z1 .before .before .before in
+    let a = t .args in
+    let w = a .w .now in
+    let u = z1 .node .result in
+    let v = z2 .node2 .result in
+    let y = z3 .node3 .result in
+    λ m out seen st x h k e.
+    let d = corners-of w (a .s) (a .p) (a .i) m (h .rep) k in
+    let eu : u ≡ k .t .n0 = z1 .node .ensures ∙ d .read .n0 in
+    let ev : v ≡ k .t .n1 = z2 .node2 .ensures ∙ d .read .n1 in
+    let ey : y ≡ k .t .n2 = z3 .node3 .ensures ∙ d .read .n2 in
+    let w1 = o1 .push-edge .last .0 in
+    let f1 = o1 .push-edge .ensures m out seen st h in
+    let st1 = foldl (on-top seen) st (owners m (key u v)) in
+    let w2 = o2 .push-edge2 .last .0 in
+    let f2 = o2 .push-edge2 .ensures m out seen st1 (f1 .hold) in
+    let st2 = foldl (on-top seen) st1 (owners m (key v y)) in
+    let w3 = o3 .push-edge3 .last .0 in
+    let f3 = o3 .push-edge3 .ensures m out seen st2 (f2 .hold) in
+    let st3 = foldl (on-top seen) st2 (owners m (key y u)) in
+    subst (λ (l : List Live). PushTo w w3 (a .s) (a .p) m out seen l) (sym (around-read m (a .i) x k e seen st u v y eu ev ey))
+    (push-trans w w1 w3 (a .s) (a .p) m out seen st3 (f1 .scratch) (push-trans w1 w2 w3 (a .s) (a .p) m out seen st3 (f2 .scratch) f3))
+
+pub push-around-spec : {M : Type 1} → statement M
+push-around-spec =
+    tie.close
+    (tie.spec
+    (λ c κs. search needs) (λ c κs. search needs) (λ c κs. search needs) push-edge-requires push-edge-requires-2 push-edge-requires-3 (λ c. search needs)
+    returns)

@@ -1,0 +1,113 @@
+// The stack of a live region as a ring of slots, with a mark for each slot and the list of the cells in reach.
+use cells::find::first_owner;
+use cells::find::next_owner;
+use cells::find::node;
+use rings::link;
+use rings::unlink;
+use rings::wide;
+ghost use mathlib.Core.Path.{_≡_};
+ghost use mathlib.Core.List.{List, [], _∷_, _++_, foldl};
+ghost use Prim.Native.Nat.{ℕ, _+_, _*_, _<_, _≤_};
+ghost use Rattle.definition.specs.Cells.{Live, Mesh, tri, new-live, key, owners};
+ghost use Rattle.definition.specs.Candidates.{on-top, neighbours};
+ghost use Rattle.cells.specs.Rep.{Rep, TriIn};
+ghost use Rattle.cells.specs.Layout.{all-end};
+ghost use Rattle.cells.specs.Walk.{IsEdge};
+ghost use lib.ListN.{length};
+ghost use Rattle.live_regions.specs.Stack.{Hold, Met, PushTo, OnTop, CanList, CanClear, Unmarked, top-or};
+
+// The marks of the first n slots are cleared.
+fn clear_marks(w: &mut [u32], s: usize, p: usize, n: usize)
+    requires { ⌜ CanClear (now w) s p n ⌝ }
+    ensures { λ r. ⌜ Unmarked (now (w .entry)) (now (w .exit)) s p n ⌝ }
+{
+    let mut i = 0;
+    while i < n {
+        w[20 * s + 3 * p + i] = 0;
+        i += 1;
+    }
+}
+
+// Nothing is listed, marked or on the stack.
+pub fn empty(w: &mut [u32], s: usize, p: usize, n: usize)
+    requires { ⌜ ((m : Mesh) × Rep (now w) s p m × (n ≡ m .used)) ⌝ }
+    requires { ⌜ all-end s p ≤ length (now w) ⌝ }
+    ensures { λ r. ⌜ ((m : Mesh) → Rep (now (w .entry)) s p m → n ≡ m .used → PushTo (now (w .entry)) (now (w .exit)) s p m [] [] []) ⌝ }
+{
+    clear_marks(w, s, p, n);
+    w[58 * s + 8 * p + s] = s as u32;
+    w[58 * s + 8 * p + (s + 1) + s] = s as u32;
+}
+
+// The cell in slot j comes to the top of the stack, unless it was seen or is no triangle; one that is on the stack moves there.
+pub fn push_one(w: &mut [u32], s: usize, p: usize, j: usize)
+    requires { ⌜ ((m : Mesh) × (out : List Live) × (seen : List Live) × (st : List Live) × (e : Live) × Met (now w) s p j m out seen st e) ⌝ }
+    ensures { λ r. ⌜ ((m : Mesh) (out seen st : List Live) (e : Live) → Met (now (w .entry)) s p j m out seen st e → PushTo (now (w .entry)) (now (w .exit)) s p m out seen (on-top seen st e)) ⌝ }
+{
+    let m = w[20 * s + 3 * p + j];
+    if m == 2 {
+        return;
+    }
+    if w[j] != 3 {
+        return;
+    }
+    if m == 1 {
+        unlink(w, 58 * s + 8 * p, s + 1, j);
+        link(w, 58 * s + 8 * p, s + 1, j, s);
+        return;
+    }
+    w[20 * s + 3 * p + j] = 1;
+    link(w, 58 * s + 8 * p, s + 1, j, s);
+}
+
+// The owners of u-v are pushed.
+fn push_edge(w: &mut [u32], s: usize, p: usize, u: usize, v: usize)
+    requires { ⌜ ((m : Mesh) × (out : List Live) × (seen : List Live) × (st : List Live) × Hold (now w) s p m out seen st) ⌝ }
+    requires { ⌜ IsEdge p u v ⌝ }
+    ensures { λ r. ⌜ ((m : Mesh) (out seen st : List Live) → Hold (now (w .entry)) s p m out seen st → PushTo (now (w .entry)) (now (w .exit)) s p m out seen (foldl (on-top seen) st (owners m (key u v)))) ⌝ }
+{
+    let mut c = first_owner(w, s, p, u, v);
+    while c < 4 * s {
+        push_one(w, s, p, c / 4);
+        c = next_owner(w, s, p, u, v, c);
+    }
+}
+
+// The owners of the edges of the triangle x in slot i are pushed, edge after edge.
+pub fn push_around(w: &mut [u32], s: usize, p: usize, i: usize)
+    requires { ⌜ ((m : Mesh) × (out : List Live) × (seen : List Live) × (st : List Live) × Hold (now w) s p m out seen st × TriIn m i) ⌝ }
+    requires { ⌜ i < s ⌝ }
+    ensures { λ r. ⌜ ((m : Mesh) (out seen st : List Live) (x : Live) → Hold (now (w .entry)) s p m out seen st → (t : TriIn m i) → x ≡ new-live i (tri (t .t)) → PushTo (now (w .entry)) (now (w .exit)) s p m out seen (foldl (on-top seen) st (neighbours m x))) ⌝ }
+{
+    let x = node(w, s, i, 0);
+    let y = node(w, s, i, 1);
+    let z = node(w, s, i, 2);
+    push_edge(w, s, p, x, y);
+    push_edge(w, s, p, y, z);
+    push_edge(w, s, p, z, x);
+}
+
+// The slot on top of the stack; s: there is none.
+pub fn top(w: &[u32], s: usize, p: usize) -> usize
+    requires { ⌜ all-end s p ≤ length (now w) ⌝ }
+    ensures { λ r. ⌜ ((m : Mesh) (out seen st : List Live) → Hold (now (w .entry)) s p m out seen st → r ≡ top-or s st) ⌝ }
+{
+    wide(w[58 * s + 8 * p + (s + 1) + s])
+}
+
+// The slot i on top of the stack is taken: it is seen now.
+pub fn take(w: &mut [u32], s: usize, p: usize, i: usize)
+    requires { ⌜ ((m : Mesh) × (out : List Live) × (seen : List Live) × (st : List Live) × (x : Live) × OnTop (now w) s p i m out seen st x) ⌝ }
+    ensures { λ r. ⌜ ((m : Mesh) (out seen st : List Live) (x : Live) → OnTop (now (w .entry)) s p i m out seen st x → PushTo (now (w .entry)) (now (w .exit)) s p m out (x ∷ seen) st) ⌝ }
+{
+    unlink(w, 58 * s + 8 * p, s + 1, i);
+    w[20 * s + 3 * p + i] = 2;
+}
+
+// The slot i comes to the end of the list of n.
+pub fn list_one(w: &mut [u32], s: usize, p: usize, n: usize, i: usize)
+    requires { ⌜ ((m : Mesh) × (out : List Live) × (seen : List Live) × (st : List Live) × (x : Live) × CanList (now w) s p n i m out seen st x) ⌝ }
+    ensures { λ r. ⌜ ((m : Mesh) (out seen st : List Live) (x : Live) → CanList (now (w .entry)) s p n i m out seen st x → PushTo (now (w .entry)) (now (w .exit)) s p m (out ++ x ∷ []) seen st) ⌝ }
+{
+    w[21 * s + 3 * p + n] = i as u32;
+}

@@ -1,0 +1,59 @@
+-- What an attempt hands back is the definition's.
+use mathlib.Core.Path.{_≡_}
+use mathlib.Core.List.{List}
+use Prim.Native.Nat.{ℕ}
+use lib.Ieee.{Float}
+use lib.ListN.{length}
+use Rattle.definition.specs.Counts.{Spent, Refusal, Placement, Shape, Recovery, Region, OddRegion, Want, of-points, of-slots}
+use Rattle.definition.specs.Cells.{Quad, Mesh, new-quad}
+use Rattle.definition.specs.Attempt.{Attempt, placed, refused, ended}
+use Rattle.rules.specs.declared.Rules.{Rules}
+use Rattle.cells.specs.declared.counters.Counters.{Counters}
+use Rattle.outcomes.specs.Ready.{Ready, Behind}
+use Rattle.outcomes.specs.declared.End.{End}
+use Rattle.outcomes.specs.declared.End.the-variants as ends
+use Rattle.outcomes.specs.declared.Tried.{Tried}
+
+-- so many insertions, and nothing else
+abbrev pub only-inserted : ℕ → Spent
+only-inserted n = record { insertions = n }
+
+-- the end, the counters and the insertions as handed in
+pub record Plain (e : End) (c : Counters) (n : ℕ) (r : Tried) : Type 0 where
+  pub end : r .end ≡ e
+  pub counters : r .counters ≡ c
+  pub inserted : r .inserted ≡ n
+
+-- the end that stands for a refusal
+unfoldable pub end-of : Refusal → End
+end-of Placement = ends.Placement
+end-of Shape = ends.Shape
+end-of Recovery = ends.Recovery
+end-of Region = ends.Region
+end-of OddRegion = ends.OddRegion
+
+-- and for want of lent memory
+unfoldable pub end-for : Want → End
+end-for of-points = ends.NoPoint
+end-for of-slots = ends.NoSlots
+
+-- the quad that was placed
+abbrev pub quad-of : Tried → Quad
+quad-of r = new-quad (r .n0) (r .n1) (r .n2) (r .n3)
+
+-- what the attempt spent
+abbrev pub spent-of : Tried → Spent
+spent-of r = only-inserted (r .inserted)
+
+-- the slices and the counters stand for the mesh m after n was spent; c were the counters before
+pub record Left (w' : List ℕ) (q q' : List Float) (rules : Rules) (c : Counters) (n : Spent) (m : Mesh) (r : Tried) : Type 0 where
+  pub ready : Ready w' q' rules (r .counters) m
+  pub spent : spent-of r ≡ n
+  pub attempts : r .counters .attempts ≡ c .attempts
+  pub behind : Behind q q' (length (m .points))
+
+-- the attempt's end, by cases
+abbrev pub AttemptTo : List ℕ → List Float → List Float → Rules → Counters → Attempt → Tried → Type 0
+AttemptTo w' q q' rules c (placed n m k) r = (r .end ≡ ends.Placed) × (quad-of r ≡ k) × Left w' q q' rules c n m r
+AttemptTo w' q q' rules c (refused why n m) r = (r .end ≡ end-of why) × Left w' q q' rules c n m r
+AttemptTo w' q q' rules c (ended wt n m) r = (r .end ≡ end-for wt) × Left w' q q' rules c n m r

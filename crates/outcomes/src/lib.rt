@@ -1,0 +1,42 @@
+// What an attempt hands back, beside the lent slices; its relation to the definition is in specs.
+use cells::counters::Counters;
+ghost use mathlib.Core.Path.{_≡_};
+ghost use Rattle.outcomes.specs.Ends.{Plain};
+
+// How an attempt ends: a quad is placed; it is refused under one of five names; or no point, or too few slots, are left and the run ends.
+pub enum End {
+    Placed,
+    Placement,
+    Shape,
+    Recovery,
+    Region,
+    OddRegion,
+    NoPoint,
+    NoSlots,
+}
+
+// The end of an attempt, the counters after it, the insertions that it made, and the nodes of the quad where one is placed.
+pub struct Tried {
+    pub end: End,
+    pub counters: Counters,
+    pub inserted: usize,
+    pub n0: usize,
+    pub n1: usize,
+    pub n2: usize,
+    pub n3: usize,
+}
+
+// An end without a quad.
+pub fn without_quad(end: End, counters: Counters, inserted: usize) -> Tried
+    ensures { λ r. ⌜ Plain end counters inserted r ⌝ }
+{
+    Tried {
+        end,
+        counters,
+        inserted,
+        n0: 0,
+        n1: 0,
+        n2: 0,
+        n3: 0,
+    }
+}

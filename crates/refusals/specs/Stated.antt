@@ -1,0 +1,54 @@
+-- The code's arguments in the definition's words.
+use mathlib.Core.Path.{_≡_, refl}
+use mathlib.Core.List.{List}
+use Prim.Native.Nat.{ℕ}
+use lib.ListN.{length, replicate, length-replicate}
+use lib.Ieee.{Float}
+use Rattle.definition.specs.Floats.{0·0}
+use Rattle.definition.specs.Plane.{Node}
+use Rattle.definition.specs.Call.{Asked, Lent}
+use Rattle.refusals.specs.declared.Stated.{Stated}
+use Rattle.refusals.specs.declared.Room.{Room}
+
+-- the numbers that the caller states
+abbrev pub asked : Stated → Asked
+asked a = record { given = a .given; capacity = a .capacity; count = a .count; slots = a .slots; size = a .size; stop = a .stop }
+
+-- a point by its coordinates
+abbrev pub spot : Float → Float → Float → Node
+spot x y z = record { x = x; y = y; z = z }
+
+-- lent slices with these points and triangles, the others with these lengths
+pub record Lends (l : Lent) (ps : List Float) (ts : List ℕ) (n : Room) : Type 0 where
+  pub points : l .points ≡ ps
+  pub triangles : l .triangles ≡ ts
+  pub quads : length (l .quads) ≡ n .quads
+  pub triangles-out : length (l .triangles-out) ≡ n .out
+  pub components : length (l .components) ≡ n .components
+  pub work : length (l .work) ≡ n .work
+  pub float-work : length (l .float-work) ≡ n .floats
+
+-- there are some, for any lengths
+abbrev pub blank : List Float → List ℕ → Room → Lent
+blank ps ts n =
+    record {
+      points = ps;
+      triangles = ts;
+      quads = replicate (n .quads) 0;
+      triangles-out = replicate (n .out) 0;
+      components = replicate (n .components) 0;
+      work = replicate (n .work) 0;
+      float-work = replicate (n .floats) 0·0;
+    }
+
+pub blank-lends : (ps : List Float) (ts : List ℕ) (n : Room) → Lends (blank ps ts n) ps ts n
+blank-lends ps ts n =
+    record {
+      points = refl;
+      triangles = refl;
+      quads = length-replicate (n .quads) 0;
+      triangles-out = length-replicate (n .out) 0;
+      components = length-replicate (n .components) 0;
+      work = length-replicate (n .work) 0;
+      float-work = length-replicate (n .floats) 0·0;
+    }

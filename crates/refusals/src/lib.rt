@@ -1,0 +1,261 @@
+// The refusals 1 to 7 that open a call of run_front: they read the points and the triangles, and touch nothing.
+ghost use mathlib.Core.Path.{_≡_};
+ghost use Prim.Native.Nat.{_*_, _≤_};
+ghost use lib.Ieee.{Float};
+ghost use lib.ListN.{length};
+ghost use Rattle.definition.specs.Call.{Lent, over-limit, bad-size, bad-stop, too-short, unknown-node, twice, repeated-node, outside, far-point, most-coordinate};
+ghost use Rattle.definition.specs.Cells.{new-tri};
+ghost use Rattle.definition.specs.Floats.{_≼_, abs};
+ghost use Rattle.refusals.specs.Stated.{asked, Lends, spot};
+ghost use Rattle.refusals.specs.Passed.{Limited};
+ghost use Rattle.refusals.specs.Refusals.{first-refusal};
+
+// Triangles, and given points, that a call may state.
+const MOST_GIVEN: usize = 4096;
+
+// Point capacity that a call may state.
+const MOST_CAPACITY: usize = 8192;
+
+// Slots that a call may state.
+const MOST_SLOTS: usize = 16384;
+
+// The least size that is not zero, 1/64.
+const LEAST_SIZE: f64 = 0.015625;
+
+// The greatest size.
+const MOST_SIZE: f64 = 8.0;
+
+// The greatest magnitude of an x or y.
+const MOST_COORDINATE: f64 = 8.0;
+
+// u32 of work for a slot and for a point of capacity, and f64 of work for a slot.
+const SLOT_WORDS: usize = 64;
+
+const POINT_WORDS: usize = 8;
+
+const SLOT_FLOATS: usize = 4;
+
+// The numbers that the caller states.
+pub struct Stated {
+    pub given: usize,
+    pub capacity: usize,
+    pub count: usize,
+    pub slots: usize,
+    pub size: f64,
+    pub stop: u32,
+}
+
+// The lengths of the lent slices that are measured and not read: `out` of the triangles out, `floats` of the f64 work.
+pub struct Room {
+    pub quads: usize,
+    pub out: usize,
+    pub components: usize,
+    pub work: usize,
+    pub floats: usize,
+}
+
+// ---- the caller's numbers
+
+// 1: too many triangles or given points, or a capacity over its limit.
+fn over_limit(a: Stated) -> bool
+    ensures { λ r. ⌜ r ≡ over-limit (asked a) ⌝ }
+{
+    if a.count > MOST_GIVEN {
+        return true;
+    }
+    if a.given > MOST_GIVEN {
+        return true;
+    }
+    if a.capacity > MOST_CAPACITY {
+        return true;
+    }
+    if a.slots > MOST_SLOTS {
+        return true;
+    }
+    false
+}
+
+// 2: a size that is no zero of either sign and does not lie between its limits.
+fn bad_size(a: Stated) -> bool
+    ensures { λ r. ⌜ r ≡ bad-size (asked a) ⌝ }
+{
+    let size = a.size;
+    if size == 0.0 {
+        return false;
+    }
+    if size >= LEAST_SIZE {
+        return !(size <= MOST_SIZE);
+    }
+    true
+}
+
+// 3: a stop rule that is neither 0 nor 1.
+fn bad_stop(a: Stated) -> bool
+    ensures { λ r. ⌜ r ≡ bad-stop (asked a) ⌝ }
+{
+    if a.stop > 1 {
+        return true;
+    }
+    false
+}
+
+// ---- the lender's slices
+
+// 4: a slice shorter than the stated numbers need, less capacity than given points, or fewer slots than triangles.
+fn too_short(points: &[f64], triangles: &[u32], a: Stated, n: Room) -> bool
+    requires { ⌜ Limited (asked a) ⌝ }
+    ensures { λ r. ⌜ ((l : Lent) → Lends l (now (points .entry)) (now (triangles .entry)) n → r ≡ too-short (asked a) l) ⌝ }
+{
+    let capacity = a.capacity;
+    let count = a.count;
+    let slots = a.slots;
+    if points.len() < 3 * capacity {
+        return true;
+    }
+    if triangles.len() < 3 * count {
+        return true;
+    }
+    if n.quads < 4 * slots {
+        return true;
+    }
+    if n.out < 3 * slots {
+        return true;
+    }
+    if n.components < slots {
+        return true;
+    }
+    if n.work < SLOT_WORDS * slots + POINT_WORDS * capacity {
+        return true;
+    }
+    if n.floats < SLOT_FLOATS * slots {
+        return true;
+    }
+    if capacity < a.given {
+        return true;
+    }
+    if slots < count {
+        return true;
+    }
+    false
+}
+
+// ---- the mesh
+
+// A node number as an index.
+fn wide(v: u32) -> usize
+    ensures { λ r. ⌜ r ≡ v ⌝ }
+{
+    v as usize
+}
+
+// 5: a triangle names a node that is not among the given points.
+pub fn unknown_node(triangles: &[u32], a: Stated) -> bool
+    requires { ⌜ 3 * a .count ≤ length (now triangles) ⌝ }
+    ensures { λ r. ⌜ ((l : Lent) → l .triangles ≡ now (triangles .entry) → r ≡ unknown-node (asked a) l) ⌝ }
+{
+    let given = a.given;
+    let n = 3 * a.count;
+    let mut i = 0;
+    while i < n {
+        if wide(triangles[i]) >= given {
+            return true;
+        }
+        i += 1;
+    }
+    false
+}
+
+// Two of the three nodes are one.
+fn twice(n0: u32, n1: u32, n2: u32) -> bool
+    ensures { λ r. ⌜ r ≡ twice (new-tri n0 n1 n2) ⌝ }
+{
+    if n0 == n1 {
+        return true;
+    }
+    if n1 == n2 {
+        return true;
+    }
+    n0 == n2
+}
+
+// 6: a triangle names a node twice.
+pub fn repeated_node(triangles: &[u32], a: Stated) -> bool
+    requires { ⌜ 3 * a .count ≤ length (now triangles) ⌝ }
+    ensures { λ r. ⌜ ((l : Lent) → l .triangles ≡ now (triangles .entry) → r ≡ repeated-node (asked a) l) ⌝ }
+{
+    let count = a.count;
+    let mut i = 0;
+    while i < count {
+        if twice(triangles[3 * i], triangles[3 * i + 1], triangles[3 * i + 2]) {
+            return true;
+        }
+        i += 1;
+    }
+    false
+}
+
+// Finite and not beyond the limit.
+fn within(x: f64) -> bool
+    ensures { λ r. ⌜ r ≡ (abs x ≼ most-coordinate) ⌝ }
+{
+    if x >= -MOST_COORDINATE {
+        return x <= MOST_COORDINATE;
+    }
+    false
+}
+
+// An x or y that is not.
+fn outside(x: f64, y: f64) -> bool
+    ensures { λ r. ⌜ ((z : Float) → r ≡ outside (spot x y z)) ⌝ }
+{
+    if within(x) {
+        return !within(y);
+    }
+    true
+}
+
+// 7: a given point is outside.
+pub fn far_point(points: &[f64], a: Stated) -> bool
+    requires { ⌜ 3 * a .given ≤ length (now points) ⌝ }
+    ensures { λ r. ⌜ ((l : Lent) → l .points ≡ now (points .entry) → r ≡ far-point (asked a) l) ⌝ }
+{
+    let given = a.given;
+    let mut i = 0;
+    while i < given {
+        if outside(points[3 * i], points[3 * i + 1]) {
+            return true;
+        }
+        i += 1;
+    }
+    false
+}
+
+// ---- the answer
+
+// The number of the first refusal whose condition holds; 0: none does.
+pub fn refusal(points: &[f64], triangles: &[u32], a: Stated, n: Room) -> u32
+    ensures { λ r. ⌜ ((l : Lent) → Lends l (now (points .entry)) (now (triangles .entry)) n → r ≡ first-refusal (asked a) l) ⌝ }
+{
+    if over_limit(a) {
+        return 1;
+    }
+    if bad_size(a) {
+        return 2;
+    }
+    if bad_stop(a) {
+        return 3;
+    }
+    if too_short(points, triangles, a, n) {
+        return 4;
+    }
+    if unknown_node(triangles, a) {
+        return 5;
+    }
+    if repeated_node(triangles, a) {
+        return 6;
+    }
+    if far_point(points, a) {
+        return 7;
+    }
+    0
+}

@@ -1,0 +1,4 @@
+pub mod Shared
+pub mod Fences
+pub mod Scans
+pub mod Aheads

@@ -1,0 +1,32 @@
+-- The region in hand, and what the tests on it ask.
+use mathlib.Core.Path.{_≡_}
+use mathlib.Core.Bool.{Bool, _||_}
+use mathlib.Core.List.{List}
+use Prim.Native.Nat.{ℕ, _<_, _≤_}
+use lib.ListN.{length}
+use lib.Ieee.{Float}
+use Rattle.definition.specs.Plane.{Edge}
+use Rattle.definition.specs.Cells.{Live, Mesh}
+use Rattle.definition.specs.Candidates.{shared-by-tris, passes-by}
+use Rattle.laws.specs.Lists.{Stored}
+use Rattle.cells.specs.Layout.{list-at}
+use Rattle.cells.specs.Rep.{Rep, Pts, slots}
+use Rattle.live_regions.specs.Stack.{Inner}
+
+-- the slices stand for the mesh, and the list has the n triangles of the region
+pub record InHand (w : List ℕ) (q : List Float) (s p n : ℕ) (m : Mesh) (region : List Live) : Type 0 where
+  pub rep : Rep w s p m
+  pub pts : Pts q p m
+  pub len : n ≡ length region
+  pub few : n ≤ s
+  pub stored : Stored w (list-at s p) (slots region)
+  pub inner : Inner m region
+
+-- the ends of a segment are nodes of the mesh
+pub record Ends (m : Mesh) (a b : ℕ) : Type 0 where
+  pub first : a < length (m .points)
+  pub second : b < length (m .points)
+
+-- two triangles share the edge, or the segment a b does not cross it
+unfoldable pub open-edge : Mesh → ℕ → ℕ → Edge → Bool
+open-edge m a b e = shared-by-tris m e || passes-by m a b e

@@ -1,0 +1,167 @@
+// The segment between two nodes stays inside the region in hand.
+use cells::find::first_owner;
+use cells::find::kind;
+use cells::find::next_owner;
+use cells::find::node;
+use plane::sides::segments_cross;
+use rings::wide;
+ghost use mathlib.Core.Path.{_≡_};
+ghost use mathlib.Core.List.{List};
+ghost use Prim.Native.Nat.{_*_, _<_};
+ghost use lib.ListN.{length};
+ghost use Rattle.definition.specs.Lists.{all, any};
+ghost use Rattle.definition.specs.Cells.{Live, Mesh, tri, key, tri-edges, has-node, tri-has};
+ghost use Rattle.definition.specs.Candidates.{shared-by-tris, passes-by, walls, segment-inside};
+ghost use Rattle.cells.specs.Rep.{Rep, Pts, TriIn};
+ghost use Rattle.cells.specs.Walk.{IsEdge};
+ghost use Rattle.side_candidates.specs.Hand.{InHand, Ends, open-edge};
+
+// Exactly two own the edge u-v, and both are triangles.
+fn shared_by_tris(w: &[u32], s: usize, p: usize, u: usize, v: usize) -> bool
+    requires { ⌜ ((m : Mesh) × Rep (now w) s p m) ⌝ }
+    requires { ⌜ IsEdge p u v ⌝ }
+    ensures { λ r. ⌜ ((m : Mesh) → Rep (now (w .entry)) s p m → r ≡ shared-by-tris m (key u v)) ⌝ }
+{
+    let c = first_owner(w, s, p, u, v);
+    if c >= 4 * s {
+        return false;
+    }
+    if kind(w, s, c / 4) != 3 {
+        return false;
+    }
+    let d = next_owner(w, s, p, u, v, c);
+    if d >= 4 * s {
+        return false;
+    }
+    if kind(w, s, d / 4) != 3 {
+        return false;
+    }
+    if next_owner(w, s, p, u, v, d) < 4 * s {
+        return false;
+    }
+    true
+}
+
+// The segment a b does not cross the edge from u to v, unless they share a node.
+fn passes_by(q: &[f64], p: usize, a: usize, b: usize, u: usize, v: usize) -> bool
+    requires { ⌜ ((m : Mesh) × Pts (now q) p m × Ends m a b × Ends m u v) ⌝ }
+    ensures { λ r. ⌜ ((m : Mesh) → Pts (now (q .entry)) p m → Ends m a b → Ends m u v → r ≡ passes-by m a b (u, v)) ⌝ }
+{
+    if u == a {
+        return true;
+    }
+    if v == a {
+        return true;
+    }
+    if u == b {
+        return true;
+    }
+    if v == b {
+        return true;
+    }
+    !segments_cross(q, a, b, u, v)
+}
+
+// The segment a b does not cross the edge u-v, unless they share a node.
+fn clears(q: &[f64], p: usize, a: usize, b: usize, u: usize, v: usize) -> bool
+    requires { ⌜ ((m : Mesh) × Pts (now q) p m × Ends m a b × Ends m u v) ⌝ }
+    requires { ⌜ IsEdge p u v ⌝ }
+    ensures { λ r. ⌜ ((m : Mesh) → Pts (now (q .entry)) p m → Ends m a b → Ends m u v → r ≡ passes-by m a b (key u v)) ⌝ }
+{
+    if u < v {
+        return passes_by(q, p, a, b, u, v);
+    }
+    passes_by(q, p, a, b, v, u)
+}
+
+// Two triangles share the edge u-v, or the segment a b does not cross it, which is tried first: it needs no walk.
+fn open_edge(
+    w: &[u32],
+    q: &[f64],
+    s: usize,
+    p: usize,
+    a: usize,
+    b: usize,
+    u: usize,
+    v: usize,
+) -> bool
+    requires { ⌜ ((m : Mesh) × Rep (now w) s p m × Pts (now q) p m × Ends m a b × Ends m u v) ⌝ }
+    requires { ⌜ IsEdge p u v ⌝ }
+    ensures { λ r. ⌜ ((m : Mesh) → Rep (now (w .entry)) s p m → Pts (now (q .entry)) p m → Ends m a b → Ends m u v → r ≡ open-edge m a b (key u v)) ⌝ }
+{
+    if clears(q, p, a, b, u, v) {
+        return true;
+    }
+    shared_by_tris(w, s, p, u, v)
+}
+
+// So for each edge of the triangle in slot i.
+fn open_cell(w: &[u32], q: &[f64], s: usize, p: usize, a: usize, b: usize, i: usize) -> bool
+    requires { ⌜ ((m : Mesh) × Rep (now w) s p m × Pts (now q) p m × Ends m a b × TriIn m i) ⌝ }
+    requires { ⌜ i < s ⌝ }
+    ensures { λ r. ⌜ ((m : Mesh) → Rep (now (w .entry)) s p m → Pts (now (q .entry)) p m → Ends m a b → (t : TriIn m i) → r ≡ all (open-edge m a b) (tri-edges (t .t))) ⌝ }
+{
+    let x = node(w, s, i, 0);
+    let y = node(w, s, i, 1);
+    let z = node(w, s, i, 2);
+    if !open_edge(w, q, s, p, a, b, x, y) {
+        return false;
+    }
+    if !open_edge(w, q, s, p, a, b, y, z) {
+        return false;
+    }
+    open_edge(w, q, s, p, a, b, z, x)
+}
+
+// The segment a b crosses none of the edges of the region in hand that two triangles do not share.
+pub fn segment_inside(
+    w: &[u32],
+    q: &[f64],
+    s: usize,
+    p: usize,
+    n: usize,
+    a: usize,
+    b: usize,
+) -> bool
+    requires { ⌜ ((m : Mesh) × (region : List Live) × InHand (now w) (now q) s p n m region × Ends m a b) ⌝ }
+    ensures { λ r. ⌜ ((m : Mesh) (region : List Live) → InHand (now (w .entry)) (now (q .entry)) s p n m region → Ends m a b → r ≡ segment-inside m a b (walls m region)) ⌝ }
+{
+    let mut k: usize = 0;
+    while k < n {
+        if !open_cell(w, q, s, p, a, b, wide(w[21 * s + 3 * p + k])) {
+            return false;
+        }
+        k += 1;
+    }
+    true
+}
+
+// v is a node of the triangle in slot i.
+fn cell_has(w: &[u32], s: usize, p: usize, i: usize, v: usize) -> bool
+    requires { ⌜ ((m : Mesh) × Rep (now w) s p m × TriIn m i) ⌝ }
+    requires { ⌜ i < s ⌝ }
+    ensures { λ r. ⌜ ((m : Mesh) → Rep (now (w .entry)) s p m → (t : TriIn m i) → r ≡ tri-has (t .t) v) ⌝ }
+{
+    if node(w, s, i, 0) == v {
+        return true;
+    }
+    if node(w, s, i, 1) == v {
+        return true;
+    }
+    node(w, s, i, 2) == v
+}
+
+// v is a node of the region in hand.
+pub fn in_region(w: &[u32], q: &[f64], s: usize, p: usize, n: usize, v: usize) -> bool
+    requires { ⌜ ((m : Mesh) × (region : List Live) × InHand (now w) (now q) s p n m region) ⌝ }
+    ensures { λ r. ⌜ ((m : Mesh) (region : List Live) → InHand (now (w .entry)) (now (q .entry)) s p n m region → r ≡ any (has-node v) region) ⌝ }
+{
+    let mut k: usize = 0;
+    while k < n {
+        if cell_has(w, s, p, wide(w[21 * s + 3 * p + k]), v) {
+            return true;
+        }
+        k += 1;
+    }
+    false
+}

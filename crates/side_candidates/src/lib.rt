@@ -1,0 +1,3 @@
+// Side nodes for an end of a front edge.
+pub mod inside;
+pub mod sides;

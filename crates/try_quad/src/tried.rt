@@ -1,0 +1,185 @@
+// An attempt on a front edge: side nodes at both ends, then the pairs.
+use crate::stance::inward_normal;
+use crate::stance::target_of;
+use cells::counters::Counters;
+use cells::find::tri_owner;
+use cells::layout::far_at;
+use cells::layout::near_at;
+use edge_candidates::wishes::TINY_LENGTH;
+use flips::flip::third;
+use outcomes::End;
+use outcomes::Tried;
+use outcomes::without_quad;
+use pairs::try_pairs;
+use plane::sides::cross;
+use plane::vectors::from_to;
+use plane::vectors::length;
+use plane::vectors::norm;
+use plane::vectors::size_mismatch;
+use rules::Rules;
+use side_nodes::side::Found;
+use side_nodes::side::Side;
+use side_nodes::side::Stance;
+use side_nodes::side::side_nodes;
+use trials::ranked::best;
+ghost use mathlib.Core.Path.{_≡_};
+ghost use mathlib.Core.List.{List};
+ghost use Prim.Native.Nat.{ℕ, _<_};
+ghost use lib.Ieee.{Float};
+ghost use Rattle.definition.specs.Cells.{Mesh};
+ghost use Rattle.definition.specs.Attempt as attempt;
+ghost use Rattle.definition.specs.Attempt.{Sides, try-both, try-first, try-along, try-quad};
+ghost use Rattle.cells.specs.declared.counters.Counters.{Counters};
+ghost use Rattle.plane.specs.Vectors.{vec};
+ghost use Rattle.rules.specs.Settings.{settings-of};
+ghost use Rattle.try_quad.specs.Tries.{CanAttempt, TriedTo, Ends, Stands, Both, First};
+
+// With the side nodes at a and what was found at b: the pairs.
+fn with_both(
+    w: &mut [u32],
+    q: &[f64],
+    rules: Rules,
+    u: usize,
+    v: usize,
+    a: usize,
+    b: usize,
+    nears: usize,
+    far: Side,
+) -> Tried
+    requires { ⌜ ((q₀ : List Float) × (c₀ : Counters) × (cs : List ℕ) × (x : Sides) × Both (now w) q₀ (now q) rules c₀ u v a b nears far cs x) ⌝ }
+    ensures { λ r. ⌜ ((q₀ : List Float) (c₀ : Counters) (cs : List ℕ) (x : Sides) (f : attempt.Stance) → Both (now (w .entry)) q₀ (now (q .entry)) rules c₀ u v a b nears far cs x → f .edge ≡ (u, v) → f .a ≡ a → f .b ≡ b → TriedTo (now (w .entry)) (now (w .exit)) q₀ (now (q .entry)) rules c₀ (try-both (settings-of rules) f cs x) r) ⌝ }
+{
+    let found = far.found;
+    let c = far.counters;
+    let inserted = far.inserted;
+    match found {
+        Found::Missing => without_quad(End::Placement, c, inserted),
+        Found::NoPoint => without_quad(End::NoPoint, c, inserted),
+        Found::NoSlots => without_quad(End::NoSlots, c, inserted),
+        Found::Found => {
+            let t = best(
+                w,
+                q,
+                near_at(rules.slots, rules.capacity),
+                nears,
+                far_at(rules.slots, rules.capacity),
+                far.count,
+                a,
+                b,
+            );
+            try_pairs(w, q, rules, c, inserted, u, v, a, b, t)
+        }
+    }
+}
+
+// With what was found at a: the side nodes at b, where a quarter right looks into the triangle, then the pairs.
+fn with_first(
+    w: &mut [u32],
+    q: &mut [f64],
+    rules: Rules,
+    stance: Stance,
+    u: usize,
+    v: usize,
+    a: usize,
+    b: usize,
+    near: Side,
+) -> Tried
+    requires { ⌜ ((q₀ : List Float) × (c₀ : Counters) × (x : Sides) × First (now w) q₀ (now q) rules c₀ u v a b (stance .seed) near x) ⌝ }
+    ensures { λ r. ⌜ ((q₀ : List Float) (c₀ : Counters) (x : Sides) (f : attempt.Stance) → First (now (w .entry)) q₀ (now (q .entry)) rules c₀ u v a b (stance .seed) near x → Stands f u v a b (stance .seed) (vec (stance .normal)) (stance .target) (stance .mismatch) → TriedTo (now (w .entry)) (now (w .exit)) q₀ (now (q .exit)) rules c₀ (try-first (settings-of rules) f x) r) ⌝ }
+{
+    let found = near.found;
+    let c = near.counters;
+    let inserted = near.inserted;
+    match found {
+        Found::Missing => without_quad(End::Placement, c, inserted),
+        Found::NoPoint => without_quad(End::NoPoint, c, inserted),
+        Found::NoSlots => without_quad(End::NoSlots, c, inserted),
+        Found::Found => {
+            let far = side_nodes(
+                w,
+                q,
+                rules,
+                c,
+                stance,
+                far_at(rules.slots, rules.capacity),
+                false,
+                b,
+                a,
+                inserted,
+            );
+            with_both(w, q, rules, u, v, a, b, near.count, far)
+        }
+    }
+}
+
+// The edge u-v taken from a to b, with the seed's triangle on the left: at a a quarter left looks into it.
+fn try_along(
+    w: &mut [u32],
+    q: &mut [f64],
+    rules: Rules,
+    c: Counters,
+    u: usize,
+    v: usize,
+    seed: usize,
+    a: usize,
+    b: usize,
+) -> Tried
+    requires { ⌜ ((m : Mesh) × CanAttempt (now w) (now q) rules c u v m) ⌝ }
+    requires { ⌜ Ends (c .points) u v a b × (seed < rules .slots) ⌝ }
+    ensures { λ r. ⌜ ((m : Mesh) → CanAttempt (now (w .entry)) (now (q .entry)) rules c u v m → TriedTo (now (w .entry)) (now (w .exit)) (now (q .entry)) (now (q .exit)) rules c (try-along (settings-of rules) m (u, v) seed a b) r) ⌝ }
+{
+    let span = length(q, a, b);
+    let tangent = from_to(q, a, b);
+    let long = norm(tangent);
+    let target = target_of(rules.size, span);
+    if target <= TINY_LENGTH {
+        return without_quad(End::Placement, c, 0);
+    }
+    if long <= TINY_LENGTH {
+        return without_quad(End::Placement, c, 0);
+    }
+    let normal = inward_normal(tangent, long);
+    let mismatch = size_mismatch(span, target);
+    let stance = Stance {
+        seed,
+        normal,
+        target,
+        mismatch,
+    };
+    let near = side_nodes(
+        w,
+        q,
+        rules,
+        c,
+        stance,
+        near_at(rules.slots, rules.capacity),
+        true,
+        a,
+        b,
+        0,
+    );
+    with_first(w, q, rules, stance, u, v, a, b, near)
+}
+
+// An attempt on the edge u-v: its seed is the first triangle that owns it.
+pub fn try_quad(
+    w: &mut [u32],
+    q: &mut [f64],
+    rules: Rules,
+    c: Counters,
+    u: usize,
+    v: usize,
+) -> Tried
+    requires { ⌜ ((m : Mesh) × CanAttempt (now w) (now q) rules c u v m) ⌝ }
+    ensures { λ r. ⌜ ((m : Mesh) → CanAttempt (now (w .entry)) (now (q .entry)) rules c u v m → TriedTo (now (w .entry)) (now (w .exit)) (now (q .entry)) (now (q .exit)) rules c (try-quad (settings-of rules) m (u, v)) r) ⌝ }
+{
+    let seed = tri_owner(w, rules.slots, rules.capacity, u, v);
+    if seed >= rules.slots {
+        return without_quad(End::Placement, c, 0);
+    }
+    let apex = third(w, rules.slots, seed, u, v);
+    if cross(q, u, v, apex) > 0.0 {
+        return try_along(w, q, rules, c, u, v, seed, u, v);
+    }
+    try_along(w, q, rules, c, u, v, seed, v, u)
+}
