@@ -19,8 +19,9 @@ static void *zeros(size_t count, size_t width) {
 
 /* One run, with as much memory as is stated. */
 static size_t attempt(
-    const double *points, size_t given, const uint32_t *triangles, size_t count, double size, uint32_t stop,
+    const double *points, size_t given, const uint32_t *triangles, size_t count, const sedgepick_options *options,
     size_t capacity, size_t slots, sedgepick_mesh *mesh) {
+    const sedgepick_quality *quality = &options->quality;
     static const uint32_t none[1];
     uint32_t *work = zeros(SEDGEPICK_WORK(slots, capacity), sizeof *work);
     double *float_work = zeros(SEDGEPICK_FLOAT_WORK(slots), sizeof *float_work);
@@ -32,7 +33,7 @@ static size_t attempt(
     if (work && float_work && mesh->points && mesh->quads && mesh->triangles && mesh->components) {
         if (given)
             memcpy(mesh->points, points, SEDGEPICK_POINTS(given) * sizeof *points);
-        refusal = sedgepick_run_front(
+        refusal = sedgepick_run_front_with(
             mesh->points, SEDGEPICK_POINTS(capacity),
             count ? triangles : none, 3 * count,
             mesh->quads, SEDGEPICK_QUADS(slots),
@@ -40,7 +41,8 @@ static size_t attempt(
             mesh->components, SEDGEPICK_COMPONENTS(slots),
             work, SEDGEPICK_WORK(slots, capacity),
             float_work, SEDGEPICK_FLOAT_WORK(slots),
-            given, capacity, count, slots, size, stop,
+            given, capacity, count, slots, options->size, options->stop,
+            quality->least_jacobian, quality->largest_cosine, quality->side_low, quality->side_high, quality->pairs,
             mesh->answer, SEDGEPICK_ANSWER);
     }
     free(work);
@@ -50,16 +52,17 @@ static size_t attempt(
     return refusal;
 }
 
-size_t sedgepick_mesh_run_from(
-    const double *points, size_t given, const uint32_t *triangles, size_t count, double size, uint32_t stop,
-    size_t capacity, size_t slots, sedgepick_mesh *mesh) {
+size_t sedgepick_mesh_run_with(
+    const double *points, size_t given, const uint32_t *triangles, size_t count, const sedgepick_options *options, sedgepick_mesh *mesh) {
+    size_t capacity = options->capacity ? options->capacity : given + given / 4 + 32;
+    size_t slots = options->slots ? options->slots : 2 * count + 64;
     memset(mesh, 0, sizeof *mesh);
     if (given > SEDGEPICK_MOST_GIVEN || count > SEDGEPICK_MOST_GIVEN)
         return SEDGEPICK_OVER_LIMIT;
     capacity = within(capacity, given ? given : 1, SEDGEPICK_MOST_CAPACITY);
     slots = within(slots, count ? count : 1, SEDGEPICK_MOST_SLOTS);
     for (;;) {
-        size_t refusal = attempt(points, given, triangles, count, size, stop, capacity, slots, mesh);
+        size_t refusal = attempt(points, given, triangles, count, options, capacity, slots, mesh);
         if (refusal == SEDGEPICK_NO_POINT && capacity < SEDGEPICK_MOST_CAPACITY)
             capacity = within(2 * capacity, 0, SEDGEPICK_MOST_CAPACITY);
         else if (refusal == SEDGEPICK_NO_SLOTS && slots < SEDGEPICK_MOST_SLOTS)
@@ -71,7 +74,17 @@ size_t sedgepick_mesh_run_from(
 
 size_t sedgepick_mesh_run(
     const double *points, size_t given, const uint32_t *triangles, size_t count, double size, uint32_t stop, sedgepick_mesh *mesh) {
-    return sedgepick_mesh_run_from(points, given, triangles, count, size, stop, given + given / 4 + 32, 2 * count + 64, mesh);
+    sedgepick_options options = sedgepick_standard_options(size, stop);
+    return sedgepick_mesh_run_with(points, given, triangles, count, &options, mesh);
+}
+
+size_t sedgepick_mesh_run_from(
+    const double *points, size_t given, const uint32_t *triangles, size_t count, double size, uint32_t stop,
+    size_t capacity, size_t slots, sedgepick_mesh *mesh) {
+    sedgepick_options options = sedgepick_standard_options(size, stop);
+    options.capacity = capacity ? capacity : 1;
+    options.slots = slots ? slots : 1;
+    return sedgepick_mesh_run_with(points, given, triangles, count, &options, mesh);
 }
 
 void sedgepick_mesh_free(sedgepick_mesh *mesh) {
@@ -88,6 +101,7 @@ const char *sedgepick_refusal_words(size_t refusal) {
     case SEDGEPICK_OVER_LIMIT: return "over 4,096 triangles or points, or over a capacity limit";
     case SEDGEPICK_BAD_SIZE: return "the size is neither zero nor from 1/64 to 8";
     case SEDGEPICK_BAD_STOP: return "the stop rule is neither 0 nor 1";
+    case SEDGEPICK_BAD_QUALITY: return "a quality number is out of its range or is a NaN, or the low side factor is above the high one";
     case SEDGEPICK_TOO_SHORT: return "a lent slice is too short, or a capacity is below what is given";
     case SEDGEPICK_UNKNOWN_NODE: return "a triangle names a node that is not there";
     case SEDGEPICK_REPEATED_NODE: return "a triangle has a node twice";

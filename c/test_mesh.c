@@ -77,8 +77,9 @@ static void test_growth(void) {
     sedgepick_mesh_free(&mesh);
 }
 
+static const double square[] = {0, 0, 0, 1, 0, 0, 1, 1, 0, 9, 1, 0};
+
 static size_t refusal_of(size_t given, size_t count, double size, uint32_t stop, const uint32_t *cell) {
-    static const double square[] = {0, 0, 0, 1, 0, 0, 1, 1, 0, 9, 1, 0};
     sedgepick_mesh mesh;
     size_t refusal = sedgepick_mesh_run(square, given, cell, count, size, stop, &mesh);
     CHECK(refusal == 0 || (!mesh.points && !mesh.quads && !mesh.triangles && !mesh.components));
@@ -99,12 +100,84 @@ static void test_refusals(void) {
     CHECK(refusal_of(4, 1, 1, 0, good) == SEDGEPICK_FAR_POINT);
     for (size_t i = 0; i <= SEDGEPICK_NO_SLOTS; i++)
         CHECK(strcmp(sedgepick_refusal_words(i), sedgepick_refusal_words(77)) != 0);
+    CHECK(strcmp(sedgepick_refusal_words(SEDGEPICK_BAD_QUALITY), sedgepick_refusal_words(77)) != 0);
+}
+
+/* The refusal of a triangle with a set; 3 comes before 14, and 4 to 7 behind it. */
+static size_t refusal_with(sedgepick_quality quality, uint32_t stop, uint32_t node) {
+    const uint32_t cell[] = {0, 1, node};
+    sedgepick_options options = sedgepick_standard_options(1, stop);
+    sedgepick_mesh mesh;
+    options.quality = quality;
+    size_t refusal = sedgepick_mesh_run_with(square, 3, cell, 1, &options, &mesh);
+    sedgepick_mesh_free(&mesh);
+    return refusal;
+}
+
+static void test_ranges(void) {
+    sedgepick_quality q = {SEDGEPICK_JACOBIAN_LOW, SEDGEPICK_COSINE_LOW, SEDGEPICK_SIDE_LOW, SEDGEPICK_SIDE_LOW, SEDGEPICK_PAIRS_LOW};
+    CHECK(refusal_with(q, 0, 2) == SEDGEPICK_FINISHED);
+    q.least_jacobian = -0.0;
+    CHECK(refusal_with(q, 0, 2) == SEDGEPICK_FINISHED);
+    q = (sedgepick_quality){SEDGEPICK_JACOBIAN_HIGH, SEDGEPICK_COSINE_HIGH, SEDGEPICK_SIDE_HIGH, SEDGEPICK_SIDE_HIGH, SEDGEPICK_PAIRS_HIGH};
+    CHECK(refusal_with(q, 0, 2) == SEDGEPICK_FINISHED);
+    const double ends[][2] = {{SEDGEPICK_JACOBIAN_LOW, SEDGEPICK_JACOBIAN_HIGH}, {SEDGEPICK_COSINE_LOW, SEDGEPICK_COSINE_HIGH},
+                              {SEDGEPICK_SIDE_LOW, SEDGEPICK_SIDE_HIGH}, {SEDGEPICK_SIDE_LOW, SEDGEPICK_SIDE_HIGH}};
+    for (int i = 0; i < 4; i++) {
+        const double bad[] = {nextafter(ends[i][0], -1), nextafter(ends[i][1], 9), NAN, -INFINITY, INFINITY};
+        for (int j = 0; j < 5; j++) {
+            sedgepick_quality one = sedgepick_standard_quality();
+            double *place = i == 0 ? &one.least_jacobian : i == 1 ? &one.largest_cosine : i == 2 ? &one.side_low : &one.side_high;
+            *place = bad[j];
+            CHECK(refusal_with(one, 0, 2) == SEDGEPICK_BAD_QUALITY);
+        }
+    }
+    q = sedgepick_standard_quality();
+    q.side_low = nextafter(q.side_high, 9);
+    CHECK(refusal_with(q, 0, 2) == SEDGEPICK_BAD_QUALITY);
+    CHECK(refusal_with(q, 2, 2) == SEDGEPICK_BAD_STOP);
+    CHECK(refusal_with(q, 0, 7) == SEDGEPICK_BAD_QUALITY);
+    q.side_low = q.side_high;
+    CHECK(refusal_with(q, 0, 2) == SEDGEPICK_FINISHED);
+    CHECK(refusal_with(q, 0, 7) == SEDGEPICK_UNKNOWN_NODE);
+    const size_t pairs[] = {0, 65, (size_t)-1};
+    for (int i = 0; i < 3; i++) {
+        q.pairs = pairs[i];
+        CHECK(refusal_with(q, 0, 2) == SEDGEPICK_BAD_QUALITY);
+    }
+}
+
+/* The largest cosine of a corner of the mesh's quads. */
+static double worst_cosine(const sedgepick_mesh *mesh) {
+    double worst = -1;
+    for (size_t i = 0; i < 4 * mesh->answer[SEDGEPICK_QUAD_COUNT]; i++) {
+        const uint32_t *quad = mesh->quads + i / 4 * 4;
+        const double *here = mesh->points + 3 * quad[i % 4], *next = mesh->points + 3 * quad[(i + 1) % 4], *last = mesh->points + 3 * quad[(i + 3) % 4];
+        double u[] = {next[0] - here[0], next[1] - here[1]}, v[] = {last[0] - here[0], last[1] - here[1]};
+        worst = fmax(worst, (u[0] * v[0] + u[1] * v[1]) / (hypot(u[0], u[1]) * hypot(v[0], v[1])));
+    }
+    return worst;
+}
+
+static void test_sets(void) {
+    sedgepick_options options = sedgepick_standard_options(0.25, 0);
+    sedgepick_mesh mesh;
+    CHECK(sedgepick_mesh_run_with(points[0], POINTS, triangles[0], TRIANGLES, &options, &mesh) == SEDGEPICK_FINISHED);
+    CHECK(same(&mesh, &alone[0]));
+    sedgepick_mesh_free(&mesh);
+    CHECK(worst_cosine(&alone[0]) > 0.7);
+    options.quality.largest_cosine = 0.7;
+    CHECK(sedgepick_mesh_run_with(points[0], POINTS, triangles[0], TRIANGLES, &options, &mesh) == SEDGEPICK_FINISHED);
+    CHECK(mesh.answer[SEDGEPICK_QUAD_COUNT] > 0 && worst_cosine(&mesh) <= 0.7 + 1e-9);
+    sedgepick_mesh_free(&mesh);
 }
 
 int main(void) {
     test_threads();
     test_growth();
     test_refusals();
+    test_ranges();
+    test_sets();
     CHECK(!strcmp(sedgepick_version(), SEDGEPICK_VERSION));
     CHECK(strlen(sedgepick_commit()) > 0);
     printf("%s\n", failures ? "failed" : "ok");

@@ -40,13 +40,41 @@ extern "C" {
 #define SEDGEPICK_EXHAUST 0          /* go on while an edge of the front is open */
 #define SEDGEPICK_EVEN_COMPONENTS 1  /* and refuse a quad that would leave a component with an odd number of triangles */
 
-/* What is returned. The refusals are tested 1 to 7 in this order, and 8 before 9; each is returned under its condition and under no other. */
+/* The quality set: what a quad is held to and what is tried for it. Bounds are included, a zero of either sign is 0, and the decimals stand for the doubles
+ * nearest them. */
+typedef struct sedgepick_quality {
+    double least_jacobian; /* least scaled Jacobian of a quad: 0 to 1 */
+    double largest_cosine; /* largest cosine of a quad's corner: 0.5 (60 degrees) to 0.99 (8.1 degrees) */
+    double side_low;       /* a side node is looked for at so many times the target length at least: 0.1 to 4 */
+    double side_high;      /* and at so many times at most: 0.1 to 4, not below side_low */
+    size_t pairs;          /* pairs of side nodes tried for an edge: 1 to 64 */
+} sedgepick_quality;
+
+#define SEDGEPICK_JACOBIAN_LOW 0.0
+#define SEDGEPICK_JACOBIAN_HIGH 1.0
+#define SEDGEPICK_COSINE_LOW 0.5
+#define SEDGEPICK_COSINE_HIGH 0.99
+#define SEDGEPICK_SIDE_LOW 0.1
+#define SEDGEPICK_SIDE_HIGH 4.0
+#define SEDGEPICK_PAIRS_LOW 1
+#define SEDGEPICK_PAIRS_HIGH 64
+
+/* The standard set, which sedgepick_run_front goes by: the cosine is that of 25 degrees. As an initializer, and as a value. */
+#define SEDGEPICK_STANDARD_QUALITY {0.3, 0.90630778703665, 0.5, 2.2, 8}
+
+static inline sedgepick_quality sedgepick_standard_quality(void) {
+    sedgepick_quality standard = SEDGEPICK_STANDARD_QUALITY;
+    return standard;
+}
+
+/* What is returned. The refusals are tested in this order, and 8 before 9; each is returned under its condition and under no other. */
 enum sedgepick_refusal {
     SEDGEPICK_FINISHED = 0,
     /* the caller's numbers */
     SEDGEPICK_OVER_LIMIT = 1,   /* over 4,096 triangles or given points, or over a capacity limit */
     SEDGEPICK_BAD_SIZE = 2,     /* size neither zero (of either sign) nor from 1/64 to 8; a NaN is refused here */
     SEDGEPICK_BAD_STOP = 3,     /* stop rule neither 0 nor 1 */
+    SEDGEPICK_BAD_QUALITY = 14, /* a number of the quality set outside its range, or a NaN; side_low above side_high */
     /* the lender */
     SEDGEPICK_TOO_SHORT = 4,    /* a slice shorter than stated, the answer's too; capacity below the given points, or slots below the triangles */
     /* the mesh's maker */
@@ -97,8 +125,8 @@ enum sedgepick_answer {
  * stop           stop rule: 0 or 1.
  * answer         13 numbers (SEDGEPICK_ANSWER), written only where 0 is returned; after a refusal all counts and lengths are zero, and the slice is as it was.
  *
- * Entries past a list's length are as they were. 1 to 7 touch no slice. 8 and 9 leave the points added and the quads written before them, clear both work
- * slices and touch nothing else; with more capacity, or more slots, the same call goes further.
+ * Entries past a list's length are as they were. 1 to 7 and 14 touch no slice. 8 and 9 leave the points added and the quads written before them, clear both
+ * work slices and touch nothing else; with more capacity, or more slots, the same call goes further.
  */
 size_t sedgepick_run_front(
     double *points, size_t points_len,
@@ -109,6 +137,23 @@ size_t sedgepick_run_front(
     uint32_t *work, size_t work_len,
     double *float_work, size_t float_work_len,
     size_t given, size_t capacity, size_t count, size_t slots, double size, uint32_t stop,
+    size_t *answer, size_t answer_len);
+
+/* The same with a quality set: its five numbers, the fields of struct sedgepick_quality in their order. With the standard set it is sedgepick_run_front.
+ *
+ * Whatever the set, each quad of a finished mesh is, in exact arithmetic, convex and counterclockwise, and the cosine of each of its corners is at most
+ * largest_cosine + 1e-9; its scaled Jacobian and its largest cosine, worked out in floats, pass the set.
+ */
+size_t sedgepick_run_front_with(
+    double *points, size_t points_len,
+    const uint32_t *triangles, size_t triangles_len,
+    uint32_t *quads, size_t quads_len,
+    uint32_t *triangles_out, size_t triangles_out_len,
+    uint32_t *components, size_t components_len,
+    uint32_t *work, size_t work_len,
+    double *float_work, size_t float_work_len,
+    size_t given, size_t capacity, size_t count, size_t slots, double size, uint32_t stop,
+    double least_jacobian, double largest_cosine, double side_low, double side_high, size_t pairs,
     size_t *answer, size_t answer_len);
 
 /* Numbers of work for a mesh of so many triangles that is filed. */

@@ -1,4 +1,4 @@
-/* Sedgepick with memory of its own: a call that lends what the proved `sedgepick_run_front` needs and lends more where it runs out, the refusals in
+/* Sedgepick with memory of its own: a call that lends what the proved `sedgepick_run_front_with` needs and lends more where it runs out, the refusals in
  * words, and the version. These functions are not proved; what they hand back is what the proved one wrote. They keep nothing between calls and may be
  * called from several threads at once.
  *
@@ -25,12 +25,29 @@ typedef struct sedgepick_mesh {
     size_t answer[SEDGEPICK_ANSWER];
 } sedgepick_mesh;
 
+/* What a run goes by beside its mesh. Take sedgepick_standard_options and change what is to be otherwise. */
+typedef struct sedgepick_options {
+    double size;
+    uint32_t stop;
+    sedgepick_quality quality;
+    size_t capacity, slots; /* lent at first; 0: as much as the mesh lets expect */
+} sedgepick_options;
+
+static inline sedgepick_options sedgepick_standard_options(double size, uint32_t stop) {
+    sedgepick_options options = {size, stop, SEDGEPICK_STANDARD_QUALITY, 0, 0};
+    return options;
+}
+
 /* Meshes `count` triangles (three node numbers each) over `given` points (x, y, z each); both are only read, and may be null where there are none. Where
  * points or slots run out (8, 9) the run is made again with twice as many, up to the limits, so that 8 and 9 come back only from a run that needs more
  * than those. The result does not depend on how much was lent.
  *
  * Returns 0 and fills *mesh, which sedgepick_mesh_free gives back; or a refusal, or SEDGEPICK_NO_MEMORY, and *mesh is all zeros.
  */
+size_t sedgepick_mesh_run_with(
+    const double *points, size_t given, const uint32_t *triangles, size_t count, const sedgepick_options *options, sedgepick_mesh *mesh);
+
+/* The same with the standard set. */
 size_t sedgepick_mesh_run(
     const double *points, size_t given, const uint32_t *triangles, size_t count, double size, uint32_t stop, sedgepick_mesh *mesh);
 

@@ -9,11 +9,12 @@ fn main() {
     println!("cargo:rerun-if-changed=src/patched.rs");
     let text = std::fs::read_to_string("src/patched.rs").expect("src/patched.rs");
     let out = std::env::var("OUT_DIR").expect("OUT_DIR");
-    let variants: [(&str, &[&str]); 4] = [
-        ("without_second_end", &["second-end"]),
-        ("without_cosine", &["second-end", "cosine"]),
-        ("without_off_front", &["second-end", "off-front"]),
-        ("bare", &["second-end", "cosine", "off-front"]),
+    let variants: [(&str, &[&str]); 5] = [
+        ("without_quality", &["quality"]),
+        ("without_second_end", &["quality", "second-end"]),
+        ("without_cosine", &["quality", "second-end", "cosine"]),
+        ("without_off_front", &["quality", "second-end", "off-front"]),
+        ("bare", &["quality", "second-end", "cosine", "off-front"]),
     ];
     for (name, back) in variants {
         let text = marks::take_back(&text, |patch| back.contains(&patch)).expect("marks");

@@ -382,11 +382,22 @@ class Texts(Case):
                 self.assertIn(refused.number, texts.REFUSALS)
                 continue
             self.assertEqual(mesh.counts['front_empty'], not metrics.front_edges(mesh), path)
+            asked = least_jacobian(path[:-4] + '.call')
             for quad in mesh.quads:
                 corners = [mesh.points[node] for node in quad]
                 least = metrics.min_scaled_jacobian(corners)
-                self.assertGreaterEqual(least, 0.3)
+                self.assertGreaterEqual(least, asked)
                 self.assertAlmostEqual(least, least_sine(corners), delta=1e-12)
+
+
+def least_jacobian(path):
+    """What the stored call asks of its quads; a text has no set."""
+    if not os.path.exists(path):
+        return 0.3
+    form = texts.Form(Source(path, content(path)))
+    form.names(texts.CALL)
+    form.numbers(texts.CALL)
+    return (texts.set_of(form) or (0.3,))[0]
 
 
 def least_sine(corners):
@@ -431,7 +442,10 @@ class Drawing(Case):
         root = self.svg(self.file('s.txt', S_TEXT))
         self.assertEqual(self.count(root, 'cells', 'polygon'), 2)
         self.assertEqual(self.count(root, 'front', 'line'), 4)
-        self.assertEqual(len(list(self.svg(self.file('s.call', 'capacity slots\n9 9\n' + S_TEXT)).iter('{http://www.w3.org/2000/svg}polygon'))), 2)
+        quality = texts.QUALITY + '\n3fd3333333333333 3fed0079302dd768 3fe0000000000000 400199999999999a 64\n'
+        for more in ('', quality):
+            self.assertEqual(len(list(self.svg(self.file('s.call', 'capacity slots\n9 9\n' + more + S_TEXT)).iter('{http://www.w3.org/2000/svg}polygon'))), 2)
+        self.assertEqual(self.run_tool(DRAW, self.file('s.call', 'capacity slots\n9 9\n' + quality.replace(' 64', '') + S_TEXT))[0], 1)
 
     def test_file(self):
         out = os.path.join(self.folder, 'out.svg')

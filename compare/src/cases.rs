@@ -1,18 +1,25 @@
-//! One generated mesh: the port against the Rust, under both rules and with memory that does or does not suffice.
+//! One generated mesh: the port against the Rust, under both rules, with document 01's quality set and with others, and with memory that does or does not
+//! suffice.
 
 use reference::account::slots_used;
 use reference::generators::large::SHAPES;
 use reference::generators::shape::Room;
-use reference::generators::{of_case, KINDS, TEXT};
+use reference::generators::{of_case, sets, KINDS, TEXT};
 use reference::input::{Input, Lent, LARGEST};
-use reference::patched::FrontResult;
+use reference::patched::{FrontResult, STANDARD};
 use reference::random::Random;
 use sedgepick::Refusal;
 
-use crate::memory::{self, Tails};
+use crate::memory::{self, Export, Tails};
 
 /// A large mesh comes once in so many cases.
 const LARGE_EACH: u64 = 4096;
+
+/// One more than the largest number of a refusal.
+pub const REFUSALS: usize = 15;
+
+/// Refusals that come before that of a short slice.
+const BEFORE_SLICES: [u32; 4] = [1, 2, 3, 14];
 
 /// Triangles of large meshes.
 const LARGE: (usize, usize) = (600, 4000);
@@ -22,10 +29,13 @@ const LARGE: (usize, usize) = (600, 4000);
 pub struct Tally {
     pub meshes: u64,
     pub runs: u64,
+    /// With another set than document 01's, not refused before a run; and those whose quads its set does not give.
+    pub sets: u64,
+    pub changed: u64,
     pub finished: u64,
     pub limited: u64,
-    /// Refusals 1 to 9.
-    pub refused: [u64; 9],
+    /// Refusals by their number.
+    pub refused: [u64; REFUSALS],
     pub quads: u64,
     pub inserted: u64,
     pub differ: u64,
@@ -35,6 +45,8 @@ impl Tally {
     pub fn add(&mut self, other: &Tally) {
         self.meshes += other.meshes;
         self.runs += other.runs;
+        self.sets += other.sets;
+        self.changed += other.changed;
         self.finished += other.finished;
         self.limited += other.limited;
         self.refused
@@ -51,6 +63,7 @@ impl Tally {
 pub struct Parting {
     pub input: Input,
     pub lent: Lent,
+    pub export: Export,
     pub what: String,
 }
 
@@ -106,54 +119,90 @@ pub struct Case<'a> {
     pub tally: &'a mut Tally,
     pub partings: &'a mut Vec<Parting>,
     pub r: Random,
+    pub export: Export,
 }
 
 impl Case<'_> {
-    /// Both rules, and the given one where it is neither.
+    /// Both rules, and the given one where it is neither: with document 01's set, then with others.
     pub fn run(&mut self, input: Input) {
         self.tally.meshes += 1;
-        if input.stop > 1 {
-            return self.run_rule(input);
-        }
-        for stop in [0, 1] {
-            self.run_rule(Input {
+        let rules = if input.stop > 1 {
+            vec![input]
+        } else {
+            let under = |stop| Input {
                 stop,
                 ..input.clone()
-            });
+            };
+            vec![under(0), under(1)]
+        };
+        let plain: Vec<Option<FrontResult>> = rules.iter().map(|i| self.run_rule(i)).collect();
+        self.export = Export::With;
+        for (input, plain) in rules.into_iter().zip(plain) {
+            self.run_sets(input, plain);
         }
     }
 
-    fn run_rule(&mut self, input: Input) {
+    /// Half of the meshes with another set, some with one that is refused or just not, some with document 01's handed in.
+    fn run_sets(&mut self, mut input: Input, plain: Option<FrontResult>) {
+        if self.r.once_in(8) {
+            self.run_rule(&input);
+        }
+        if self.r.once_in(2) {
+            input.quality = sets::good(&mut self.r);
+            self.run_set(&input, &plain);
+        }
+        if self.r.once_in(8) {
+            input.quality = sets::doubtful(&mut self.r);
+            self.run_set(&input, &plain);
+        }
+    }
+
+    fn run_set(&mut self, input: &Input, plain: &Option<FrontResult>) {
+        if let (Some(full), Some(plain)) = (self.run_rule(input), plain) {
+            self.tally.sets += (input.quality != STANDARD) as u64;
+            self.tally.changed += (full.quads != plain.quads) as u64;
+        }
+    }
+
+    /// The Rust's run with all that may be lent, where the input is not refused before it.
+    fn run_rule(&mut self, input: &Input) -> Option<FrontResult> {
         let small = Lent {
             points: input.points.len() + self.r.below(9),
             slots: input.triangles.len() + self.r.below(9),
         };
         if input.refusal(LARGEST).is_some() {
-            return self.refused(&input, small);
+            self.refused(input, small);
+            return None;
         }
         let full = input.run_unchecked(LARGEST);
+        self.run_lent(input, &full);
+        Some(full)
+    }
+
+    /// With as much as the run needs, and with less.
+    fn run_lent(&mut self, input: &Input, full: &FrontResult) {
         let need = match full.refused {
             Some(_) => LARGEST,
             None => Lent {
                 points: full.points.len(),
-                slots: slots_used(&input, &full),
+                slots: slots_used(input, full),
             },
         };
         let lent = self.enough(need);
-        self.hold(&input, lent, &full);
+        self.hold(input, lent, full);
         if full.refused.is_some() {
             return;
         }
         if input.triangles.len() <= 10 && full.refusals.attempts < 200 && self.r.once_in(16) {
-            self.every_capacity(&input, need);
+            self.every_capacity(input, need);
         } else if full.refusals.attempts < 2000 && self.r.once_in(4) {
-            self.some_capacity(&input, need);
+            self.some_capacity(input, need);
         }
         if self.r.once_in(16) {
-            self.short_slice(&input, lent);
+            self.short_slice(input, lent);
         }
         if self.r.once_in(256) {
-            self.over_limit(&input, lent);
+            self.over_limit(input, lent);
         }
     }
 
@@ -224,12 +273,15 @@ impl Case<'_> {
         self.refused(input, over);
     }
 
-    /// A call that one of 1 to 7 refuses.
+    /// A call that is refused before a run.
     fn refused(&mut self, input: &Input, lent: Lent) {
         let Some(number) = input.refusal(lent) else {
             return;
         };
-        let tails = self.longer();
+        let mut tails = self.longer();
+        if BEFORE_SLICES.contains(&number) && self.r.once_in(2) {
+            tails.0[self.r.below(6)] = -1;
+        }
         self.untouched(input, lent, tails, memory::refusal(number));
     }
 
@@ -237,7 +289,7 @@ impl Case<'_> {
     fn untouched(&mut self, input: &Input, lent: Lent, tails: Tails, why: Refusal) {
         let before = memory::slices(input, lent, tails, &mut self.r);
         let mut slices = before.clone();
-        let got = memory::run_port(input, lent, &mut slices);
+        let got = memory::run_port(input, lent, self.export, &mut slices);
         self.judge(input, lent, (got, slices), (Err(why), before));
     }
 
@@ -246,7 +298,7 @@ impl Case<'_> {
         let tails = self.longer();
         let before = memory::slices(input, lent, tails, &mut self.r);
         let mut slices = before.clone();
-        let got = memory::run_port(input, lent, &mut slices);
+        let got = memory::run_port(input, lent, self.export, &mut slices);
         self.judge(
             input,
             lent,
@@ -265,7 +317,7 @@ impl Case<'_> {
                 t.quads += a.quads as u64;
                 t.inserted += a.counts.mismatch_insertions as u64;
             }
-            Err(why) => t.refused[why.number() as usize - 1] += 1,
+            Err(why) => t.refused[why.number() as usize] += 1,
         }
         let what = if got.0 != want.0 {
             Some(format!("answers\n  port {:?}\n  Rust {:?}", got.0, want.0))
@@ -277,6 +329,7 @@ impl Case<'_> {
             self.partings.push(Parting {
                 input: input.clone(),
                 lent,
+                export: self.export,
                 what,
             });
         }

@@ -11,9 +11,10 @@ use std::sync::Mutex;
 use std::time::{Duration, Instant};
 
 use cases::{Case, Parting, Tally};
+use memory::Export;
 
 const USAGE: &str = "usage: compare SEED COUNT [JOBS]
-  runs COUNT generated meshes of the seed under both stop rules, JOBS at a time (1 without it)
+  runs COUNT generated meshes of the seed under both stop rules, with document 01's quality set and half of them with another, JOBS at a time (1 without it)
 compare filing SEED COUNT
   runs the filing order on COUNT generated pairs of meshes";
 
@@ -55,6 +56,7 @@ impl Work {
                 tally,
                 partings: &mut partings,
                 r,
+                export: Export::Plain,
             }
             .run(input);
             self.differ
@@ -91,22 +93,22 @@ impl Work {
 
 /// A line a kind, then the sums.
 fn print(kinds: &BTreeMap<&'static str, Tally>) -> Tally {
-    println!("kind | meshes | runs | finished | by limit | refused 1 2 3 4 5 6 7 | 8 | 9 | quads | insertions | differ");
+    println!("kind | meshes | runs | sets | changed | finished | by limit | refused 1 2 3 14 4 5 6 7 | 8 | 9 | quads | insertions | differ");
     let mut all = Tally::default();
     let line = |kind: &str, t: &Tally| {
-        let early = t.refused[..7]
-            .iter()
-            .map(u64::to_string)
-            .collect::<Vec<_>>()
+        let early = [1, 2, 3, 14, 4, 5, 6, 7]
+            .map(|k| t.refused[k].to_string())
             .join(" ");
         println!(
-            "{kind} | {} | {} | {} | {} | {early} | {} | {} | {} | {} | {}",
+            "{kind} | {} | {} | {} | {} | {} | {} | {early} | {} | {} | {} | {} | {}",
             t.meshes,
             t.runs,
+            t.sets,
+            t.changed,
             t.finished,
             t.limited,
-            t.refused[7],
             t.refused[8],
+            t.refused[9],
             t.quads,
             t.inserted,
             t.differ
@@ -124,7 +126,7 @@ fn print(kinds: &BTreeMap<&'static str, Tally>) -> Tally {
 fn show(partings: &mut [(u64, Parting)]) {
     partings.sort_by_key(|(case, p)| (p.input.triangles.len(), *case));
     for (case, p) in partings.iter().take(SHOWN) {
-        eprintln!("case {case}: {}", p.what);
+        eprintln!("case {case}, {:?}: {}", p.export, p.what);
         eprintln!(
             "{}",
             String::from_utf8_lossy(&reference::call::write(p.lent, &p.input))

@@ -3,7 +3,7 @@
 use reference::input::{Input, Lent};
 use reference::patched::FrontResult;
 use reference::random::Random;
-use sedgepick::lent::{self, Answer, Call, Memory};
+use sedgepick::lent::{self, Answer, Call, Memory, Set};
 use sedgepick::Refusal;
 
 /// The slices of a call, the floats too by their bits.
@@ -53,6 +53,25 @@ pub fn call(input: &Input, lent: Lent) -> Call {
     }
 }
 
+/// The functions of the library: `sedgepick_run_front`, for document 01's set, and `sedgepick_run_front_with`.
+#[derive(Clone, Copy, Debug, PartialEq, Eq)]
+pub enum Export {
+    Plain,
+    With,
+}
+
+/// The quality set of an input.
+fn set(input: &Input) -> Set {
+    let q = &input.quality;
+    Set {
+        least_jacobian: q.least_jacobian,
+        largest_cosine: q.largest_cosine,
+        side_low: q.side_low,
+        side_high: q.side_high,
+        pairs: q.pairs,
+    }
+}
+
 /// Slices for the call: the given points, then garbage.
 pub fn slices(input: &Input, lent: Lent, tails: Tails, r: &mut Random) -> Slices {
     let mut g = Garbage(r.bits() | 1);
@@ -93,7 +112,12 @@ fn bits(floats: &[f64]) -> Vec<u64> {
 }
 
 /// The port's answer to the call; the slices are as it left them.
-pub fn run_port(input: &Input, lent: Lent, slices: &mut Slices) -> Result<Answer, Refusal> {
+pub fn run_port(
+    input: &Input,
+    lent: Lent,
+    export: Export,
+    slices: &mut Slices,
+) -> Result<Answer, Refusal> {
     let (mut points, mut float_work) = (floats(&slices.points), floats(&slices.float_work));
     let memory = Memory {
         points: &mut points,
@@ -103,7 +127,11 @@ pub fn run_port(input: &Input, lent: Lent, slices: &mut Slices) -> Result<Answer
         work: &mut slices.work,
         float_work: &mut float_work,
     };
-    let answer = lent::run_front(input.triangles.as_flattened(), memory, call(input, lent));
+    let (triangles, call) = (input.triangles.as_flattened(), call(input, lent));
+    let answer = match export {
+        Export::Plain => lent::run_front(triangles, memory, call),
+        Export::With => lent::run_front_with(triangles, memory, call, set(input)),
+    };
     slices.points = bits(&points);
     slices.float_work = bits(&float_work);
     answer

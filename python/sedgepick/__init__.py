@@ -8,14 +8,21 @@ counterclockwise and without a corner under 24.99 degrees. This package lends it
     >>> [list(map(int, quad)) for quad in mesh.quads]
     [[0, 1, 2, 3]]
 
+Quads can be held to other numbers than the standard ones, here to corners of 40 degrees (exactly, but for 1e-9 of the cosine):
+
+    >>> strict = sedgepick.Quality(largest_cosine=sedgepick.cosine_of(40), least_jacobian=0.5)
+    >>> len(sedgepick.run_front([(0, 0), (1, 0), (1.9, 0.5), (0.9, 0.5)], [(0, 1, 2), (0, 2, 3)], size=1.0, quality=strict).quads)
+    0
+
 Threads: the library keeps nothing between calls and each call here lends memory of its own, so any number of threads may call `run_front` at once. The
 interpreter's lock is free while the library runs.
 
 Lists come back as numpy arrays where numpy is there, otherwise as lists of tuples.
 """
-from .front import EVEN_COMPONENTS, EXHAUST, FAR, LARGEST_SIZE, LEAST_SIZE, MOST_CAPACITY, MOST_GIVEN, MOST_SLOTS, REFUSALS, Counts, Mesh, Refused, run_front
+from .front import (EVEN_COMPONENTS, EXHAUST, FAR, LARGEST_SIZE, LEAST_SIZE, MOST_CAPACITY, MOST_GIVEN, MOST_SLOTS, RANGES, REFUSALS, Counts, Mesh, Quality,
+                    Refused, cosine_of, run_front)
 from .library import NoLibrary, VERSION, commit
 
 __version__ = VERSION
 __all__ = ['Counts', 'EVEN_COMPONENTS', 'EXHAUST', 'FAR', 'LARGEST_SIZE', 'LEAST_SIZE', 'MOST_CAPACITY', 'MOST_GIVEN', 'MOST_SLOTS', 'Mesh', 'NoLibrary',
-           'REFUSALS', 'Refused', 'commit', 'run_front']
+           'Quality', 'RANGES', 'REFUSALS', 'Refused', 'commit', 'cosine_of', 'run_front']

@@ -43,6 +43,55 @@ def count_of(word):
     return int(word)
 
 
+def number_from(low, high, kind=float):
+    """Reads a number within its bounds."""
+    def read(word):
+        try:
+            value = kind(word)
+        except ValueError:
+            raise argparse.ArgumentTypeError('%r is not a %snumber' % (word, 'whole ' if kind is int else ''))
+        if not low <= value <= high:
+            raise argparse.ArgumentTypeError('%s is out of range: from %g to %g' % (word, low, high))
+        return value
+    return read
+
+
+def angle_of(word):
+    """The cosine of a least angle in degrees."""
+    from .front import RANGES, cosine_of
+    low, high = RANGES['largest_cosine']
+    try:
+        cosine = cosine_of(float(word)) if 0 <= float(word) <= 90 else math.nan
+    except ValueError:
+        raise argparse.ArgumentTypeError('%r is not a number' % word)
+    if not low <= cosine <= high:
+        raise argparse.ArgumentTypeError('%s is out of range: from 8.11 to 60 degrees' % word)
+    return cosine
+
+
+def quality_options(parser):
+    from .front import RANGES, Quality
+    usual, group = Quality(), parser.add_argument_group('quality of the quads', 'What a quad is held to; fewer quads come out where it is more.')
+    add = group.add_argument
+    add('--least-jacobian', type=number_from(*RANGES['least_jacobian']), default=usual.least_jacobian, metavar='J',
+        help='least scaled Jacobian of a quad, from 0 to 1; %(default)s if left out')
+    corner = group.add_mutually_exclusive_group().add_argument
+    corner('--least-angle', dest='largest_cosine', type=angle_of, default=usual.largest_cosine, metavar='DEGREES',
+           help="least angle of a quad's corner, from 8.11 to 60 degrees; 25 if left out")
+    corner('--largest-cosine', type=number_from(*RANGES['largest_cosine']), default=usual.largest_cosine, metavar='C',
+           help='the same by its cosine, from 0.5 to 0.99')
+    add('--side-low', type=number_from(*RANGES['side_low']), default=usual.side_low, metavar='F',
+        help='a side node is looked for at this many times the size from the end of an edge at least, from 0.1 to 4; %(default)s if left out')
+    add('--side-high', type=number_from(*RANGES['side_high']), default=usual.side_high, metavar='F', help='and at most; %(default)s if left out')
+    add('--pairs', type=number_from(*RANGES['pairs'], int), default=usual.pairs, metavar='N',
+        help='pairs of side nodes tried for an edge, from 1 to 64; %(default)s if left out')
+
+
+def quality_of(options):
+    from .front import Quality
+    return Quality(options.least_jacobian, options.largest_cosine, options.side_low, options.side_high, options.pairs)
+
+
 def check_folders(options):
     """That the files to write can be, before a long run."""
     from .surfaces import Fault
@@ -70,7 +119,12 @@ def arguments(words):
     add('--jobs', type=count_of, metavar='N', help='parts run at once; all cores if left out')
     add('-q', '--quiet', action='store_true', help='no summary on standard output')
     add('--version', action='version', version='sedgepick-mesh ' + VERSION)
-    return parser.parse_args(words)
+    quality_options(parser)
+    options = parser.parse_args(words)
+    if options.side_low > options.side_high:
+        parser.error('--side-low %g is above --side-high %g' % (options.side_low, options.side_high))
+    options.quality = quality_of(options)
+    return options
 
 
 def main(words=None):
@@ -130,7 +184,7 @@ def meshed(job):
     job.given_components = int(quality.components(cells).max()) + 1
     edges, nodes = losses.hard(surface)
     hard = slits.hard_edges(surface.points, cells, edges, nodes) if not job.options.free else []
-    job.result = parts.run(surface.points, cells, job.options.size, job.options.stop, hard, progress, job.options.jobs)
+    job.result = parts.run(surface.points, cells, job.options.size, job.options.stop, hard, progress, job.options.jobs, job.options.quality)
     added, z = job.result.added, surface.points[cells[0, 0], 2]
     job.points = numpy.concatenate([surface.points, numpy.column_stack([added, numpy.full(len(added), z)])])
     *job.areas, job.cuts = losses.verify(surface, job.points, job.result)

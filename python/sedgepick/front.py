@@ -1,5 +1,5 @@
-"""One call of `sedgepick_run_front`, with the memory that it needs."""
-import ctypes
+"""One call of `sedgepick_run_front_with`, with the memory that it needs."""
+import ctypes, math
 from array import array
 from dataclasses import dataclass
 from . import library
@@ -17,8 +17,10 @@ FAR = 8.0              # x and y are within it
 LEAST_SIZE = 1 / 64
 LARGEST_SIZE = 8.0
 EXHAUST, EVEN_COMPONENTS = 0, 1
+# what the numbers of a quality set may be, the bounds included
+RANGES = {'least_jacobian': (0.0, 1.0), 'largest_cosine': (0.5, 0.99), 'side_low': (0.1, 4.0), 'side_high': (0.1, 4.0), 'pairs': (1, 64)}
 
-NO_POINT, NO_SLOTS = 8, 9
+NO_POINT, NO_SLOTS, BAD_QUALITY = 8, 9, 14
 NO_NODE = 2 ** 32 - 1  # stands for every number that the library's words cannot hold; it names no point and no rule
 
 REFUSALS = {
@@ -31,16 +33,44 @@ REFUSALS = {
     7: 'x or y is not finite or is beyond 8 in magnitude',
     8: 'the run inserts a point, and the point capacity is used up',
     9: 'the run needs a slot, and none is free',
+    14: 'a quality number is out of its range or is a NaN, or the low side factor is above the high one',
 }
 
 
 class Refused(Exception):
-    """The library refused the call: `number`, from 1 to 9, and its `words`."""
+    """The library refused the call: its `number`, a key of REFUSALS, and its `words`."""
 
-    def __init__(self, number):
+    def __init__(self, number, words=None):
         self.number = number
-        self.words = REFUSALS.get(number, 'a number that is not known')
+        self.words = words or REFUSALS.get(number, 'a number that is not known')
         super().__init__('refused with %d: %s' % (number, self.words))
+
+
+@dataclass(frozen=True)
+class Quality:
+    """What a quad is held to, and what is tried for it; without arguments the standard set. A set that the library would refuse raises Refused, with 14."""
+    least_jacobian: float = 0.3              # least scaled Jacobian of a quad: 0 to 1
+    largest_cosine: float = 0.90630778703665  # largest cosine of a corner: 0.5 to 0.99; this one is that of 25 degrees
+    side_low: float = 0.5                    # a side node is looked for at 0.5 to 2.2 times the target: 0.1 to 4
+    side_high: float = 2.2
+    pairs: int = 8                           # pairs of side nodes tried for an edge: 1 to 64
+
+    def __post_init__(self):
+        for name, (low, high) in RANGES.items():
+            value = getattr(self, name)
+            if not low <= value <= high or name == 'pairs' and int(value) != value:
+                raise Refused(BAD_QUALITY, '%s is %r; it is %sfrom %g to %g' % (name, value, 'a whole number ' if name == 'pairs' else '', low, high))
+        if self.side_low > self.side_high:
+            raise Refused(BAD_QUALITY, 'side_low, %r, is above side_high, %r' % (self.side_low, self.side_high))
+
+    def least_angle(self):
+        """The angle of the largest cosine, in degrees."""
+        return math.degrees(math.acos(self.largest_cosine))
+
+
+def cosine_of(degrees):
+    """The cosine for a least angle, to 14 decimals, as that of the standard set."""
+    return round(math.cos(math.radians(degrees)), 14)
 
 
 @dataclass
@@ -76,9 +106,10 @@ class Call:
     slots: int
     size: float
     stop: int
+    quality: Quality = Quality()
 
 
-def run_front(points, triangles, size, stop=EXHAUST, capacity=None, slots=None):
+def run_front(points, triangles, size, stop=EXHAUST, capacity=None, slots=None, quality=Quality()):
     """Pairs the triangles over the points into quads.
 
     points     x and y, or x, y and z, of each; x and y within 8 of zero, z is carried and never read
@@ -86,13 +117,14 @@ def run_front(points, triangles, size, stop=EXHAUST, capacity=None, slots=None):
     size       target length of an edge: 0 for none, otherwise from 1/64 to 8
     stop       0: go on while an edge of the front is open; 1: and keep components even
     capacity, slots  what is lent at first; where it runs out (8, 9) the run is made again with twice as much, up to the limits
+    quality    what quads are held to: a Quality; the standard set if left out
 
     The result does not depend on what is lent. Raises Refused, ValueError for lists of another shape, NoLibrary."""
-    run = library.load().sedgepick_run_front
+    run = library.load().sedgepick_run_front_with
     given, count = len(points), len(triangles)
     flat_points, flat_triangles = doubles(points), node_numbers(triangles)
     call = Call(given, first(capacity, given + given // 4 + 32, given, MOST_CAPACITY), count, first(slots, 2 * count + 64, count, MOST_SLOTS),
-                float(size), stop if isinstance(stop, int) and 0 <= stop < NO_NODE else NO_NODE)
+                float(size), stop if isinstance(stop, int) and 0 <= stop < NO_NODE else NO_NODE, quality)
     while True:
         refusal, mesh = attempt(run, flat_points, flat_triangles, call)
         if refusal == NO_POINT and call.capacity < MOST_CAPACITY:
@@ -121,8 +153,10 @@ def attempt(run, points, triangles, call):
     quads, left, components, work = ((ctypes.c_uint32 * n)() for n in (4 * slots, 3 * slots, slots, 64 * slots + 8 * capacity))
     float_work = (ctypes.c_double * (4 * slots))()
     answer = (ctypes.c_size_t * 13)()
+    q = call.quality
     refusal = run(xyz, len(xyz), given, len(triangles), quads, len(quads), left, len(left), components, len(components), work, len(work),
-                  float_work, len(float_work), call.given, call.capacity, call.count, call.slots, call.size, call.stop, answer, len(answer))
+                  float_work, len(float_work), call.given, call.capacity, call.count, call.slots, call.size, call.stop,
+                  q.least_jacobian, q.largest_cosine, q.side_low, q.side_high, int(q.pairs), answer, len(answer))
     if refusal:
         return refusal, None
     lengths = answer[9:]

@@ -14,8 +14,9 @@ DOUBLES = ctypes.POINTER(ctypes.c_double)
 NUMBERS = ctypes.POINTER(ctypes.c_uint32)
 SIZES = ctypes.POINTER(ctypes.c_size_t)
 LENGTH = ctypes.c_size_t
+REAL = ctypes.c_double
 RUN_FRONT = [DOUBLES, LENGTH, NUMBERS, LENGTH, NUMBERS, LENGTH, NUMBERS, LENGTH, NUMBERS, LENGTH, NUMBERS, LENGTH, DOUBLES, LENGTH,
-             LENGTH, LENGTH, LENGTH, LENGTH, ctypes.c_double, ctypes.c_uint32, SIZES, LENGTH]
+             LENGTH, LENGTH, LENGTH, LENGTH, REAL, ctypes.c_uint32, REAL, REAL, REAL, REAL, LENGTH, SIZES, LENGTH]
 
 loaded = None
 loading = threading.Lock()
@@ -55,8 +56,8 @@ def opened():
                         % (SONAME, ', '.join(places()), VARIABLE))
     try:
         library = ctypes.CDLL(path)
-        library.sedgepick_run_front.argtypes = RUN_FRONT
-        library.sedgepick_run_front.restype = LENGTH
+        library.sedgepick_run_front_with.argtypes = RUN_FRONT
+        library.sedgepick_run_front_with.restype = LENGTH
     except (OSError, AttributeError) as error:
         raise NoLibrary('%s does not load: %s' % (path, error))
     return library

@@ -8,7 +8,7 @@ from dataclasses import dataclass
 import numpy
 from . import quality
 from .fitting import fit
-from .front import LARGEST_SIZE, LEAST_SIZE, MOST_GIVEN
+from .front import LARGEST_SIZE, LEAST_SIZE, MOST_GIVEN, Quality
 from .sizes import best_run
 from .slits import opened
 from .surfaces import Fault
@@ -84,7 +84,7 @@ def halved(points, triangles, part):
     return numpy.unique(part, return_inverse=True)[1]
 
 
-def run(points, triangles, size, stop, hard=(), progress=None, jobs=None):
+def run(points, triangles, size, stop, hard=(), progress=None, jobs=None, quality=Quality()):
     """Meshes the triangles, slit along the hard edges, in parts where there are too many, on all cores; each part is fitted into the library's range by
     itself."""
     given = len(points)
@@ -98,7 +98,7 @@ def run(points, triangles, size, stop, hard=(), progress=None, jobs=None):
         own = triangles[part == which]
         nodes = numpy.unique(own)
         placed = fit(points[nodes])
-        taken, mesh = best_run(placed.there(points[nodes]), numpy.searchsorted(nodes, own), scaled(size, placed), stop)
+        taken, mesh = best_run(placed.there(points[nodes]), numpy.searchsorted(nodes, own), scaled(size, placed), stop, quality)
         return nodes, taken / placed.scale, mesh, placed.back(mesh.points[len(nodes):]), (placed.rounded(points[nodes]), placed.rounded_back(mesh.points[len(nodes):]))
 
     with ThreadPoolExecutor(jobs or os.cpu_count() or 1) as pool:

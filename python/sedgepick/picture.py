@@ -4,8 +4,8 @@ import math
 from dataclasses import dataclass
 import numpy
 
-# quads: classes of a tenth from 0.3, the least that a run takes; the better the lighter
-QUADS = [(0.3, '#254f9c'), (0.4, '#2176b4'), (0.5, '#2f9ec2'), (0.6, '#5bbfc0'), (0.7, '#97d6b9'), (0.8, '#d3edb3'), (0.9, '#ffffd9')]
+# quads: classes of a tenth; the better the lighter. Those below 0.3, the least that a run takes where it is not set, are listed only where there are such
+QUADS = [(0.0, '#0b1238'), (0.1, '#131f57'), (0.2, '#1b3479'), (0.3, '#254f9c'), (0.4, '#2176b4'), (0.5, '#2f9ec2'), (0.6, '#5bbfc0'), (0.7, '#97d6b9'), (0.8, '#d3edb3'), (0.9, '#ffffd9')]
 # triangles: degrees; the thinner the redder
 TRIANGLES = [(0, '#b10026'), (5, '#e31a1c'), (10, '#fd8d3c'), (20, '#fdbe85'), (30, '#d9d9d9')]
 INK, GREY, LOST = '#1a1a1a', '#666666', '#9e0dd3'
@@ -122,7 +122,7 @@ def legend(mesh, left, step, scale, lines):
     y = TOP + 12
     rows = [('Quads by scaled Jacobian', None, None)]
     counts = numpy.bincount([colour(QUADS, v) for v in mesh.jacobians], minlength=len(QUADS))
-    rows += [('%.1f to %.1f' % (least, least + 0.1), fill, counts[i]) for i, (least, fill) in reversed(list(enumerate(QUADS)))]
+    rows += [('%.1f to %.1f' % (least, least + 0.1), fill, counts[i]) for i, (least, fill) in reversed(list(enumerate(QUADS))) if least >= 0.3 or counts[i]]
     rows += [('', None, None), ('Triangles by least angle', None, None)]
     counts = numpy.bincount([colour(TRIANGLES, v) for v in mesh.angles], minlength=len(TRIANGLES))
     ends = [least for least, _ in TRIANGLES[1:]] + [60]

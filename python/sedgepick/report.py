@@ -3,6 +3,7 @@ from dataclasses import dataclass
 from html import escape
 import meshio, numpy
 from . import library, picture, quality
+from .front import Quality
 
 WORST = 10   # cells that a list names
 LISTED = 50  # lost edges or points that a list names
@@ -67,7 +68,8 @@ def sections(job):
     return [
         ('Run', [('file', surface.name), ('given', '%d triangles, %d nodes' % (len(surface.triangles.cells), len(numpy.unique(surface.triangles.cells)))),
                  ('size', ('auto: ' if job.options.size is None else '') + (sizes[0] if len(sizes) == 1 else '%s to %s, part by part' % (sizes[0], sizes[-1]))),
-                 ('stop rule', job.options.stop), ('parts', '%d (%s), %d edges between them, all found' % (len(result.sizes), result.cutter, job.cuts)),
+                 ('stop rule', job.options.stop), ('quality', quality_words(job.options.quality)),
+                 ('parts', '%d (%s), %d edges between them, all found' % (len(result.sizes), result.cutter, job.cuts)),
                  ('coordinates rounded', '%d of given nodes on their way to the library, %d of added ones on their way back' % result.rounded),
                  ('library', 'sedgepick %s' % library.VERSION), ('commit', library.commit()), ('meshio', meshio.__version__), ('seconds', '%.1f' % job.seconds)]),
         ('Result', counted),
@@ -82,6 +84,11 @@ def sections(job):
     ], Drawn(points[:, :2], result.quads, result.triangles, jacobians, angles, [row[:2] for row in quad_rows[:5] + triangle_rows[:5]],
              [points[nodes, :2] for loss in job.losses for nodes in loss.lost if numpy.ndim(nodes)],
              [points[nodes, :2] for loss in job.losses for nodes in loss.lost if not numpy.ndim(nodes)])
+
+
+def quality_words(q):
+    return ('scaled Jacobian at least %.6g, angle at least %.6g degrees (cosine at most %.14g), side nodes at %.6g to %.6g sizes, %d pairs%s'
+            % (q.least_jacobian, q.least_angle(), q.largest_cosine, q.side_low, q.side_high, q.pairs, ' (the standard set)' if q == Quality() else ''))
 
 
 def at(points, nodes):

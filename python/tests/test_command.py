@@ -151,6 +151,39 @@ class Options(Case):
         self.assertEqual(self.run_command(given, '-o', self.out, '--size', 'small').returncode, 2)
         self.assertEqual(self.run_command(given, '-o', self.out, '--stop', '2').returncode, 2)
 
+    def test_quality(self):
+        given = os.path.join(FILES, 'l-slab-41.msh')
+        report = self.path('r.txt')
+        for words, cosine, sine in ((['--least-angle', '55'], 0.5736, 0.3), (['--least-jacobian', '0.9'], 0.9064, 0.9), (['--largest-cosine', '0.5'], 0.5, 0.3)):
+            with self.subTest(words):
+                self.good(given, '-o', self.out, '--report', report, *words)
+                mesh, quads, _ = self.mesh()
+                quads = numpy.array(quads)
+                self.assertGreater(len(quads), 0)
+                self.assertGreaterEqual(quality.scaled_jacobians(mesh.points, quads).min(), sine - 1e-9)
+                self.assertGreaterEqual(quality.least_angles(mesh.points, quads).min(), numpy.degrees(numpy.arccos(cosine + 1e-4)))
+                with open(report) as file:
+                    self.assertRegex(file.read(), r'quality +scaled Jacobian at least .* pairs\n')
+        self.good(given, '-o', self.out, '--report', report, '--least-angle', '25', '--pairs', '8')
+        _, quads, triangles = self.mesh()
+        self.assertEqual((len(quads), len(triangles)), (68, 10))
+        with open(report) as file:
+            self.assertIn('(the standard set)', file.read())
+
+    def test_quality_out_of_range(self):
+        given = os.path.join(FILES, 'l-slab-41.msh')
+        for pattern, *words in (('--least-jacobian: 1.5 is out of range: from 0 to 1', '--least-jacobian', '1.5'),
+                                ('--least-angle: 61 is out of range: from 8.11 to 60 degrees', '--least-angle', '61'),
+                                ('--least-angle: 8.1 is out of range', '--least-angle', '8.1'),
+                                ('--largest-cosine: nan is out of range: from 0.5 to 0.99', '--largest-cosine', 'nan'),
+                                ('--pairs: 65 is out of range: from 1 to 64', '--pairs', '65'), ("--pairs: '8.5' is not a whole number", '--pairs', '8.5'),
+                                ('--side-low 3 is above --side-high 2.2', '--side-low', '3'), ('not allowed with', '--least-angle', '30', '--largest-cosine', '0.8')):
+            with self.subTest(words):
+                ran = self.run_command(given, '-o', self.out, *words)
+                self.assertEqual(ran.returncode, 2)
+                self.assertRegex(ran.stderr, pattern)
+                self.assertFalse(os.path.exists(self.out))
+
     def test_version_and_help(self):
         self.assertRegex(self.good('--version').stdout, r'sedgepick-mesh \d')
         self.assertIn('--size', self.good('--help').stdout)

@@ -1,4 +1,4 @@
-"""Tests of the Python package: run_front, its memory, refusals, threads."""
+"""Tests of the Python package: run_front, its memory, quality sets, refusals, threads."""
 import math, os, random, subprocess, sys, threading, time, unittest
 from common import PACKAGES, ROOT, grid, make_library
 import sedgepick
@@ -79,6 +79,64 @@ class Runs(unittest.TestCase):
         self.assertEqual(content(mesh), content(sedgepick.run_front(points, triangles, 0.5)))
 
 
+def corners(mesh):
+    """Cosine and sine at each corner of the quads."""
+    points = [tuple(map(float, p)) for p in mesh.points]
+    for quad in plain(mesh.quads):
+        for i in range(4):
+            here, after, before = (points[quad[j % 4]] for j in (i, i + 1, i + 3))
+            u, v = (after[0] - here[0], after[1] - here[1]), (before[0] - here[0], before[1] - here[1])
+            lengths = math.hypot(*u) * math.hypot(*v)
+            yield (u[0] * v[0] + u[1] * v[1]) / lengths, (u[0] * v[1] - u[1] * v[0]) / lengths
+
+
+class Qualities(unittest.TestCase):
+    def test_standard(self):
+        points, triangles = shaken(2)
+        standard = sedgepick.Quality(0.3, sedgepick.cosine_of(25), 0.5, 2.2, 8)
+        self.assertEqual(standard, sedgepick.Quality())
+        self.assertEqual(content(sedgepick.run_front(points, triangles, 0.5, quality=standard)), content(sedgepick.run_front(points, triangles, 0.5)))
+
+    def test_others_are_kept(self):
+        points, triangles = shaken(2)
+        usual = sedgepick.run_front(points, triangles, 0.5)
+        for quality in (sedgepick.Quality(largest_cosine=sedgepick.cosine_of(60)), sedgepick.Quality(least_jacobian=0.9), sedgepick.Quality(pairs=1),
+                        sedgepick.Quality(least_jacobian=0, largest_cosine=0.99, side_low=0.1, side_high=4, pairs=64)):
+            mesh = sedgepick.run_front(points, triangles, 0.5, quality=quality)
+            self.assertGreater(len(mesh.quads), 0)
+            self.assertNotEqual(plain(mesh.quads), plain(usual.quads), quality)
+            for cosine, sine in corners(mesh):
+                self.assertLessEqual(cosine, quality.largest_cosine + 1e-9)
+                self.assertGreaterEqual(sine, quality.least_jacobian - 1e-9)
+
+    def test_refused_before_a_call(self):
+        beyond = lambda low, high: (math.nextafter(low, -1), math.nextafter(high, 9), math.nan, math.inf, -math.inf)
+        for name, (low, high) in sedgepick.RANGES.items():
+            wide = {} if name != 'side_low' else {'side_high': 4.0}
+            wide.update({'side_low': 0.1} if name == 'side_high' else {})
+            for value in (low, high):
+                sedgepick.Quality(**{**wide, name: value})
+            for value in beyond(low, high) if name != 'pairs' else (0, 65, 8.5, 2 ** 70):
+                with self.assertRaises(sedgepick.Refused) as caught:
+                    sedgepick.Quality(**{**wide, name: value})
+                self.assertEqual(caught.exception.number, 14)
+                self.assertIn(name, str(caught.exception))
+        sedgepick.Quality(least_jacobian=-0.0, side_low=2.2)
+        with self.assertRaises(sedgepick.Refused) as caught:
+            sedgepick.Quality(side_low=math.nextafter(2.2, 3))
+        self.assertIn('above side_high', str(caught.exception))
+
+    def test_refused_by_the_library(self):
+        """A set that is not tested beforehand: 14 comes straight after 3."""
+        class Set:
+            least_jacobian, largest_cosine, side_low, side_high, pairs = 0.3, math.nan, 0.5, 2.2, 8
+        for size, stop, number in ((9.0, 2, 2), (1.0, 2, 3), (1.0, 0, 14)):
+            call = front.Call(4, 4, 2, 8, size, stop, Set)
+            refusal, _ = front.attempt(library.load().sedgepick_run_front_with, front.doubles(SQUARE), front.node_numbers([(0, 1, 1)]), call)
+            self.assertEqual(refusal, number)
+        self.assertIn(14, sedgepick.REFUSALS)
+
+
 class Refusals(unittest.TestCase):
     def refused(self, number, *call):
         with self.assertRaises(sedgepick.Refused) as caught:
@@ -149,7 +207,7 @@ class Threads(unittest.TestCase):
         ticker = threading.Thread(target=tick)
         ticker.start()
         begin = time.perf_counter()
-        front.attempt(library.load().sedgepick_run_front, front.doubles(points), front.node_numbers(triangles),
+        front.attempt(library.load().sedgepick_run_front_with, front.doubles(points), front.node_numbers(triangles),
                       front.Call(len(points), 8192, len(triangles), 16384, 0.25, 0))
         end = time.perf_counter()
         done.set()

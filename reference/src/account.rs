@@ -2,7 +2,7 @@
 //! speaks of exact arithmetic.
 
 use crate::input::{Input, Lent, UNBOUNDED};
-use crate::patched::FrontResult;
+use crate::patched::{FrontResult, Quality, STANDARD};
 use crate::random::Random;
 
 /// Sizes of the components, descending: triangles with two nodes in common belong
@@ -50,7 +50,9 @@ pub fn check(input: &Input, r: &FrontResult) {
         );
         assert_eq!(added[2].to_bits(), 0, "an added z");
     }
-    r.quads.iter().for_each(|q| check_quad(r, q));
+    r.quads
+        .iter()
+        .for_each(|q| check_quad(r, &input.quality, q));
     assert_eq!(r.region_components, components(&r.triangles), "components");
     assert_eq!(
         r.region_components.iter().sum::<usize>(),
@@ -63,8 +65,9 @@ pub fn check(input: &Input, r: &FrontResult) {
     }
 }
 
-/// Convex, counterclockwise, no corner under 24.99 degrees.
-fn check_quad(r: &FrontResult, quad: &[usize; 4]) {
+/// Convex and counterclockwise; no corner's cosine above the set's and 1e-9, which for document 01's is no corner
+/// under 24.99 degrees; the sine at no corner below the set's Jacobian but for rounding.
+fn check_quad(r: &FrontResult, set: &Quality, quad: &[usize; 4]) {
     for k in 0..4 {
         let at = |i: usize| r.points[quad[(k + i) % 4]];
         let (here, next, before) = (at(0), at(1), at(3));
@@ -73,10 +76,14 @@ fn check_quad(r: &FrontResult, quad: &[usize; 4]) {
         assert!(u[0] * v[1] - u[1] * v[0] > 5e-13, "a corner's turn");
         let dot = u[0] * v[0] + u[1] * v[1];
         let squares = (u[0] * u[0] + u[1] * u[1]) * (v[0] * v[0] + v[1] * v[1]);
+        let most = set.largest_cosine + 1e-9;
+        let most = if *set == STANDARD { 0.90638 } else { most };
         assert!(
-            dot <= 0.0 || dot * dot <= 0.90638 * 0.90638 * squares,
+            dot <= 0.0 || dot * dot <= most * most * squares,
             "a corner's angle"
         );
+        let sine = (u[0] * v[1] - u[1] * v[0]) / squares.sqrt();
+        assert!(sine >= set.least_jacobian - 1e-4, "a corner's Jacobian");
     }
 }
 

@@ -4,11 +4,11 @@ use std::collections::BTreeMap;
 use std::path::Path;
 
 use crate::generators::shape::Room;
-use crate::generators::{self, KINDS, TEXT};
+use crate::generators::{self, sets, KINDS, TEXT};
 use crate::input::{Input, UNBOUNDED};
 use crate::random::Random;
 use crate::{account, bare, damage, patched, published, text};
-use crate::{without_cosine, without_off_front, without_second_end};
+use crate::{without_cosine, without_off_front, without_quality, without_second_end};
 
 /// What two runs are compared by. `limit` is not of the published module.
 #[derive(PartialEq, Eq)]
@@ -164,6 +164,7 @@ struct Tally {
     by_attempts: usize,
     by_triangles: usize,
     short: usize,
+    sets: usize,
 }
 
 #[derive(Default)]
@@ -211,7 +212,12 @@ impl Comparison {
         if input.triangles.len() <= 64 && full.refusals.attempts < 400 && r.once_in(3) {
             tally.short += account::check_lent(&input, &full, &mut r);
         }
-        let whys = partings(&input, &ran!(patched, full));
+        if r.once_in(3) {
+            tally.sets += check_set(&input, &mut r);
+        }
+        let full = ran!(patched, full);
+        check_standard(&input, &full);
+        let whys = partings(&input, &full);
         if whys.is_empty() {
             tally.agree += 1;
         }
@@ -231,8 +237,8 @@ impl Comparison {
 
     /// A line a kind, then the sums. True when nothing parts but by the patches.
     pub fn print(&self) -> bool {
-        println!("kind runs refused agree cosine off_front both other second_counts second_triangles second_quads by_attempts by_triangles short_of_memory");
-        let mut sums = [0; 13];
+        println!("kind runs refused agree cosine off_front both other second_counts second_triangles second_quads by_attempts by_triangles short_of_memory sets");
+        let mut sums = [0; 14];
         for (kind, t) in &self.kinds {
             let of = |why| t.partings.get(&why).copied().unwrap_or(0);
             let row = [
@@ -249,6 +255,7 @@ impl Comparison {
                 t.by_attempts,
                 t.by_triangles,
                 t.short,
+                t.sets,
             ];
             println!("{kind} {}", row.map(|n| n.to_string()).join(" "));
             sums.iter_mut().zip(row).for_each(|(sum, n)| *sum += n);
@@ -287,6 +294,28 @@ fn check_text(input: &Input, r: &mut Random) {
     if let Some(other) = text::read(&broken) {
         assert_eq!(text::write(&other), broken, "two texts for one input");
     }
+}
+
+/// With document 01's set the module is the one without sets.
+fn check_standard(input: &Input, full: &Ran) {
+    let most = usize::MAX;
+    assert!(
+        run!(without_quality, input, most, most) == *full,
+        "document 01's set"
+    );
+}
+
+/// A run with another set keeps its account. Says how many runs were made.
+fn check_set(input: &Input, r: &mut Random) -> usize {
+    let input = Input {
+        quality: sets::good(r),
+        ..input.clone()
+    };
+    if input.triangles.len() > 64 {
+        return 0;
+    }
+    account::check(&input, &input.run_unchecked(UNBOUNDED));
+    1
 }
 
 /// Triangles, points and digits left out one by one while the runs still part so.
@@ -329,6 +358,6 @@ fn packed(input: &Input) -> Input {
     Input {
         points: kept.iter().map(|&v| input.points[v]).collect(),
         triangles: input.triangles.iter().map(|t| t.map(place)).collect(),
-        ..*input
+        ..input.clone()
     }
 }

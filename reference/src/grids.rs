@@ -44,6 +44,7 @@ fn grid(size: f64, stop: u32) -> Input {
         stop,
         triangles: rows(SQUARES).flat_map(|(i, j)| halves(i, j)).collect(),
         points: rows(SQUARES + 1).map(point).collect(),
+        ..Input::default()
     }
 }
 

@@ -1,15 +1,23 @@
-//! A call's numbers, and the refusals 1 to 7 that they meet before a run.
+//! A call's numbers, and the refusals 1 to 7 and 14 that they meet before a run.
 
 use crate::mesh::Node;
-use crate::patched::{self, FrontResult, FrontStop};
+use crate::patched::{self, FrontResult, FrontStop, Quality};
 
-/// What a call hands in. Floats are kept as their bits, so a NaN stays as read.
-#[derive(Clone, Debug, Default, PartialEq, Eq)]
+/// What a call hands in. Floats of the mesh are kept as their bits, so a NaN stays as read.
+#[derive(Clone, Debug, Default, PartialEq)]
 pub struct Input {
     pub size: u64,
     pub stop: u32,
+    pub quality: Quality,
     pub triangles: Vec<[u32; 3]>,
     pub points: Vec<[u64; 3]>,
+}
+
+/// Document 01's set.
+impl Default for Quality {
+    fn default() -> Self {
+        patched::STANDARD
+    }
 }
 
 /// Points and slots that the caller lends.
@@ -44,6 +52,26 @@ const LEAST_SIZE: f64 = 1.0 / 64.0;
 const MOST_SIZE: f64 = 8.0;
 const MOST_COORDINATE: f64 = 8.0;
 
+/// What the numbers of a quality set may be, the bounds included.
+pub const JACOBIANS: [f64; 2] = [0.0, 1.0];
+pub const COSINES: [f64; 2] = [0.5, 0.99];
+pub const FACTORS: [f64; 2] = [0.1, 4.0];
+pub const PAIRS: [usize; 2] = [1, 64];
+
+impl Quality {
+    /// Whether refusal 14 passes the set; a NaN is in no range.
+    pub fn is_good(&self) -> bool {
+        let within = |x: f64, [low, high]: [f64; 2]| low <= x && x <= high;
+        within(self.least_jacobian, JACOBIANS)
+            && within(self.largest_cosine, COSINES)
+            && within(self.side_low, FACTORS)
+            && within(self.side_high, FACTORS)
+            && self.side_low <= self.side_high
+            && PAIRS[0] <= self.pairs
+            && self.pairs <= PAIRS[1]
+    }
+}
+
 impl Input {
     pub fn size(&self) -> f64 {
         f64::from_bits(self.size)
@@ -65,31 +93,32 @@ impl Input {
         self.stop == 1
     }
 
-    /// The first of the conditions 1 to 7 that holds. The lent slices are as long
-    /// as `lent` states, so of 4 only the capacities are tested.
+    /// The first of the conditions of 1, 2, 3, 14, 4, 5, 6 and 7 that holds. The lent
+    /// slices are as long as `lent` states, so of 4 only the capacities are tested.
     pub fn refusal(&self, lent: Lent) -> Option<u32> {
         let (tris, given) = (self.triangles.len(), self.points.len());
+        let over = tris > MOST_GIVEN
+            || given > MOST_GIVEN
+            || lent.points > MOST_POINTS
+            || lent.slots > MOST_SLOTS;
+        let sized = self.size() == 0.0 || LEAST_SIZE <= self.size() && self.size() <= MOST_SIZE;
+        let mut nodes = self.triangles.iter().flatten();
+        let twice = |t: &[u32; 3]| t[0] == t[1] || t[1] == t[2] || t[0] == t[2];
+        let far = |p: &[u64; 3]| outside(p[0]) || outside(p[1]);
         let conditions = [
-            tris > MOST_GIVEN
-                || given > MOST_GIVEN
-                || lent.points > MOST_POINTS
-                || lent.slots > MOST_SLOTS,
-            !(self.size() == 0.0 || LEAST_SIZE <= self.size() && self.size() <= MOST_SIZE),
-            self.stop > 1,
-            lent.points < given || lent.slots < tris,
-            self.triangles
-                .iter()
-                .flatten()
-                .any(|&v| v as usize >= given),
-            self.triangles
-                .iter()
-                .any(|t| t[0] == t[1] || t[1] == t[2] || t[0] == t[2]),
-            self.points.iter().any(|p| outside(p[0]) || outside(p[1])),
+            (1, over),
+            (2, !sized),
+            (3, self.stop > 1),
+            (14, !self.quality.is_good()),
+            (4, lent.points < given || lent.slots < tris),
+            (5, nodes.any(|&v| v as usize >= given)),
+            (6, self.triangles.iter().any(twice)),
+            (7, self.points.iter().any(far)),
         ];
-        (1..).zip(conditions).find(|c| c.1).map(|c| c.0)
+        conditions.iter().find(|c| c.1).map(|c| c.0)
     }
 
-    /// The patched run, after the refusals 1 to 7.
+    /// The patched run, after the refusals before a run.
     pub fn run(&self, lent: Lent) -> Result<FrontResult, u32> {
         if let Some(number) = self.refusal(lent) {
             return Err(number);
@@ -101,7 +130,7 @@ impl Input {
         }
     }
 
-    /// The patched run of an input that 1 to 7 do not refuse.
+    /// The patched run of an input that is not refused before it.
     pub fn run_unchecked(&self, lent: Lent) -> FrontResult {
         let stop = if self.even() {
             FrontStop::EvenComponents
@@ -109,7 +138,15 @@ impl Input {
             FrontStop::Exhaust
         };
         let (tris, nodes) = (self.tris(), self.nodes());
-        patched::run_front(&tris, &nodes, self.size(), stop, lent.points, lent.slots)
+        patched::run_front(
+            &tris,
+            &nodes,
+            self.size(),
+            stop,
+            lent.points,
+            lent.slots,
+            self.quality,
+        )
     }
 }
 

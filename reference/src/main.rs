@@ -34,6 +34,7 @@ macro_rules! variant {
 variant!(bare, "/bare.rs");
 variant!(without_cosine, "/without_cosine.rs");
 variant!(without_off_front, "/without_off_front.rs");
+variant!(without_quality, "/without_quality.rs");
 variant!(without_second_end, "/without_second_end.rs");
 
 use std::io::{Error, Read, Result, Write};
@@ -44,6 +45,7 @@ const USAGE: &str = "usage:
   cases SEED COUNT DIR [KIND]              write texts with their answers
   call                                     answer the library's call on standard input
   calls SEED COUNT DIR                     write calls of the library with their answers
+  set-calls SEED COUNT DIR                 the same with quality sets
   meshes SEED TRIANGLES [DIR]              make large meshes, print their hashes
   grids                                    the hashes that the crate `replay` holds
   small                                    the hashes that the crate `acceptance` holds
@@ -127,6 +129,9 @@ fn command(words: &[&str]) -> Result<()> {
         }
         ["calls", seed, count, folder] => {
             call::calls(number(seed)?, number(count)?, Path::new(folder))
+        }
+        ["set-calls", seed, count, folder] => {
+            call::set_calls(number(seed)?, number(count)?, Path::new(folder))
         }
         ["meshes", seed, triangles] => {
             large::meshes(number(seed)?, number(triangles)? as usize, None)

@@ -196,6 +196,10 @@ pub struct CellMesh {
     /// 8 or 9 once they did not suffice: the run is over.
     want: Option<u32>,
     // end patch
+    // patch: quality
+    /// The set that the caller handed in.
+    quality: Quality,
+    // end patch
 }
 
 impl CellMesh {
@@ -226,6 +230,9 @@ impl CellMesh {
             capacity: usize::MAX,
             slots: usize::MAX,
             want: None,
+            // end patch
+            // patch: quality
+            quality: STANDARD,
             // end patch
         };
         for id in 0..mesh.cells.len() {
@@ -817,7 +824,10 @@ impl CellMesh {
         let region = self.live_region(
             seed,
             [origin[0], origin[1]],
-            (SIDE_MAX_FACTOR + 0.8) * target,
+            // patch: quality
+            // was:             (SIDE_MAX_FACTOR + 0.8) * target,
+            (self.quality.side_high + 0.8) * target,
+            // end patch
         );
         let mut nodes = HashSet::new();
         for &id in &region {
@@ -835,7 +845,10 @@ impl CellMesh {
             let q = self.points[v];
             let d = [q[0] - origin[0], q[1] - origin[1]];
             let dist = (d[0] * d[0] + d[1] * d[1]).sqrt();
-            if dist < SIDE_MIN_FACTOR * target || dist > SIDE_MAX_FACTOR * target {
+            // patch: quality
+            // was:             if dist < SIDE_MIN_FACTOR * target || dist > SIDE_MAX_FACTOR * target {
+            if dist < self.quality.side_low * target || dist > self.quality.side_high * target {
+                // end patch
                 continue;
             }
             let along = d[0] * n[0] + d[1] * n[1];
@@ -1249,6 +1262,27 @@ const MAX_QUAD_COSINE: f64 = 0.90630778703665;
 /// Number of best-scoring side pairs examined before the edge is declared
 /// failed. This is candidate selection among existing nodes, not insertion.
 const MAX_PAIR_TRIALS: usize = 8;
+// patch: quality
+
+/// The numbers that an office may set.
+#[derive(Clone, Copy, Debug, PartialEq)]
+pub struct Quality {
+    pub least_jacobian: f64,
+    pub largest_cosine: f64,
+    pub side_low: f64,
+    pub side_high: f64,
+    pub pairs: usize,
+}
+
+/// Document 01's set.
+pub const STANDARD: Quality = Quality {
+    least_jacobian: MIN_QUAD_SJ,
+    largest_cosine: MAX_QUAD_COSINE,
+    side_low: SIDE_MIN_FACTOR,
+    side_high: SIDE_MAX_FACTOR,
+    pairs: MAX_PAIR_TRIALS,
+};
+// end patch
 
 /// A node is never inserted closer than this fraction of the local size to an
 /// existing node: such a split creates an edge the quads cannot absorb.
@@ -1380,6 +1414,9 @@ pub fn run_front(
     stop: FrontStop,
     capacity: usize,
     slots: usize,
+    // patch: quality
+    quality: Quality,
+    // end patch
 ) -> FrontResult {
     // end patch
     let mut refusals = Refusals::default();
@@ -1387,6 +1424,9 @@ pub fn run_front(
     // patch: lent
     mesh.capacity = capacity;
     mesh.slots = slots;
+    // end patch
+    // patch: quality
+    mesh.quality = quality;
     // end patch
     let mut quads: Vec<[usize; 4]> = Vec::new();
     front_loop(&mut mesh, tris.len(), size, &mut quads, &mut refusals, stop);
@@ -1672,7 +1712,10 @@ fn try_quad(
             }
             // patch: cosine
             // was:             if sj < MIN_QUAD_SJ || angle < MIN_QUAD_ANGLE_DEG {
-            if sj < MIN_QUAD_SJ || k > MAX_QUAD_COSINE {
+            // patch: quality
+            // was:             if sj < MIN_QUAD_SJ || k > MAX_QUAD_COSINE {
+            if sj < mesh.quality.least_jacobian || k > mesh.quality.largest_cosine {
+                // end patch
                 // end patch
                 continue;
             }
@@ -1701,7 +1744,10 @@ fn try_quad(
     // seed triangle is looked up again inside the loop; a pair that no longer
     // encloses a region is simply skipped.
     let mut last = Refusal::Recovery;
-    for &(_, quad) in pairs.iter().take(MAX_PAIR_TRIALS) {
+    // patch: quality
+    // was:     for &(_, quad) in pairs.iter().take(MAX_PAIR_TRIALS) {
+    for &(_, quad) in pairs.iter().take(mesh.quality.pairs) {
+        // end patch
         let seed = mesh.tri_owner(edge.0, edge.1).ok_or(Refusal::Placement)?;
         let mut recovered = true;
         for (u, v) in [(quad[0], quad[3]), (quad[1], quad[2]), (quad[2], quad[3])] {

@@ -96,6 +96,7 @@ fn mesh(list: &[Triangle], points: u32, position: &[[f64; 2]], size: f64, stop: 
         stop,
         triangles: list.to_vec(),
         points: position[..points as usize].iter().map(bits).collect(),
+        ..Input::default()
     }
 }
 

@@ -11,10 +11,17 @@ fn without_its_patches_the_patched_module_is_the_published_one() {
     assert_eq!(marks::take_back(PATCHED, |_| true).unwrap(), PUBLISHED);
 }
 
-const NAMES: [&str; 5] = ["cosine", "limit", "off-front", "lent", "second-end"];
+const NAMES: [&str; 6] = [
+    "cosine",
+    "limit",
+    "off-front",
+    "lent",
+    "second-end",
+    "quality",
+];
 
 #[test]
-fn every_patch_is_one_of_five() {
+fn every_patch_is_one_of_six() {
     for name in marks::names(PATCHED) {
         assert!(NAMES.contains(&name));
     }
@@ -56,10 +63,59 @@ fn the_second_end_turns_right_and_nothing_else_changes() {
     );
 }
 
+/// The lines of one text that the other has not, in their order.
+fn fresh(text: &str, other: &str) -> Vec<String> {
+    let lines = text.lines().map(str::trim);
+    let mut rest: Vec<&str> = other.lines().map(str::trim).collect();
+    let mut out = Vec::new();
+    for line in lines {
+        match rest.iter().position(|l| *l == line) {
+            Some(place) => drop(rest.remove(place)),
+            None => out.push(line.to_string()),
+        }
+    }
+    out
+}
+
+#[test]
+fn the_set_stands_in_four_tests_and_nothing_else_changes() {
+    let new = marks::take_back(PATCHED, |_| false).unwrap();
+    let old = marks::take_back(PATCHED, |patch| patch == "quality").unwrap();
+    let tests = [
+        "(SIDE_MAX_FACTOR + 0.8) * target,",
+        "if dist < SIDE_MIN_FACTOR * target || dist > SIDE_MAX_FACTOR * target {",
+        "if sj < MIN_QUAD_SJ || k > MAX_QUAD_COSINE {",
+        "for &(_, quad) in pairs.iter().take(MAX_PAIR_TRIALS) {",
+    ];
+    assert_eq!(fresh(&old, &new), tests);
+    let read = |line: &&String| line.contains("quality.") && !line.starts_with("//");
+    let added = fresh(&new, &old);
+    let added: Vec<&String> = added.iter().filter(read).collect();
+    assert_eq!(
+        added,
+        [
+            "(self.quality.side_high + 0.8) * target,",
+            "if dist < self.quality.side_low * target || dist > self.quality.side_high * target {",
+            "if sj < mesh.quality.least_jacobian || k > mesh.quality.largest_cosine {",
+            "for &(_, quad) in pairs.iter().take(mesh.quality.pairs) {",
+        ]
+    );
+}
+
+#[test]
+fn a_patch_within_a_patch() {
+    let text = "// patch: a\n// was: 1\n// patch: b\n// was: 2\n3\n// end patch\n// end patch\n";
+    let taken = |names: &str| marks::take_back(text, |patch| names.contains(patch)).unwrap();
+    assert_eq!(
+        [taken(""), taken("b"), taken("a"), taken("ab")],
+        ["3\n", "2\n", "1\n", "1\n"]
+    );
+}
+
 #[test]
 fn the_patches_are_small() {
     let kept = marks::take_back(PATCHED, |_| false).unwrap();
-    assert!(kept.lines().count() < PUBLISHED.lines().count() + 80);
+    assert!(kept.lines().count() < PUBLISHED.lines().count() + 120);
 }
 
 #[test]

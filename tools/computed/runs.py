@@ -44,13 +44,13 @@ def call_theorem(name):
     slices = 'lent %s %s %%s %s %%s %%s' % (c['capacity'], c['slots'], numbers(c['triangles']))
     entry = slices % (numbers('0x' + w for w in c['given']), '[]', '5 nan')
     left = slices % (numbers('0x' + w for w in c['points']), numbers(c['quads']), '0 0·0')
-    asked = 'record { given = %d; capacity = %s; count = %d; slots = %s; size = f64 0x%s; stop = %s }' % (
+    asked = 'record { given = %d; capacity = %s; count = %d; slots = %s; size = f64 0x%s; stop = %s; quality = base }' % (
         len(c['given']) // 3, c['capacity'], len(c['triangles']) // 3, c['slots'], c['size'], c['stop'])
     return '''
 asked-%(n)s : Asked
 asked-%(n)s = %(asked)s
 
-%(n)s : call base asked-%(n)s (%(entry)s) ≡ record { answer = refusal %(number)s; lent = %(left)s }
+%(n)s : call asked-%(n)s (%(entry)s) ≡ record { answer = refusal %(number)s; lent = %(left)s }
 unfolding opened asked-%(n)s
 %(n)s = refl
 ''' % dict(n=name, asked=asked, entry=entry, left=left, number=c['refused'])

@@ -1,10 +1,11 @@
-"""The program's text: an input, a call of the library (an input after its capacities), an answer or a refusal."""
+"""The program's text: an input, a call of the library (an input after its capacities, and its quality set if it has one), an answer or a refusal."""
 import re, struct
 from mesh.lines import Fault
 from mesh.meshes import Mesh
 
 INPUT = 'triangles points size stop'
 CALL = 'capacity slots'
+QUALITY = 'least_jacobian largest_cosine side_low side_high pairs'
 COUNTS = 'front_empty attempts placement invalid_quad recovery region odd_region mismatch_insertions limit'
 LENGTHS = 'quads triangles points components'
 TRIANGLE = 'n0 n1 n2'
@@ -36,6 +37,7 @@ REFUSALS = {
     8: 'the run inserts a point, and the point capacity is used up',
     9: 'the run needs a slot, and none is free',
     10: 'the text is not in its form',
+    14: 'a quality number is out of its range or is a NaN, or the low side factor is above the high one',
 }
 
 
@@ -121,10 +123,22 @@ def read(source):
     if first == CALL:
         form.names(CALL)
         form.numbers(CALL)
+        set_of(form)
         return given(form)
     if first == INPUT:
         return given(form)
     source.fail(1, "should be '%s' (an input), '%s' (a call), '%s' (an answer) or '%s'" % (INPUT, CALL, COUNTS, REFUSED))
+
+
+def set_of(form):
+    """The quality set of a call, its four floats and the pairs; None where it names none."""
+    if form.lines[form.number:form.number + 1] != [QUALITY.encode()]:
+        return None
+    form.names(QUALITY)
+    *floats, pairs = words = form.line(QUALITY).split(b' ')
+    if len(words) != 5 or not all(BITS.fullmatch(word) for word in floats) or not pairs.isdigit():
+        form.fail('should be four floats of 16 lowercase hexadecimal digits and a count, parted by one space')
+    return (*map(double, floats), int(pairs))
 
 
 def given(form):

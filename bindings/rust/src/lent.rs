@@ -37,6 +37,36 @@ extern "C" {
         answer_len: usize,
     ) -> usize;
 
+    fn sedgepick_run_front_with(
+        points: *mut f64,
+        points_len: usize,
+        triangles: *const u32,
+        triangles_len: usize,
+        quads: *mut u32,
+        quads_len: usize,
+        triangles_out: *mut u32,
+        triangles_out_len: usize,
+        components: *mut u32,
+        components_len: usize,
+        work: *mut u32,
+        work_len: usize,
+        float_work: *mut f64,
+        float_work_len: usize,
+        given: usize,
+        capacity: usize,
+        count: usize,
+        slots: usize,
+        size: f64,
+        stop: u32,
+        least_jacobian: f64,
+        largest_cosine: f64,
+        side_low: f64,
+        side_high: f64,
+        pairs: usize,
+        answer: *mut usize,
+        answer_len: usize,
+    ) -> usize;
+
     fn sedgepick_filing_order(
         first_points: *const f64,
         first_points_len: usize,
@@ -88,6 +118,32 @@ impl Call {
     }
 }
 
+/// The numbers of a quality set. Any are safe: those that do not fit are refused as 14. `Quality` has only such as fit. `Default` is the standard set.
+#[derive(Clone, Copy, Debug, PartialEq)]
+pub struct Set {
+    /// The least scaled Jacobian of a quad, from 0 to 1.
+    pub least_jacobian: f64,
+    /// The largest cosine of a quad's corner, from 0.5 to 0.99.
+    pub largest_cosine: f64,
+    /// The distances at which side nodes are looked for, in target lengths, from 0.1 to 4.
+    pub side_low: f64,
+    pub side_high: f64,
+    /// The pairs of side nodes tried for an edge, from 1 to 64.
+    pub pairs: usize,
+}
+
+impl Default for Set {
+    fn default() -> Self {
+        Set {
+            least_jacobian: 0.3,
+            largest_cosine: 0.90630778703665,
+            side_low: 0.5,
+            side_high: 2.2,
+            pairs: 8,
+        }
+    }
+}
+
 /// The lent slices. Each may be longer than the call needs; what it holds beforehand does not matter, but for the given points.
 #[derive(Debug)]
 pub struct Memory<'a> {
@@ -117,7 +173,8 @@ pub struct Answer {
 
 /// Meshes the first `call.count` triangles, three node numbers each, over the first `call.given` points of the memory.
 ///
-/// Refusals 1 to 7 touch nothing. 8 and 9 leave the points added and the quads written before them, clear both work slices and touch nothing else.
+/// Refusals before a run (1 to 7, 14) touch nothing. 8 and 9 leave the points added and the quads written before them, clear both work slices and touch
+/// nothing else.
 pub fn run_front(triangles: &[u32], memory: Memory<'_>, call: Call) -> Result<Answer, Refusal> {
     let mut a = [0usize; ANSWER];
     // Each pointer comes with the length of its slice, the slices are exclusive or only read, and the function asks nothing else.
@@ -147,6 +204,54 @@ pub fn run_front(triangles: &[u32], memory: Memory<'_>, call: Call) -> Result<An
             a.len(),
         )
     };
+    answered(number, a)
+}
+
+/// The same with a quality set; with the standard one it is `run_front`.
+pub fn run_front_with(
+    triangles: &[u32],
+    memory: Memory<'_>,
+    call: Call,
+    set: Set,
+) -> Result<Answer, Refusal> {
+    let mut a = [0usize; ANSWER];
+    // As above.
+    let number = unsafe {
+        sedgepick_run_front_with(
+            memory.points.as_mut_ptr(),
+            memory.points.len(),
+            triangles.as_ptr(),
+            triangles.len(),
+            memory.quads.as_mut_ptr(),
+            memory.quads.len(),
+            memory.triangles.as_mut_ptr(),
+            memory.triangles.len(),
+            memory.components.as_mut_ptr(),
+            memory.components.len(),
+            memory.work.as_mut_ptr(),
+            memory.work.len(),
+            memory.float_work.as_mut_ptr(),
+            memory.float_work.len(),
+            call.given,
+            call.capacity,
+            call.count,
+            call.slots,
+            call.size,
+            call.stop,
+            set.least_jacobian,
+            set.largest_cosine,
+            set.side_low,
+            set.side_high,
+            set.pairs,
+            a.as_mut_ptr(),
+            a.len(),
+        )
+    };
+    answered(number, a)
+}
+
+/// What a number and the answer's slice stand for.
+fn answered(number: usize, a: [usize; ANSWER]) -> Result<Answer, Refusal> {
     if let Some(refusal) = Refusal::of_number(number) {
         return Err(refusal);
     }
@@ -187,7 +292,7 @@ pub struct Lent<'a> {
 
 /// How the first mesh stands to the second. A refusal, 1, 4, 5, 6 or 7, touches nothing; all tests of the first mesh come before those of the second.
 pub fn filing_order(first: Lent<'_>, second: Lent<'_>) -> Result<Ordering, Refusal> {
-    // As above; points and triangles are only read.
+    // As for a run; points and triangles are only read.
     let number = unsafe {
         sedgepick_filing_order(
             first.points.as_ptr(),

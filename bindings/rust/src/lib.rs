@@ -18,6 +18,21 @@
 //! # Ok::<(), Refusal>(())
 //! ```
 //!
+//! An office may hold its quads to other numbers:
+//!
+//! ```
+//! use sedgepick::{run_front_with, Options, Quality, Refusal};
+//!
+//! let points = [[0.0, 0.0, 0.0], [1.0, 0.0, 0.0], [1.5, 1.0, 0.0], [0.5, 1.0, 0.0]];
+//! let triangles = [[0, 1, 2], [0, 2, 3]];
+//! let usual = Options { size: 1.0, ..Options::default() };
+//! assert_eq!(run_front_with(&points, &triangles, &usual)?.quads.len(), 1);
+//! let quality = Quality::builder().least_jacobian(0.9).build()?;
+//! let strict = Options { quality, ..usual };
+//! assert_eq!(run_front_with(&points, &triangles, &strict)?.quads.len(), 0);
+//! # Ok::<(), Refusal>(())
+//! ```
+//!
 //! Meshes have an order of their own, in which an archive can keep them:
 //!
 //! ```
@@ -34,10 +49,12 @@
 
 mod filing;
 pub mod lent;
+mod quality;
 mod refusal;
 mod small;
 
 pub use filing::{filing_order, Filed};
+pub use quality::{Quality, QualityBuilder, COSINES, JACOBIANS, PAIRS, SIDES};
 pub use refusal::Refusal;
 pub use small::small_mesh;
 
@@ -56,6 +73,25 @@ pub enum Stop {
     Exhaust = 0,
     /// And a quad that would leave a component with an odd number of triangles is refused.
     EvenComponents = 1,
+}
+
+/// What a run goes by beside points and triangles. `Default` has no size, stop rule 0 and the standard quality set.
+#[derive(Clone, Copy, Debug, PartialEq)]
+pub struct Options {
+    /// The target length of an edge: 0 for none, otherwise from 1/64 to 8.
+    pub size: f64,
+    pub stop: Stop,
+    pub quality: Quality,
+}
+
+impl Default for Options {
+    fn default() -> Self {
+        Options {
+            size: 0.0,
+            stop: Stop::Exhaust,
+            quality: Quality::default(),
+        }
+    }
 }
 
 /// What a run counted. Attempts are quads, refused attempts and, where a limit ended the run, the one that passed it.
@@ -94,7 +130,7 @@ pub struct Mesh {
     pub counts: Counts,
 }
 
-/// Meshes the triangles over the points. `size` is the target length of an edge: 0 for none, otherwise from 1/64 to 8.
+/// Meshes the triangles over the points with the standard quality set. `size` is the target length of an edge: 0 for none, otherwise from 1/64 to 8.
 ///
 /// Where points or slots run out the run is made again with more, up to the limits, so that 8 and 9 come back only from a run that needs more than them.
 /// The result does not depend on how much was lent.
@@ -104,17 +140,32 @@ pub fn run_front(
     size: f64,
     stop: Stop,
 ) -> Result<Mesh, Refusal> {
+    let options = Options {
+        size,
+        stop,
+        ..Options::default()
+    };
+    run_front_with(points, triangles, &options)
+}
+
+/// The same with further options. Whatever the set, each quad is exactly convex and counterclockwise, and the exact cosine of each of its corners is at
+/// most the set's and 1e-9.
+pub fn run_front_with(
+    points: &[[f64; 3]],
+    triangles: &[[u32; 3]],
+    options: &Options,
+) -> Result<Mesh, Refusal> {
     let (given, count) = (points.len(), triangles.len());
     let mut call = Call {
         given,
         capacity: (given + given / 4 + 32).min(MOST_CAPACITY).max(given),
         count,
         slots: (2 * count + 64).min(MOST_SLOTS).max(count),
-        size,
-        stop: stop as u32,
+        size: options.size,
+        stop: options.stop as u32,
     };
     loop {
-        match attempt(points, triangles, call) {
+        match attempt(points, triangles, call, options) {
             Err(Refusal::NoPoint) if call.capacity < MOST_CAPACITY => {
                 call.capacity = (2 * call.capacity).min(MOST_CAPACITY)
             }
@@ -127,7 +178,12 @@ pub fn run_front(
 }
 
 /// One run, with as much memory as the call states.
-fn attempt(points: &[[f64; 3]], triangles: &[[u32; 3]], call: Call) -> Result<Mesh, Refusal> {
+fn attempt(
+    points: &[[f64; 3]],
+    triangles: &[[u32; 3]],
+    call: Call,
+    options: &Options,
+) -> Result<Mesh, Refusal> {
     // A call over the limits is refused before any memory is looked at.
     let over = call.given > MOST_GIVEN || call.count > MOST_GIVEN;
     let lend = if over {
@@ -152,7 +208,8 @@ fn attempt(points: &[[f64; 3]], triangles: &[[u32; 3]], call: Call) -> Result<Me
         work: &mut vec![0; lend.work_len()],
         float_work: &mut vec![0.0; lend.float_work_len()],
     };
-    let answer = lent::run_front(triangles.as_flattened(), memory, call)?;
+    let set = options.quality.set();
+    let answer = lent::run_front_with(triangles.as_flattened(), memory, call, set)?;
     components.truncate(answer.components);
     Ok(Mesh {
         points: xyz

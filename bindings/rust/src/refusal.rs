@@ -12,6 +12,8 @@ pub enum Refusal {
     BadSize = 2,
     /// The stop rule is neither 0 nor 1.
     BadStop = 3,
+    /// A number of the quality set is out of its range or is a NaN, or the low side factor is above the high one.
+    BadQuality = 14,
     /// A lent slice is shorter than stated, the capacity is below the given points, or the slots are below the triangles.
     TooShort = 4,
     /// A node number is not below the given points.
@@ -27,10 +29,11 @@ pub enum Refusal {
 }
 
 impl Refusal {
-    const ALL: [Refusal; 9] = [
+    const ALL: [Refusal; 10] = [
         Refusal::OverLimit,
         Refusal::BadSize,
         Refusal::BadStop,
+        Refusal::BadQuality,
         Refusal::TooShort,
         Refusal::UnknownNode,
         Refusal::RepeatedNode,
@@ -39,14 +42,14 @@ impl Refusal {
         Refusal::NoSlots,
     ];
 
-    /// The refusal's number, 1 to 9.
+    /// The refusal's number: 1 to 9, and 14.
     pub fn number(self) -> u32 {
         self as u32
     }
 
     /// The refusal of a number; `None` for every other number, also for the 0 of a finished run.
     pub fn of_number(number: usize) -> Option<Refusal> {
-        Self::ALL.get(number.checked_sub(1)?).copied()
+        Self::ALL.into_iter().find(|r| *r as usize == number)
     }
 
     /// The condition in words.
@@ -55,6 +58,7 @@ impl Refusal {
             Refusal::OverLimit => "over 4,096 triangles or given points, or over a capacity limit",
             Refusal::BadSize => "the size is neither zero nor from 1/64 to 8",
             Refusal::BadStop => "the stop rule is neither 0 nor 1",
+            Refusal::BadQuality => "a quality number is out of its range or is a NaN, or the low side factor is above the high one",
             Refusal::TooShort => "a lent slice is shorter than stated, the capacity is below the given points, or the slots are below the triangles",
             Refusal::UnknownNode => "a node number is not below the given points",
             Refusal::RepeatedNode => "a triangle has a node twice",

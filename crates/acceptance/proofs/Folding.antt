@@ -7,7 +7,7 @@ use native.Mathlib.Numerals.{add-one}
 use lib.ListN.{length, take}
 use lib.Seq.{take-all}
 use lib.Ieee.{Float, binary64, toBits}
-use Rattle.definition.specs.Call.{Lent, Returned, counts-of}
+use Rattle.definition.specs.Call.{Asked, Lent, Returned, counts-of}
 use Rattle.hashing.specs.Hash.{hash, word}
 use Rattle.mesher.specs.declared.Answer.{Answer}
 use Rattle.mesher.specs.Promise.{number-of, counts-in, lengths-in, Returns}
@@ -49,6 +49,10 @@ as-returned start h r x a exit is e f =
     f
     ∙ ap (λ (l : Lent). with-slices h (l .quads) (l .triangles-out) (l .components) (l .points)) (sym (is .lent))
     ∙ ap (λ k. with-slices k (x .lent .quads) (x .lent .triangles-out) (x .lent .components) (x .lent .points)) answer
+
+-- a call that states the same numbers
+pub stated-as : (l : Lent) {a b : Asked} {r : Answer} {exit : Lent} → a ≡ b → Returns (the-call a l) r exit → Returns (the-call b l) r exit
+stated-as l {r = r} {exit = exit} e is = subst (λ a. Returns (the-call a l) r exit) e is
 
 -- the call in setting s, with the points that were placed
 pub with-points : (given count : ℕ) (nodes : List ℕ) (s : ℕ) {points : List Float} {a : Answer} {exit : Lent} → points ≡ placed (coordinates (s / 16))

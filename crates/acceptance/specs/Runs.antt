@@ -7,13 +7,14 @@ use Rattle.definition.specs.Lists.{concat}
 use Rattle.definition.specs.Numbers.{base}
 use Rattle.definition.specs.Call.{Asked, Lent, Returned, call, onto}
 use Rattle.hashing.specs.Hash.{basis}
-use Rattle.mesher.specs.Promise.{asked-of, lent-of}
+use Rattle.refusals.specs.Stated.{asked-for}
+use Rattle.mesher.specs.Promise.{lent-of}
 use Rattle.acceptance.specs.Folded.{folded}
 use Rattle.acceptance.specs.Positions.{plus, coordinates, placed}
 
--- the definition's call, under the quality numbers of document 01
+-- the definition's call
 abbrev pub the-call : Asked → Lent → Returned
-the-call a l = call base a l
+the-call a l = call a l
 
 -- ---- setting s: ample and scarce memory change first, then the stop rule, the size and the position
 
@@ -29,9 +30,9 @@ slots s = getD (48 ∷ 9 ∷ []) (s % 2) 0
 unfoldable pub size : ℕ → Float
 size s = getD (plus 0 ∷ plus 4 ∷ plus 16 ∷ plus 48 ∷ []) (s / 4 % 4) nan
 
--- the stated numbers, for so many points and triangles
+-- the stated numbers, for so many points and triangles, with document 01's quality set
 unfoldable pub asked : ℕ → ℕ → ℕ → Asked
-asked given count s = asked-of given (capacity s) count (slots s) (size s) (s / 2 % 2)
+asked given count s = asked-for given (capacity s) count (slots s) (size s) (s / 2 % 2) base
 
 -- what a lent slice holds beforehand; no node has this number
 unfoldable pub unused : ℕ

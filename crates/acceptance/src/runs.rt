@@ -4,6 +4,7 @@ use crate::answers::mixed_slices;
 use crate::positions::placed;
 use hashing::BASIS;
 use mesher::run_front;
+use refusals::standard;
 ghost use mathlib.Core.Path.{_≡_};
 ghost use Rattle.acceptance.specs.Folded.{folded};
 ghost use Rattle.acceptance.specs.Runs.{returned, hashed};
@@ -41,6 +42,14 @@ fn mixed_run(start: u64, given: usize, list: Triangles, s: usize) -> u64
     let mut components = [UNUSED; 48];
     let mut work = [0u32; 3264];
     let mut floats = [0.0; 192];
+    let stated = standard(
+        given,
+        capacities[s % 2],
+        list.count,
+        slots[s % 2],
+        sizes[s / 4 % 4],
+        (s / 2 % 2) as u32,
+    );
     let a = run_front(
         &mut points,
         &triangles,
@@ -49,12 +58,7 @@ fn mixed_run(start: u64, given: usize, list: Triangles, s: usize) -> u64
         &mut components,
         &mut work,
         &mut floats,
-        given,
-        capacities[s % 2],
-        list.count,
-        slots[s % 2],
-        sizes[s / 4 % 4],
-        (s / 2 % 2) as u32,
+        stated,
     );
     let h = mixed_answer(start, a);
     mixed_slices(h, &quads, &out, &components, &points)

@@ -1,6 +1,6 @@
--- A call that finished: none of the conditions of 1 to 7 held, and its slices hold the run's result.
+-- A call that finished: no refusal's condition held, and its slices hold the run's result.
 use mathlib.Core.Path.{_≡_, refl, sym, ap, _∙_}
-use mathlib.Core.Bool.{Bool, false, _||_}
+use mathlib.Core.Bool.{Bool, true, false, _||_}
 use mathlib.Core.Logic.{inl, inr}
 use mathlib.Core.List.{List, _∷_}
 use mathlib.Core.Option.{none, some}
@@ -9,14 +9,13 @@ use Prim.Native.Nat.{ℕ, _+_, _*_, _≤_, _<_}
 use native.Mathlib.Omega.{arith}
 use lib.Dec.{eqb, leb, ltb}
 use lib.ListN.{length}
-use borrow.Author.Tests.{eqb-false, leb-false, ltb-false}
+use borrow.Author.Tests.{not-false, eqb-false, leb-false, ltb-false}
 use Rattle.definition.specs.Lists.{any, find, below}
-use Rattle.definition.specs.Numbers.{Quality}
 use Rattle.definition.specs.Counts.{Counts}
 use Rattle.definition.specs.Plane.{Node}
 use Rattle.definition.specs.Cells.{Tri, tri-nodes}
 use Rattle.definition.specs.Front.{Result, Outcome, ran, wanting, run-front}
-use Rattle.definition.specs.Call.{Asked, Lent, Lengths, finished, refusal, given-points, given-tris, first-points, first-tris, settings, conditions, slot-words, point-words, slot-floats, bad-size, too-short, unknown-node, twice, repeated-node, outside, far-point, lengths, written, untouched, after-run, call}
+use Rattle.definition.specs.Call.{Asked, Lent, Lengths, finished, refusal, given-points, given-tris, first-points, first-tris, settings, conditions, slot-words, point-words, slot-floats, bad-size, good-quality, bad-quality, too-short, unknown-node, twice, repeated-node, outside, far-point, lengths, written, untouched, after-run, call}
 use Rattle.laws.specs.Bools.{which, or-none}
 use Rattle.laws.specs.Lists.{In, none-in, known, numbers-length, table-length}
 use Rattle.account.specs.Triangles.{Distinct}
@@ -30,30 +29,30 @@ none-found p (y ∷ ys) e x i = elim (which (p y)) [
 ]
 
 -- the run behind a finished call
-pub record Behind (y : Quality) (a : Asked) (l : Lent) (c : Counts) (n : Lengths) : Type 0 where
+pub record Behind (a : Asked) (l : Lent) (c : Counts) (n : Lengths) : Type 0 where
   pub run : Result
-  pub ended : run-front (settings y a) (given-tris a l) (given-points a l) ≡ ran run
+  pub ended : run-front (settings a) (given-tris a l) (given-points a l) ≡ ran run
   pub counts-are : c ≡ run .counts
   pub lengths-are : n ≡ lengths run
-  pub exit : call y a l .lent ≡ written (run .points) (run .quads) (run .triangles) (run .sizes) l
+  pub exit : call a l .lent ≡ written (run .points) (run .quads) (run .triangles) (run .sizes) l
   pub passed : find (λ c. c .1) (conditions a l) ≡ none
 
-module _ (y : Quality) (a : Asked) (l : Lent) (c : Counts) (n : Lengths) where
-  call-runs : find (λ c. c .1) (conditions a l) ≡ none → call y a l ≡ after-run l (run-front (settings y a) (given-tris a l) (given-points a l))
+module _ (a : Asked) (l : Lent) (c : Counts) (n : Lengths) where
+  call-runs : find (λ c. c .1) (conditions a l) ≡ none → call a l ≡ after-run l (run-front (settings a) (given-tris a l) (given-points a l))
   unfolding call
   call-runs f = rw (f, call) refl
 
-  by-outcome : (o : Outcome) → find (λ c. c .1) (conditions a l) ≡ none → run-front (settings y a) (given-tris a l) (given-points a l) ≡ o
-      → after-run l o .answer ≡ finished c n → Behind y a l c n
+  by-outcome : (o : Outcome) → find (λ c. c .1) (conditions a l) ≡ none → run-front (settings a) (given-tris a l) (given-points a l) ≡ o
+      → after-run l o .answer ≡ finished c n → Behind a l c n
   unfolding after-run
   by-outcome (ran r) f e h = record { run = r; ended = e; counts-are = cc; lengths-are = cc; exit = ap (λ z. z .lent) (call-runs f ∙ ap (after-run l) e); passed = f }
   by-outcome (wanting w ps qs) f e h = absurd (let z : _≡_ {A = ℕ} 0 1 = cc in omega arith)
 
   -- a finished call has a run behind it
-  pub behind : call y a l .answer ≡ finished c n → Behind y a l c n
+  pub behind : call a l .answer ≡ finished c n → Behind a l c n
   unfolding call untouched
   behind h = elim (known (find (λ c. c .1) (conditions a l))) [
-    | inl f ↦ by-outcome (run-front (settings y a) (given-tris a l) (given-points a l)) f refl (sym (ap (λ z. z .answer) (call-runs f)) ∙ h)
+    | inl f ↦ by-outcome (run-front (settings a) (given-tris a l) (given-points a l)) f refl (sym (ap (λ z. z .answer) (call-runs f)) ∙ h)
     | inr f ↦
         let g : refusal (f .0 .0) ≡ finished c n = rw (f .1, call) at h in
         absurd (let z : _≡_ {A = ℕ} 0 1 = cc in omega arith)
@@ -70,9 +69,14 @@ module _ (a : Asked) (l : Lent) (passed : find (λ c. c .1) (conditions a l) ≡
   unfolding conditions
   sized = holds-not 2 (bad-size a) (inr (inl refl))
 
+  -- every number of the quality set is in its range
+  pub permitted : good-quality (a .quality) ≡ true
+  unfolding conditions bad-quality
+  permitted = not-false _ (holds-not 14 (bad-quality a) (inr (inr (inr (inl refl)))))
+
   long-enough : too-short a l ≡ false
   unfolding conditions
-  long-enough = holds-not 4 (too-short a l) (inr (inr (inr (inl refl))))
+  long-enough = holds-not 4 (too-short a l) (inr (inr (inr (inr (inl refl)))))
 
   -- some slice is shorter than it should be
   short-slice : Bool
@@ -111,12 +115,12 @@ module _ (a : Asked) (l : Lent) (passed : find (λ c. c .1) (conditions a l) ≡
   unfolding conditions unknown-node
   known-nodes t i v j =
       leb-false (a .given) v
-      (none-in (λ v. leb (a .given) v) (tri-nodes t) (none-in (λ t. any (λ v. leb (a .given) v) (tri-nodes t)) (given-tris a l) (holds-not 5 (unknown-node a l) (inr (inr (inr (inr (inl refl)))))) t i) v j)
+      (none-in (λ v. leb (a .given) v) (tri-nodes t) (none-in (λ t. any (λ v. leb (a .given) v) (tri-nodes t)) (given-tris a l) (holds-not 5 (unknown-node a l) (inr (inr (inr (inr (inr (inl refl))))))) t i) v j)
 
   three-nodes : (t : Tri) → In t (given-tris a l) → Distinct t
   unfolding conditions repeated-node twice
   three-nodes t i =
-      let h = or-none (eqb (t .n0) (t .n1) || eqb (t .n1) (t .n2)) (eqb (t .n0) (t .n2)) (none-in twice (given-tris a l) (holds-not 6 (repeated-node a l) (inr (inr (inr (inr (inr (inl refl))))))) t i) in
+      let h = or-none (eqb (t .n0) (t .n1) || eqb (t .n1) (t .n2)) (eqb (t .n0) (t .n2)) (none-in twice (given-tris a l) (holds-not 6 (repeated-node a l) (inr (inr (inr (inr (inr (inr (inl refl)))))))) t i) in
       let g = or-none (eqb (t .n0) (t .n1)) (eqb (t .n1) (t .n2)) (h .0) in
       record { d01 = eqb-false (t .n0) (t .n1) (g .0); d12 = eqb-false (t .n1) (t .n2) (g .1); d20 = λ e. eqb-false (t .n0) (t .n2) (h .1) (sym e) }
 
@@ -131,4 +135,4 @@ module _ (a : Asked) (l : Lent) (passed : find (λ c. c .1) (conditions a l) ≡
   -- the given points lie within the limit
   pub given-within : (p : Node) → In p (given-points a l) → outside p ≡ false
   unfolding conditions far-point
-  given-within p i = none-in outside (given-points a l) (holds-not 7 (far-point a l) (inr (inr (inr (inr (inr (inr (inl refl)))))))) p i
+  given-within p i = none-in outside (given-points a l) (holds-not 7 (far-point a l) (inr (inr (inr (inr (inr (inr (inr (inl refl))))))))) p i

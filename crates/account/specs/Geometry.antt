@@ -1,23 +1,24 @@
--- What is asked of exact geometry, and what follows: every point of a run lies within the limit, and every quad is convex, counterclockwise and wide enough.
+-- What is asked of exact geometry, and what follows: every point of a run lies within the limit, and every quad is convex and counterclockwise, with no corner sharper than the set allows.
 use mathlib.Core.Path.{_≡_, refl, sym, ap, _∙_, subst}
 use mathlib.Core.Bool.{true, false}
 use mathlib.Core.Logic.{inl, inr}
 use mathlib.Core.List.{List, [], _∷_}
 use Prim.Native.Nat.{ℕ, zero, suc, _<_}
 use lib.ListN.{length}
-use lib.Ieee.{Float, le, ofBits}
+use lib.Ieee.{Float, binary64, fits, le, ofBits}
 use Rattle.definition.specs.Floats.{_≼_, abs, f64, 0·0, 8·0}
-use Rattle.definition.specs.Numbers.{Settings, base, insert-shares, tiny-length}
+use Rattle.definition.specs.Numbers.{Quality, Settings, base, insert-shares, tiny-length}
 use Rattle.definition.specs.Plane.{Node, flat, point, point-strictly-inside, from-to, norm, dist, edge-length}
-use Rattle.definition.specs.Metrics.{corners, quad-metrics, passes}
+use Rattle.definition.specs.Metrics.{Corner, corners, quad-metrics, passes}
 use Rattle.definition.specs.Cells.{Tri, Quad, tri, Mesh, node-at, quad-nodes}
 use Rattle.definition.specs.Insertion.{holds, along}
 use Rattle.definition.specs.Attempt.{inward-normal, target-of}
 use Rattle.definition.specs.Front.{counting, Result, ran, new-mesh, start, result, run-front}
-use Rattle.definition.specs.Call.{Asked, bad-size, outside, most-coordinate}
-use Rattle.definition.specs.Exact.{Turns-left, Wide-enough}
-use Rattle.definition.specs.Account.{All, _∈_, quad-corners, Names-point}
+use Rattle.definition.specs.Call.{Asked, bad-size, good-quality, outside, most-coordinate}
+use Rattle.definition.specs.Exact.{Turns-left, Cosine-up-to, Wide-enough}
+use Rattle.definition.specs.Account.{All, _∈_, quad-corners, measures, Names-point}
 use Rattle.laws.specs.Lists.{In, all-from, all-at, in-either}
+use Rattle.exact.specs.Limits.{Limit}
 use Rattle.exact.specs.Theorems.{Within, within-finite}
 use Rattle.account.specs.Flips.{flip-points}
 use Rattle.account.specs.QuadKeeps.{replaced-points}
@@ -28,9 +29,13 @@ use Rattle.account.specs.Run.{Rule, run-ok}
 
 -- proved of the floats elsewhere
 pub record Geometry : Type 0 where
-  -- a quad whose metrics pass is exactly convex and counterclockwise, and no corner is under 24.99 degrees
-  pub passing : (a b c d : Node) → Within a → Within b → Within c → Within d → passes base (quad-metrics a b c d) ≡ true
-      → All Turns-left (corners a b c d) × All Wide-enough (corners a b c d)
+  -- a quad whose metrics pass a set is exactly convex and counterclockwise, and the exact cosine of each corner is at most the set's and 1e-9
+  pub passing : (y : Quality) → Limit (y .largest-cosine) → (a b c d : Node) → Within a → Within b → Within c → Within d → passes y (quad-metrics a b c d) ≡ true
+      → All Turns-left (corners a b c d) × All (Cosine-up-to (y .largest-cosine)) (corners a b c d)
+  -- as the largest cosine of a set in its ranges is one that may be asked for
+  pub limit : (y : Quality) → good-quality y ≡ true → fits binary64 (y .largest-cosine) ≡ true → Limit (y .largest-cosine)
+  -- by document 01's cosine no corner is under 24.99 degrees
+  pub wide : (t : Float) → t ≡ base .largest-cosine → (k : Corner) → Cosine-up-to t k → Wide-enough k
   -- a point on the normal of an edge a b, strictly inside a triangle t u v, is within the limit
   pub inside : (s : Settings) (asked : Asked) → s .size ≡ asked .size → bad-size asked ≡ false
       → (a b o t u v : Node) → Within a → Within b → Within o → Within t → Within u → Within v
@@ -97,20 +102,24 @@ module _ (geometry : Geometry) (s : Settings) (asked : Asked) (same : s .size �
 
 -- ---- one quad
 
--- a quad that was rated by points within the limit
-pub record Sound-quad (ps : List Node) (q : Quad) : Type 0 where
+-- a quad that passed the set by points within the limit
+pub record Sound-quad (y : Quality) (ps : List Node) (q : Quad) : Type 0 where
   pub names : All (Names-point ps) (quad-nodes q)
+  pub passing : passes y (measures ps q) ≡ true
   pub convex : All Turns-left (quad-corners ps q)
-  pub wide : All Wide-enough (quad-corners ps q)
+  pub cosines : All (Cosine-up-to (y .largest-cosine)) (quad-corners ps q)
+  pub wide : y .largest-cosine ≡ base .largest-cosine → All Wide-enough (quad-corners ps q)
 
 -- it has four of the points, is exactly convex and counterclockwise, and its corners are wide enough
-pub sound-quad : Geometry → (ps : List Node) (q : Quad) → All-within ps → Rated base ps q → Sound-quad ps q
-unfolding quad-corners
-sound-quad geometry ps q h r =
+pub sound-quad : Geometry → (y : Quality) → Limit (y .largest-cosine) → (ps : List Node) (q : Quad) → All-within ps → Rated y ps q → Sound-quad y ps q
+unfolding quad-corners measures
+sound-quad geometry y limit ps q h r =
     let at : (i : ℕ) → Within (point ps i) = point-within ps h in
-    let g = geometry .passing (point ps (q .n0)) (point ps (q .n1)) (point ps (q .n2)) (point ps (q .n3)) (at (q .n0)) (at (q .n1)) (at (q .n2)) (at (q .n3)) (r .passing) in
+    let g = geometry .passing y limit (point ps (q .n0)) (point ps (q .n1)) (point ps (q .n2)) (point ps (q .n3)) (at (q .n0)) (at (q .n1)) (at (q .n2)) (at (q .n3)) (r .passing) in
     record {
       names = all-from (quad-nodes q) (λ v i. (all-at (λ a. a < length ps) (quad-nodes q) (r .good .below) v i, within-finite (point ps v) (at v)));
+      passing = r .passing;
       convex = g .0;
-      wide = g .1;
+      cosines = g .1;
+      wide = λ e. all-from (quad-corners ps q) (λ k i. geometry .wide (y .largest-cosine) e k (all-at (Cosine-up-to (y .largest-cosine)) (quad-corners ps q) (g .1) k i));
     }

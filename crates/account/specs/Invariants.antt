@@ -5,7 +5,7 @@ use Prim.{absurd}
 use Prim.Native.Nat.{ℕ, _+_, _≤_}
 use native.Mathlib.Omega.{arith}
 use lib.ListN.{length}
-use Rattle.definition.specs.Numbers.{Quality, Settings}
+use Rattle.definition.specs.Numbers.{Settings}
 use Rattle.definition.specs.Counts.{Counts, Want}
 use Rattle.definition.specs.Plane.{Node, Edge}
 use Rattle.definition.specs.Cells.{Tri, Quad, Mesh, triangles}
@@ -125,11 +125,11 @@ left-fit s ts ps qs us w h a b e =
     (omega arith, omega arith)
 
 -- a finished call's lists fit the slices that the caller stated
-pub answer-fits : (y : Quality) (a : Asked) (l : Lent) (c : Counts) (n : Lengths) → call y a l .answer ≡ finished c n
-    → Lists-fit (settings y a) (n .points) (n .quads) (n .triangles) (n .components)
+pub answer-fits : (a : Asked) (l : Lent) (c : Counts) (n : Lengths) → call a l .answer ≡ finished c n
+    → Lists-fit (settings a) (n .points) (n .quads) (n .triangles) (n .components)
 unfolding settings lengths
-answer-fits y a l c n e =
-    let b = behind y a l c n e in
-    let w = lists-fit (settings y a) (given-tris a l) (given-points a l) (b .run) (given-proper a l (b .passed))
+answer-fits a l c n e =
+    let b = behind a l c n e in
+    let w = lists-fit (settings a) (given-tris a l) (given-points a l) (b .run) (given-proper a l (b .passed))
     (omega (arith, points-number a l (b .passed), given-fit a l (b .passed))) (omega (arith, tris-number a l (b .passed), slots-fit a l (b .passed))) (b .ended) in
-    subst (λ k. Lists-fit (settings y a) (k .points) (k .quads) (k .triangles) (k .components)) (sym (b .lengths-are)) w
+    subst (λ k. Lists-fit (settings a) (k .points) (k .quads) (k .triangles) (k .components)) (sym (b .lengths-are)) w

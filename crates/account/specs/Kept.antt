@@ -5,7 +5,7 @@ use mathlib.Core.List.{List}
 use Prim.Native.Nat.{ℕ}
 use lib.ListN.{length}
 use borrow.Author.Tests.{eq-eqb}
-use Rattle.definition.specs.Numbers.{base}
+use Rattle.definition.specs.Numbers.{Quality}
 use Rattle.definition.specs.Counts.{Counts}
 use Rattle.definition.specs.Plane.{Node}
 use Rattle.definition.specs.Cells.{Tri, Quad}
@@ -13,34 +13,37 @@ use Rattle.definition.specs.Front.{Result, ran, run-front}
 use Rattle.definition.specs.Call.{Asked, Lent, given-points, given-tris, settings, bad-size, call}
 use Rattle.definition.specs.Account.{Account, Keeps-account}
 use Rattle.laws.specs.Lists.{In, all-from}
+use Rattle.exact.specs.Limits.{Limit}
 use Rattle.account.specs.Start.{Proper}
 use Rattle.account.specs.Counting.{counted, points-given, points-added}
 use Rattle.account.specs.Parity.{leftover}
 use Rattle.account.specs.Quads.{quads-rated}
 use Rattle.account.specs.Geometry.{Geometry, All-within, points-within, Sound-quad, sound-quad}
 use Rattle.account.specs.Slices.{read-points, read-quads, read-triangles, read-sizes}
-use Rattle.account.specs.Finished.{behind, sized, given-proper, given-within}
+use Rattle.account.specs.Finished.{behind, permitted, sized, given-proper, given-within}
 
 module _ (geometry : Geometry) where
   -- the lists and counts of a run that ended
-  pub result-kept : (a : Asked) (ts : List Tri) (ps : List Node) (r : Result) → bad-size a ≡ false → Proper ps ts → All-within ps
-      → run-front (settings base a) ts ps ≡ ran r
-      → Account ps ts (a .stop) (r .counts) (r .points) (r .quads) (r .triangles) (r .sizes)
+  pub result-kept : (a : Asked) (ts : List Tri) (ps : List Node) (r : Result) → Limit (a .quality .largest-cosine) → bad-size a ≡ false → Proper ps ts → All-within ps
+      → run-front (settings a) ts ps ≡ ran r
+      → Account ps ts (a .stop) (a .quality) (r .counts) (r .points) (r .quads) (r .triangles) (r .sizes)
   unfolding settings
-  result-kept a ts ps r size proper near e =
-      let s = settings base a in
+  result-kept a ts ps r limit size proper near e =
+      let s = settings a in
       let c = counted s ps ts r proper e in
       let k = leftover s ts ps r proper e in
       let rated = quads-rated s ts ps r proper e in
-      let within = points-within geometry (settings base a) a refl size ts ps r proper near e in
-      let sound : (q : Quad) → In q (r .quads) → Sound-quad (r .points) q = λ q i. sound-quad geometry (r .points) q within (rated q i) in
+      let within = points-within geometry s a refl size ts ps r proper near e in
+      let sound : (q : Quad) → In q (r .quads) → Sound-quad (a .quality) (r .points) q = λ q i. sound-quad geometry (a .quality) limit (r .points) q within (rated q i) in
       record {
         points-given = points-given ps (r .points) (r .counts) (length (r .quads)) c;
         points-added = points-added ps (r .points) (r .counts) (length (r .quads)) c;
         attempts-sum = c .adds-up;
         quads-points = all-from (r .quads) (λ q i. sound q i .names);
+        quads-pass = all-from (r .quads) (λ q i. sound q i .passing);
         quads-convex = all-from (r .quads) (λ q i. sound q i .convex);
-        quads-corners = all-from (r .quads) (λ q i. sound q i .wide);
+        quads-cosines = all-from (r .quads) (λ q i. sound q i .cosines);
+        quads-corners = λ e. all-from (r .quads) (λ q i. sound q i .wide e);
         sizes-right = k .right;
         sizes-sum = k .adds-up;
         even = λ stop. k .even (eq-eqb (a .stop) 1 stop);
@@ -48,13 +51,14 @@ module _ (geometry : Geometry) where
 
   -- demand 3: every finished call keeps its account, as its slices stand at exit
   pub keeps-account : (a : Asked) (l : Lent) → Keeps-account a l
-  keeps-account a l c n e =
-      let b = behind base a l c n e in
-      let exit = call base a l .lent in
+  keeps-account a l double c n e =
+      let b = behind a l c n e in
+      let exit = call a l .lent in
+      let limit = geometry .limit (a .quality) (permitted a l (b .passed)) double in
       moved (sym (b .counts-are)) (sym (read-points (b .run) l exit n (b .lengths-are) (b .exit))) (sym (read-quads (b .run) l exit n (b .lengths-are) (b .exit)))
       (sym (read-triangles (b .run) l exit n (b .lengths-are) (b .exit))) (sym (read-sizes (b .run) l exit n (b .lengths-are) (b .exit)))
-      (result-kept a (given-tris a l) (given-points a l) (b .run) (sized a l (b .passed)) (given-proper a l (b .passed)) (given-within a l (b .passed)) (b .ended))
+      (result-kept a (given-tris a l) (given-points a l) (b .run) limit (sized a l (b .passed)) (given-proper a l (b .passed)) (given-within a l (b .passed)) (b .ended))
     where
-      moved : {given : List Node} {tris : List Tri} {stop : ℕ} {c d : Counts} {ps qs : List Node} {us vs : List Quad} {ks ls : List Tri} {ns os : List ℕ}
-          → c ≡ d → ps ≡ qs → us ≡ vs → ks ≡ ls → ns ≡ os → Account given tris stop c ps us ks ns → Account given tris stop d qs vs ls os
-      moved {given} {tris} {stop} e0 e1 e2 e3 e4 h = subst (λ (z : Type 0). z) (λ i. Account given tris stop (e0 i) (e1 i) (e2 i) (e3 i) (e4 i)) h
+      moved : {given : List Node} {tris : List Tri} {stop : ℕ} {y : Quality} {c d : Counts} {ps qs : List Node} {us vs : List Quad} {ks ls : List Tri} {ns os : List ℕ}
+          → c ≡ d → ps ≡ qs → us ≡ vs → ks ≡ ls → ns ≡ os → Account given tris stop y c ps us ks ns → Account given tris stop y d qs vs ls os
+      moved {given} {tris} {stop} {y} e0 e1 e2 e3 e4 h = subst (λ (z : Type 0). z) (λ i. Account given tris stop y (e0 i) (e1 i) (e2 i) (e3 i) (e4 i)) h

@@ -196,7 +196,7 @@ module _ (x : Setup) (w : List ℕ) (q : List Float) (quads : List ℕ) (g : Sta
   is-edge = record { order = up; below = omega (arith, known, points-fit) }
 
   pub can-attempt : CanAttempt w q (x .rules) (g .counters) u v (st .mesh)
-  can-attempt = record { ready = ready; up = up; known = omega (arith, known, ready .counted .points) }
+  can-attempt = record { ready = ready; up = up; known = omega (arith, known, ready .counted .points); pairs = ready .small .pairs }
 
   -- an attempt not past the limits is made
   made : attempt (settings-of (x .rules)) (x .rules .given) st (u, v) ≡ make-attempt (settings-of (x .rules)) (counting st one-attempt) (u, v)

@@ -13,7 +13,7 @@ use borrow.Author.Tests.{ne-eqb, le-ltb, ltb-false}
 use Rattle.rings.specs.Rings.{nx}
 use Rattle.rings.proofs.Lists.{Same, same, differ, decide}
 use Rattle.definition.specs.Lists.{filter, any, first}
-use Rattle.definition.specs.Numbers.{Turn, base}
+use Rattle.definition.specs.Numbers.{Quality, Turn}
 use Rattle.definition.specs.Plane.{Vec}
 use Rattle.definition.specs.Cells.{Tri, Live, Mesh, key, owns, owners, tri-owners, tri-owner, has-node, tri-has, has-edge}
 use Rattle.definition.specs.Candidates.{walls, side-candidate}
@@ -240,7 +240,7 @@ spans-both m a region g h r f e l x y =
 
 -- ---- a node outside
 
-module _ (t : Turn) (m : Mesh) (a other : ℕ) (n : Vec) (target : Float) (region : List Live) (v : ℕ) where
+module _ (y : Quality) (t : Turn) (m : Mesh) (a other : ℕ) (n : Vec) (target : Float) (region : List Live) (v : ℕ) where
   ownerless : has-edge m a v ≡ false → tri-owner m (key a v) ≡ none
   unfolding has-edge owners tri-owners tri-owner filter first
   ownerless h = rw (none-any (owns (key a v)) (m .live) h)
@@ -253,12 +253,12 @@ module _ (t : Turn) (m : Mesh) (a other : ℕ) (n : Vec) (target : Float) (regio
       go (differ d) (same e) = edge-other t m a other target v d e
       go (differ d) (differ k) = edge-bare t m a other target v d k (ownerless (h (λ e. d (sym e))))
 
-  inner-off : any (has-node v) region ≡ false → side-candidate base m a other n target region (walls m region) v ≡ false
+  inner-off : any (has-node v) region ≡ false → side-candidate y m a other n target region (walls m region) v ≡ false
   unfolding side-candidate
   inner-off h = rw h (simp and-false)
 
   -- is no side node
-  choice-out : (r : Span) → Spans m a region r → (In r v → ⊥) → is-choice t m a other n target region v ≡ false
+  choice-out : (r : Span) → Spans m a region r → (In r v → ⊥) → is-choice y t m a other n target region v ≡ false
   choice-out r s out = rw (← edge-off (λ d. far d (has-edge m a v) refl), inner-off (off (any (has-node v) region) refl))
     where
       far : a ≢ v → (b : Bool) → has-edge m a v ≡ b → has-edge m a v ≡ false
@@ -269,8 +269,8 @@ module _ (t : Turn) (m : Mesh) (a other : ℕ) (n : Vec) (target : Float) (regio
       off true e = absurd (out (s .inner v e))
       off false e = e
 
-  pub choice-before : (r : Span) → Spans m a region r → v < r .low → is-choice t m a other n target region v ≡ false
+  pub choice-before : (r : Span) → Spans m a region r → v < r .low → is-choice y t m a other n target region v ≡ false
   choice-before r s h = choice-out r s (λ k. omega (arith, h, k .from))
 
-  pub choice-behind : (r : Span) → Spans m a region r → r .high < v → is-choice t m a other n target region v ≡ false
+  pub choice-behind : (r : Span) → Spans m a region r → r .high < v → is-choice y t m a other n target region v ≡ false
   choice-behind r s h = choice-out r s (λ k. omega (arith, h, k .to))

@@ -13,7 +13,7 @@ use lib.Ieee.{Float, nan, inf, fin, binary64, up, down, units, odd, round, fits,
 use lib.Ieee.Fits.{down-pos, round-is, round-fits, add-fits}
 use lib.Ieee.Exact.{HasValue, odd-sign}
 use Rattle.definition.specs.Floats.{_≺_, _⊕_, _⊗_, 0·0, f64}
-use Rattle.definition.specs.Numbers.{base, edge-high}
+use Rattle.definition.specs.Numbers.{Quality, edge-high}
 use Rattle.definition.specs.Plane.{Vec, norm}
 use Rattle.definition.specs.Root.{sqrt}
 use Rattle.laws.specs.Bools.{of-T, and-left, and-right}
@@ -210,20 +210,20 @@ pub norm-root : (d : Vec) → norm d ≡ sqrt (square d)
 unfolding norm
 norm-root d = refl
 
-pub far-from : (x target : Float) → fits binary64 x ≡ true → (0·0 ≺ x) ≡ true → true ≡ too-far (sqrt x) target → FarFrom x target
-far-from x target f o h =
+pub far-from : (y : Quality) (x target : Float) → fits binary64 x ≡ true → (0·0 ≺ x) ≡ true → true ≡ too-far y (sqrt x) target → FarFrom y x target
+far-from y x target f o h =
     record {
       beyond = λ z g l.
-          both (edge-high ⊗ target ≺ sqrt z) (base .side-high ⊗ target ≺ sqrt z)
-          (root-beyond (edge-high ⊗ target) x z f g o (and-left (edge-high ⊗ target ≺ sqrt x) (base .side-high ⊗ target ≺ sqrt x) (sym h)) l)
-          (root-beyond (base .side-high ⊗ target) x z f g o (and-right (edge-high ⊗ target ≺ sqrt x) (base .side-high ⊗ target ≺ sqrt x) (sym h)) l);
+          both (edge-high ⊗ target ≺ sqrt z) (y .side-high ⊗ target ≺ sqrt z)
+          (root-beyond (edge-high ⊗ target) x z f g o (and-left (edge-high ⊗ target ≺ sqrt x) (y .side-high ⊗ target ≺ sqrt x) (sym h)) l)
+          (root-beyond (y .side-high ⊗ target) x z f g o (and-right (edge-high ⊗ target ≺ sqrt x) (y .side-high ⊗ target ≺ sqrt x) (sym h)) l);
     }
 
-pub far-endless : (target : Float) → FarFrom (inf false) target
+pub far-endless : (y : Quality) (target : Float) → FarFrom y (inf false) target
 unfolding _≺_ lt
-far-endless target = record { beyond = λ z g l. go z l }
+far-endless y target = record { beyond = λ z g l. go z l }
   where
-    go : (z : Float) → lt (inf false) z ≡ true → too-far (sqrt z) target ≡ true
+    go : (z : Float) → lt (inf false) z ≡ true → too-far y (sqrt z) target ≡ true
     go nan q = absurd (false≢true q)
     go (inf s) q = absurd (false≢true q)
     go (fin s i j) q = absurd (false≢true q)

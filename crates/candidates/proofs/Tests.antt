@@ -7,7 +7,7 @@ use lib.ListN.{length}
 use lib.Ieee.{Float}
 use Rattle.definition.specs.Lists.{filter, below}
 use Rattle.definition.specs.Floats.{_≺_, _⊗_, _⊕_}
-use Rattle.definition.specs.Numbers.{Turn, base, side-margin, edge-high}
+use Rattle.definition.specs.Numbers.{Quality, Turn, side-margin, edge-high}
 use Rattle.definition.specs.Plane.{Node, Vec, flat, norm, from-to}
 use Rattle.definition.specs.Cells.{Live, Mesh, node-at}
 use Rattle.definition.specs.Candidates.{ahead, walls, side-candidate, toward, edge-candidate, live-region, candidates}
@@ -19,32 +19,32 @@ use Rattle.plane.specs.Points.{node-of}
 use Rattle.edge_candidates.specs.Wanted.{by-edge}
 use Rattle.candidates.specs.Choice.{too-far, is-choice}
 
-module _ (t : Turn) (m : Mesh) (a other : ℕ) (n : Vec) (target : Float) (g : List Live) (v : ℕ) where
+module _ (y : Quality) (t : Turn) (m : Mesh) (a other : ℕ) (n : Vec) (target : Float) (g : List Live) (v : ℕ) where
   edge-off : (edge-high ⊗ target ≺ norm (toward m a v)) ≡ true → by-edge t m a other target v ≡ false
   unfolding edge-candidate
   edge-off h = rw h (simp and-false)
 
-  side-off : (base .side-high ⊗ target ≺ norm (toward m a v)) ≡ true → side-candidate base m a other n target g (walls m g) v ≡ false
+  side-off : (y .side-high ⊗ target ≺ norm (toward m a v)) ≡ true → side-candidate y m a other n target g (walls m g) v ≡ false
   unfolding side-candidate ahead toward
   side-off h = rw h (simp and-false)
 
-  side-back : false ≡ ahead base n (from-to (node-at m a) (node-at m v)) target → side-candidate base m a other n target g (walls m g) v ≡ false
+  side-back : false ≡ ahead y n (from-to (node-at m a) (node-at m v)) target → side-candidate y m a other n target g (walls m g) v ≡ false
   unfolding side-candidate
   side-back h = rw (← h) (simp and-false)
 
-  pub choice-far : true ≡ too-far (norm (toward m a v)) target → false ≡ is-choice t m a other n target g v
+  pub choice-far : true ≡ too-far y (norm (toward m a v)) target → false ≡ is-choice y t m a other n target g v
   choice-far h =
-      let x = and-left (edge-high ⊗ target ≺ norm (toward m a v)) (base .side-high ⊗ target ≺ norm (toward m a v)) (sym h) in
-      let y = and-right (edge-high ⊗ target ≺ norm (toward m a v)) (base .side-high ⊗ target ≺ norm (toward m a v)) (sym h) in
-      rw (edge-off x, side-off y)
+      let e = and-left (edge-high ⊗ target ≺ norm (toward m a v)) (y .side-high ⊗ target ≺ norm (toward m a v)) (sym h) in
+      let s = and-right (edge-high ⊗ target ≺ norm (toward m a v)) (y .side-high ⊗ target ≺ norm (toward m a v)) (sym h) in
+      rw (edge-off e, side-off s)
 
-  pub choice-edge : true ≡ by-edge t m a other target v → true ≡ is-choice t m a other n target g v
+  pub choice-edge : true ≡ by-edge t m a other target v → true ≡ is-choice y t m a other n target g v
   choice-edge h = rw (← h)
 
-  pub choice-behind : false ≡ by-edge t m a other target v → false ≡ ahead base n (from-to (node-at m a) (node-at m v)) target → false ≡ is-choice t m a other n target g v
+  pub choice-behind : false ≡ by-edge t m a other target v → false ≡ ahead y n (from-to (node-at m a) (node-at m v)) target → false ≡ is-choice y t m a other n target g v
   choice-behind h k = rw (← h, side-back k)
 
-  pub choice-side : (x : Bool) → false ≡ by-edge t m a other target v → x ≡ side-candidate base m a other n target g (walls m g) v → x ≡ is-choice t m a other n target g v
+  pub choice-side : (x : Bool) → false ≡ by-edge t m a other target v → x ≡ side-candidate y m a other n target g (walls m g) v → x ≡ is-choice y t m a other n target g v
   choice-side x h k = rw (← h) k
 
 -- the region around a node, by its point as it is read
@@ -55,11 +55,11 @@ region-read q p m k seed a h x y r e =
     ap (λ (o : Node). live-region m seed o r) (e ∙ ap (λ (o : Node). flat (o .x) (o .y)) z) ∙ sym (region-flat m seed (node-at m a) r)
 
 -- the region that the side nodes of a are looked for in
-abbrev pub region-of : Mesh → ℕ → ℕ → Float → List Live
-region-of m seed a target = live-region m seed (node-at m a) ((base .side-high ⊕ side-margin) ⊗ target)
+abbrev pub region-of : Quality → Mesh → ℕ → ℕ → Float → List Live
+region-of y m seed a target = live-region m seed (node-at m a) ((y .side-high ⊕ side-margin) ⊗ target)
 
 -- the side nodes are those chosen among all nodes, in their order
-pub chosen-are : (t : Turn) (m : Mesh) (a other seed k : ℕ) (n : Vec) (target : Float) → k ≡ length (m .points)
-    → filter (is-choice t m a other n target (region-of m seed a target)) (below k) ≡ candidates base t m a other seed n target
+pub chosen-are : (y : Quality) (t : Turn) (m : Mesh) (a other seed k : ℕ) (n : Vec) (target : Float) → k ≡ length (m .points)
+    → filter (is-choice y t m a other n target (region-of y m seed a target)) (below k) ≡ candidates y t m a other seed n target
 unfolding candidates
-chosen-are t m a other seed k n target e = ap (λ (j : ℕ). filter (is-choice t m a other n target (region-of m seed a target)) (below j)) e
+chosen-are y t m a other seed k n target e = ap (λ (j : ℕ). filter (is-choice y t m a other n target (region-of y m seed a target)) (below j)) e

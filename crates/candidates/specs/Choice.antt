@@ -7,7 +7,7 @@ use lib.ListN.{length, getD, take, drop}
 use lib.Ieee.{Float, binary64, fits}
 use Rattle.rings.specs.Rings.{Below}
 use Rattle.definition.specs.Floats.{_⊕_, _⊗_, _≺_}
-use Rattle.definition.specs.Numbers.{Turn, base, edge-high}
+use Rattle.definition.specs.Numbers.{Quality, Turn, edge-high}
 use Rattle.definition.specs.Root.{sqrt}
 use Rattle.definition.specs.Plane.{Vec}
 use Rattle.definition.specs.Cells.{Live, Mesh}
@@ -49,20 +49,20 @@ pub record ChosenTo (w w' : List ℕ) (s p n at k : ℕ) (cs : List ℕ) : Type 
 -- ---- one node
 
 -- a length beyond the reach of either kind of candidate
-abbrev pub too-far : Float → Float → Bool
-too-far d target = (edge-high ⊗ target ≺ d) && (base .side-high ⊗ target ≺ d)
+abbrev pub too-far : Quality → Float → Float → Bool
+too-far y d target = (edge-high ⊗ target ≺ d) && (y .side-high ⊗ target ≺ d)
 
 -- the square of a vector's length, whose root is the length
 abbrev pub square : Vec → Float
 square d = d .dx ⊗ d .dx ⊕ d .dy ⊗ d .dy
 
 -- a length is too far where its square is beyond x
-pub record FarFrom (x target : Float) : Type 0 where
-  pub beyond : (z : Float) → fits binary64 z ≡ true → (x ≺ z) ≡ true → too-far (sqrt z) target ≡ true
+pub record FarFrom (y : Quality) (x target : Float) : Type 0 where
+  pub beyond : (z : Float) → fits binary64 z ≡ true → (x ≺ z) ≡ true → too-far y (sqrt z) target ≡ true
 
 -- v is a side node for a, by an edge or from the region in hand
-abbrev pub is-choice : Turn → Mesh → ℕ → ℕ → Vec → Float → List Live → ℕ → Bool
-is-choice t m a other n target region v = by-edge t m a other target v || side-candidate base m a other n target region (walls m region) v
+abbrev pub is-choice : Quality → Turn → Mesh → ℕ → ℕ → Vec → Float → List Live → ℕ → Bool
+is-choice y t m a other n target region v = by-edge t m a other target v || side-candidate y m a other n target region (walls m region) v
 
 -- ---- the scan
 

@@ -9,11 +9,12 @@ use edge_candidates::wishes::Wish;
 use edge_candidates::wishes::add;
 use edge_candidates::wishes::wish_at;
 use live_regions::live::live_region;
+use plane::floats::greater;
 use plane::points::at;
 use plane::vectors::Vec;
 use plane::vectors::from_to;
 use plane::vectors::norm;
-use side_candidates::sides::SIDE_HIGH;
+use rules::Quality;
 use side_candidates::sides::ahead;
 use side_candidates::sides::side_candidate;
 ghost use mathlib.Core.Path.{_≡_};
@@ -22,28 +23,29 @@ ghost use Prim.Native.Nat.{_+_, _*_, _<_};
 ghost use lib.ListN.{length};
 ghost use Rattle.definition.specs.Floats.{_⊕_, _⊗_};
 ghost use Rattle.definition.specs.Lists.{filter, below};
-ghost use Rattle.definition.specs.Numbers.{base, side-margin};
+ghost use Rattle.definition.specs.Numbers.{side-margin};
 ghost use Rattle.definition.specs.Cells.{Live, Mesh, node-at};
 ghost use Rattle.definition.specs.Candidates.{live-region, candidates};
 ghost use Rattle.plane.specs.Vectors.{vec};
+ghost use Rattle.rules.specs.Settings.{quality-of};
 ghost use Rattle.live_regions.specs.Stack.{Lent, LiveTo};
 ghost use Rattle.side_candidates.specs.Hand.{InHand, Ends};
 ghost use Rattle.edge_candidates.specs.Wanted.{turn};
 ghost use Rattle.edge_candidates.specs.Wishes.{Wished};
 ghost use Rattle.candidates.specs.Choice.{CanChoose, ChosenTo, too-far, square, FarFrom, is-choice, CanScan, ScannedTo};
 
-// Side nodes are looked for within the side's highest factor and this many targets more.
+// Side nodes are looked for within the set's high factor and this many targets more.
 pub const SIDE_MARGIN: f64 = 0.8;
 
-// A length is tried as too far at this many times the highest factor.
+// A length is tried as too far at this many times the greater of both kinds' high factors.
 const FARTHER: f64 = 1.001;
 
 // A length beyond the reach of either kind of candidate.
-fn too_far(d: f64, target: f64) -> bool
-    ensures { λ r. ⌜ r ≡ too-far d target ⌝ }
+fn too_far(y: Quality, d: f64, target: f64) -> bool
+    ensures { λ r. ⌜ r ≡ too-far (quality-of y) d target ⌝ }
 {
     if d > EDGE_HIGH * target {
-        return d > SIDE_HIGH * target;
+        return d > y.side_high * target;
     }
     false
 }
@@ -56,16 +58,16 @@ fn square(d: Vec) -> f64
 }
 
 // A number that the square of a length is beyond only where the length is too far, so that the root need not be taken; infinity where none is found.
-fn far_square(target: f64) -> f64
-    ensures { λ r. ⌜ FarFrom r target ⌝ }
+fn far_square(y: Quality, target: f64) -> f64
+    ensures { λ r. ⌜ FarFrom (quality-of y) r target ⌝ }
 {
     let d = Vec {
-        dx: EDGE_HIGH * target * FARTHER,
+        dx: greater(EDGE_HIGH, y.side_high) * target * FARTHER,
         dy: 0.0,
     };
     let z = square(d);
     if z > 0.0 {
-        if too_far(norm(d), target) {
+        if too_far(y, norm(d), target) {
             return z;
         }
     }
@@ -88,10 +90,11 @@ fn is_choice(
     b: usize,
     o: Wish,
     v: usize,
+    y: Quality,
 ) -> bool
     requires { ⌜ ((m : Mesh) × (region : List Live) × InHand (now w) (now q) s p k m region × Wished (now w) (now q) s b o m a other × Ends m a v) ⌝ }
-    requires { ⌜ FarFrom far target ⌝ }
-    ensures { λ r. ⌜ ((m : Mesh) (region : List Live) → InHand (now (w .entry)) (now (q .entry)) s p k m region → Wished (now (w .entry)) (now (q .entry)) s b o m a other → Ends m a v → r ≡ is-choice (turn left) m a other (vec normal) target region v) ⌝ }
+    requires { ⌜ FarFrom (quality-of y) far target ⌝ }
+    ensures { λ r. ⌜ ((m : Mesh) (region : List Live) → InHand (now (w .entry)) (now (q .entry)) s p k m region → Wished (now (w .entry)) (now (q .entry)) s b o m a other → Ends m a v → r ≡ is-choice (quality-of y) (turn left) m a other (vec normal) target region v) ⌝ }
 {
     let d = from_to(q, a, v);
     if square(d) > far {
@@ -100,10 +103,10 @@ fn is_choice(
     if edge_candidate(w, q, s, p, a, other, target, left, b, o, v) {
         return true;
     }
-    if !ahead(normal, d, target) {
+    if !ahead(y, normal, d, target) {
         return false;
     }
-    side_candidate(w, q, s, p, k, a, other, normal, target, v)
+    side_candidate(w, q, s, p, k, a, other, normal, target, v, y)
 }
 
 // The side nodes for a, with the region of k triangles in hand and what is wanted listed from i on, ascending, come to b; how many they are. Only nodes of that region and nodes that have an edge with a can be such.
@@ -122,16 +125,33 @@ fn scan(
     target: f64,
     i: usize,
     o: Wish,
+    y: Quality,
 ) -> usize
     requires { ⌜ ((m : Mesh) × (region : List Live) × CanScan (now w) (now q) s p k n b a other i o m region) ⌝ }
-    ensures { λ r. ⌜ ((m : Mesh) (region : List Live) → CanScan (now (w .entry)) (now (q .entry)) s p k n b a other i o m region → ScannedTo (now (w .entry)) (now (w .exit)) p n b r (filter (is-choice (turn left) m a other (vec normal) target region) (below n))) ⌝ }
+    ensures { λ r. ⌜ ((m : Mesh) (region : List Live) → CanScan (now (w .entry)) (now (q .entry)) s p k n b a other i o m region → ScannedTo (now (w .entry)) (now (w .exit)) p n b r (filter (is-choice (quality-of y) (turn left) m a other (vec normal) target region) (below n))) ⌝ }
 {
-    let far = far_square(target);
+    let far = far_square(y, target);
     let g = span_for(w, s, p, k, a);
     let mut r: usize = 0;
     let mut v: usize = g.low;
     while v <= g.high {
-        let yes = is_choice(w, q, s, p, k, left, a, other, normal, target, far, i, o, v);
+        let yes = is_choice(
+            w,
+            q,
+            s,
+            p,
+            k,
+            left,
+            a,
+            other,
+            normal,
+            target,
+            far,
+            i,
+            o,
+            v,
+            y,
+        );
         r = add(w, b, r, v, yes);
         v += 1;
     }
@@ -148,10 +168,11 @@ fn region_around(
     seed: usize,
     a: usize,
     target: f64,
+    y: Quality,
 ) -> usize
     requires { ⌜ ((m : Mesh) × Lent (now w) (now q) s p used m × (a < length (m .points))) ⌝ }
     requires { ⌜ seed < s ⌝ }
-    ensures { λ k. ⌜ ((m : Mesh) → Lent (now (w .entry)) (now (q .entry)) s p used m → a < length (m .points) → LiveTo (now (w .entry)) (now (w .exit)) s p k m (live-region m seed (node-at m a) ((base .side-high ⊕ side-margin) ⊗ target))) ⌝ }
+    ensures { λ k. ⌜ ((m : Mesh) → Lent (now (w .entry)) (now (q .entry)) s p used m → a < length (m .points) → LiveTo (now (w .entry)) (now (w .exit)) s p k m (live-region m seed (node-at m a) ((quality-of y .side-high ⊕ side-margin) ⊗ target))) ⌝ }
 {
     let o = at(q, a);
     live_region(
@@ -163,7 +184,7 @@ fn region_around(
         seed,
         o.x,
         o.y,
-        (SIDE_HIGH + SIDE_MARGIN) * target,
+        (y.side_high + SIDE_MARGIN) * target,
     )
 }
 
@@ -182,12 +203,29 @@ pub fn candidates(
     seed: usize,
     normal: Vec,
     target: f64,
+    y: Quality,
 ) -> usize
     requires { ⌜ ((m : Mesh) × CanChoose (now w) (now q) s p used n at a other seed m) ⌝ }
-    ensures { λ k. ⌜ ((m : Mesh) → CanChoose (now (w .entry)) (now (q .entry)) s p used n at a other seed m → ChosenTo (now (w .entry)) (now (w .exit)) s p n at k (candidates base (turn left) m a other seed (vec normal) target)) ⌝ }
+    ensures { λ k. ⌜ ((m : Mesh) → CanChoose (now (w .entry)) (now (q .entry)) s p used n at a other seed m → ChosenTo (now (w .entry)) (now (w .exit)) s p n at k (candidates (quality-of y) (turn left) m a other seed (vec normal) target)) ⌝ }
 {
-    let k = region_around(w, q, s, p, used, seed, a, target);
+    let k = region_around(w, q, s, p, used, seed, a, target, y);
     let i = stack_at(s, p);
     let o = wish_at(w, q, s, p, a, other, i);
-    scan(w, q, s, p, k, n, at, left, a, other, normal, target, i, o)
+    scan(
+        w,
+        q,
+        s,
+        p,
+        k,
+        n,
+        at,
+        left,
+        a,
+        other,
+        normal,
+        target,
+        i,
+        o,
+        y,
+    )
 }

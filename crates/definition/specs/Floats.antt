@@ -71,6 +71,9 @@ unfoldable pub 1e-9 : Float
 unfoldable pub 1/64 : Float
 1/64 = f64 0x3f90000000000000
 
+unfoldable pub 0·1 : Float
+0·1 = f64 0x3fb999999999999a
+
 unfoldable pub 0·2 : Float
 0·2 = f64 0x3fc999999999999a
 
@@ -104,6 +107,9 @@ unfoldable pub 0·9 : Float
 unfoldable pub 0·90630778703665 : Float
 0·90630778703665 = f64 0x3fed0079302dd768
 
+unfoldable pub 0·99 : Float
+0·99 = f64 0x3fefae147ae147ae
+
 unfoldable pub 1·0 : Float
 1·0 = f64 0x3ff0000000000000
 
@@ -121,6 +127,9 @@ unfoldable pub 2·5 : Float
 
 unfoldable pub 3·0 : Float
 3·0 = f64 0x4008000000000000
+
+unfoldable pub 4·0 : Float
+4·0 = f64 0x4010000000000000
 
 unfoldable pub 8·0 : Float
 8·0 = f64 0x4020000000000000

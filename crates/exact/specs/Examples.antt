@@ -135,10 +135,10 @@ sides-apart = refl
 
 -- from (0, 0), an end of the edge to (1, 0), by 0.3 of the target: the triangle (-1, -1) (1, -1) (0, 1) holds the point (0, 0.3)
 abbrev no-size : Asked
-no-size = record { given = 0; capacity = 0; count = 0; slots = 0; size = 0·0; stop = 0 }
+no-size = record { given = 0; capacity = 0; count = 0; slots = 0; size = 0·0; stop = 0; quality = base }
 
 abbrev added : Node
-added = along o (inward-normal (from-to o e) (norm (from-to o e))) (target-of (settings base no-size) (dist e o)) 0·3
+added = along o (inward-normal (from-to o e) (norm (from-to o e))) (target-of (settings no-size) (dist e o)) 0·3
 
 added-held : point-strictly-inside (flat (neg 1·0) (neg 1·0)) (flat 1·0 (neg 1·0)) n added ≡ true
 unfolding computed
@@ -146,7 +146,7 @@ added-held = refl
 
 added-within : Within added
 unfolding computed
-added-within = inside (settings base no-size) no-size refl refl o e o (flat (neg 1·0) (neg 1·0)) (flat 1·0 (neg 1·0)) n refl refl refl refl refl refl 0·3 (inr (inr (inr (inr (inr (inr (inr (inl refl)))))))) refl added refl added-held
+added-within = inside (settings no-size) no-size refl refl o e o (flat (neg 1·0) (neg 1·0)) (flat 1·0 (neg 1·0)) n refl refl refl refl refl refl 0·3 (inr (inr (inr (inr (inr (inr (inr (inl refl)))))))) refl added refl added-held
 
 -- ---- lengths, perimeters
 

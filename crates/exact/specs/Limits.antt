@@ -7,16 +7,16 @@ use native.Mathlib.Omega.{arith}
 use lib.Dec.{T, lit≤, lit<}
 use lib.IntN.{ℤ, pos, negsuc, natAbs}
 use lib.Ieee.{Float, nan, inf, fin, binary64, ofBits, lt, le, eq, fits}
-use Rattle.definition.specs.Floats.{_≺_, _≼_, f64, 0·0, 0·5, 1·0, 0·90630778703665}
+use Rattle.definition.specs.Floats.{_≺_, _≼_, f64, 0·0, 0·5, 0·99, 1·0, 0·90630778703665}
 use Rattle.definition.specs.Metrics.{Corner}
-use Rattle.definition.specs.Exact.{signed, units, Wide-enough}
+use Rattle.definition.specs.Exact.{signed, units, Cosine-at-most, Cosine-up-to, Wide-enough}
 use Rattle.laws.specs.Bools.{of-T, to-T}
 use Rattle.exact.specs.Near.{Whole, Near}
 use Rattle.exact.specs.Parts.{billion}
 use Rattle.exact.specs.Values.{whole, Ok, one-sided}
 use Rattle.exact.specs.Order.{_⊏_, _⊑_, lt-whole, le-whole, whole-lt, whole-le}
 use Rattle.exact.specs.Units.{ofℤ, units-is}
-use Rattle.exact.specs.Cosine.{Cosine-at-most, weaken}
+use Rattle.exact.specs.Cosine.{weaken}
 use Rattle.exact.specs.Points.{zero-ok, zero-is}
 use Rattle.exact.specs.Passing.{Below-one, one-ok, one-is, Cosine-near}
 
@@ -25,10 +25,6 @@ pub record Limit (t : Float) : Type 0 where
   pub double : fits binary64 t ≡ true
   pub from-zero : (0·0 ≼ t) ≡ true
   pub below-one : (t ≺ 1·0) ≡ true
-
--- the corner's exact cosine is at most t and 1e-9: t is so many units of 2 ^ -1074
-abbrev pub Cosine-up-to : Float → Corner → Type 0
-Cosine-up-to t k = Cosine-at-most (10 ^ 9 * natAbs (units t) + 2 ^ 1074) (10 ^ 9 * 2 ^ 1074) k
 
 limit-ok : (t : Float) → T (fits binary64 t) → T (le 0·0 t) → T (lt t 1·0) → Ok binary64 t
 unfolding le lt eq 0·0 1·0 f64 ofBits
@@ -60,10 +56,6 @@ unfolding billion
 up-to t k b c = subst (λ (n : ℕ). Cosine-at-most (10 ^ 9 * n + 2 ^ 1074) (10 ^ 9 * 2 ^ 1074) k) (sym (natAbs-is (units t) (whole binary64 t) (units-is t) (b .1))) c
 
 -- ---- limits from 0.5 to 0.99
-
--- the double nearest to 0.99
-unfoldable pub 0·99 : Float
-0·99 = f64 0x3fefae147ae147ae
 
 half-ok : Ok binary64 0·5
 unfolding 0·5 f64 ofBits fits

@@ -12,14 +12,13 @@ use Rattle.definition.specs.Lists.{any}
 use Rattle.definition.specs.Numbers.{Quality, tiny-cross}
 use Rattle.definition.specs.Plane.{Node, twice-area}
 use Rattle.definition.specs.Metrics.{Metrics, absent, measured, Corner, corner-of, corners, not-convex, angle-of, clamp, cosine, largest-cosine, min-scaled-jacobian, quad-metrics, passes}
-use Rattle.definition.specs.Exact.{Turns-left}
+use Rattle.definition.specs.Exact.{Turns-left, Cosine-at-most}
 use Rattle.definition.specs.Account.{All}
 use Rattle.laws.specs.Bools.{both, or-none}
 use Rattle.exact.specs.Near.{Whole}
 use Rattle.exact.specs.Parts.{billion}
 use Rattle.exact.specs.Values.{whole, Ok}
 use Rattle.exact.specs.Order.{_⊏_, _⊑_, lt-whole, whole-le, not-lt, is-not}
-use Rattle.exact.specs.Cosine.{Cosine-at-most}
 use Rattle.exact.specs.Points.{At}
 use Rattle.exact.specs.Quads.{turns-left, measured-corner}
 

@@ -1,27 +1,28 @@
 -- What the definition's float tests mean in exact arithmetic. Each statement reads by itself; the proof below it cites the file that has it. Nothing is assumed:
 -- a coordinate is any number that passes the test of refusal 7, double or not.
 use mathlib.Core.Path.{_≡_, refl, sym, subst}
-use mathlib.Core.Bool.{true, false, _&&_}
+use mathlib.Core.Bool.{Bool, true, false, _&&_}
 use mathlib.Core.List.{List, [], _∷_}
 use Prim.Native.Nat.{ℕ, _^_, _≤_}
 use lib.IntN.{pos, _*ℤ_}
 use lib.ListN.{length}
-use lib.Ieee.{Float, fin, binary64}
-use Rattle.definition.specs.Floats.{_⊗_, _≼_, finite}
+use lib.Ieee.{Float, fin, binary64, fits}
+use Rattle.definition.specs.Floats.{_⊗_, _≼_, finite, 0·0, 0·5, 0·99, 1·0}
 use Rattle.definition.specs.Numbers.{Quality, Settings, base, insert-shares, tiny-length}
 use Rattle.definition.specs.Plane.{Node, Edge, cross, side, from-to, norm, dist, edge-length, point-strictly-inside, segments-cross}
-use Rattle.definition.specs.Metrics.{corners, quad-metrics, passes, score}
+use Rattle.definition.specs.Metrics.{Corner, corners, quad-metrics, passes, score}
 use Rattle.definition.specs.Loops.{loop-perimeter, ranked-before}
 use Rattle.definition.specs.Trials.{trial-before}
 use Rattle.definition.specs.Cells.{Tri, tri, Mesh, node-at}
 use Rattle.definition.specs.Insertion.{along, holds}
 use Rattle.definition.specs.Attempt.{inward-normal, target-of}
-use Rattle.definition.specs.Exact.{units, arrow, exact-cross, Turns-left, Wide-enough, Finite}
+use Rattle.definition.specs.Exact.{units, arrow, exact-cross, Turns-left, Cosine-up-to, Wide-enough, Finite}
 use Rattle.definition.specs.Account.{All, _∈_}
-use Rattle.definition.specs.Call.{Asked, outside, bad-size}
+use Rattle.definition.specs.Call.{Asked, outside, bad-size, ranges, good-quality}
+use Rattle.laws.specs.Bools.{both}
 use Rattle.exact.specs.Values.{Ok}
 use Rattle.exact.specs.Sums.{Number}
-use Rattle.exact.specs.Limits.{Limit, Cosine-up-to, limit-below, up-to, base-limit, base-wide}
+use Rattle.exact.specs.Limits.{Limit, limit-below, limit-range, up-to, base-limit, base-wide}
 use Rattle.exact.specs.Points.{within-8}
 use Rattle.exact.specs.Passing.{four-corners}
 use Rattle.exact.specs.Strict.{not-outside, strictly-inside}
@@ -57,14 +58,32 @@ passing-quad y limit a b c d A B C D h =
     let p = four-corners y l a b c d (within-8 a A) (within-8 b B) (within-8 c C) (within-8 d D) h in
     (p .0, all-map _ (Cosine-up-to (y .largest-cosine)) (λ k q. up-to (y .largest-cosine) k l q) (corners a b c d) (p .1))
 
--- With document 01's numbers: and no corner is under 24.99 degrees.
+-- The largest cosine of a set that is in its ranges is such a limit, where it is a double.
+pub permitted-limit : (y : Quality) → good-quality y ≡ true → fits binary64 (y .largest-cosine) ≡ true → Limit (y .largest-cosine)
+unfolding good-quality ranges
+permitted-limit y h f =
+    let t = y .largest-cosine in
+    let c = both (0·5 ≼ t) (t ≼ 0·99) (second (ranges 0·0 1·0 (y .least-jacobian)) (ranges 0·5 0·99 t) _ _ _ _ _ h) in
+    limit-range t f (c .0) (c .1)
+  where
+    second : (a b c d e f g : Bool) → (a && b && c && d && e && f && g) ≡ true → b ≡ true
+    second a true c d e f g h = refl
+    second true false c d e f g h = h
+    second false false c d e f g h = h
+
+-- With document 01's no corner is under 24.99 degrees.
+pub wide : (t : Float) → t ≡ base .largest-cosine → (k : Corner) → Cosine-up-to t k → Wide-enough k
+unfolding base
+wide t e k c = base-wide k (subst (λ z. Cosine-up-to z k) e c)
+
+-- With document 01's numbers.
 pub passing : (a b c d : Node) → Within a → Within b → Within c → Within d
     → passes base (quad-metrics a b c d) ≡ true
     → All Turns-left (corners a b c d) × All Wide-enough (corners a b c d)
 unfolding base
 passing a b c d A B C D h =
     let p = passing-quad base base-limit a b c d A B C D h in
-    (p .0, all-map _ Wide-enough base-wide (corners a b c d) (p .1))
+    (p .0, all-map _ Wide-enough (wide _ refl) (corners a b c d) (p .1))
 
 -- ---- insertion
 

@@ -1,7 +1,7 @@
 // The refusals 1, 4, 5, 6 and 7 of a mesh: they read it, and touch nothing.
-use refusals::Stated;
 use refusals::far_point;
 use refusals::repeated_node;
+use refusals::standard;
 use refusals::unknown_node;
 ghost use mathlib.Core.Path.{_≡_};
 ghost use Rattle.refusals.specs.Refusals.{number-of};
@@ -33,14 +33,7 @@ pub fn refusal(points: &[f64], given: usize, triangles: &[u32], count: usize, wo
     if work.len() < TRIANGLE_WORDS * count {
         return 4;
     }
-    let a = Stated {
-        given,
-        capacity: given,
-        count,
-        slots: count,
-        size: 0.0,
-        stop: 0,
-    };
+    let a = standard(given, given, count, count, 0.0, 0);
     if unknown_node(triangles, a) {
         return 5;
     }

@@ -1,5 +1,5 @@
 -- The numbers of a finished run as thirteen stores, and the number of a call whose answer is too short.
-use mathlib.Core.Path.{_≡_, refl}
+use mathlib.Core.Path.{_≡_, refl, subst}
 use mathlib.Core.Logic.{_≢_}
 use mathlib.Core.List.{List}
 use Prim.{absurd}
@@ -24,9 +24,9 @@ pub written : (xs : List ℕ) (r : Answer) → 13 ≤ length xs → stored xs r 
 unfolding onto
 written xs r h = sets-eq (numbers r) xs 0 (omega (arith, h))
 
--- none of 1 to 3 comes before it
-pub is-4 : (k : ℕ) → k ≢ 1 → k ≢ 2 → k ≢ 3 → up-to-4 k ≡ 4
-is-4 k a b c = rw (ne-eqb k 1 a, ne-eqb k 2 b, ne-eqb k 3 c)
+-- none of 1 to 3 and 14 comes before it
+pub is-4 : (k : ℕ) → k ≢ 1 → k ≢ 2 → k ≢ 3 → k ≢ 14 → up-to-4 k ≡ 4
+is-4 k a b c d = rw (ne-eqb k 1 a, ne-eqb k 2 b, ne-eqb k 3 c, ne-eqb k 14 d)
 
 -- ---- what the slice holds
 
@@ -50,3 +50,7 @@ pub without-room : (a : Asked) (l : Lent) (old : List ℕ) (k : ℕ)
     → length old < 13 → k ≡ up-to-4 (first-refusal a l) → Exported a l old k old l
 without-room a l old k h e =
     record { roomy = λ s. absurd (omega (arith, h, s)); short = λ _. record { number = e; answer = refl; lent = refl } }
+
+-- of the same numbers
+pub stated-as : {a b : Asked} {l : Lent} {old : List ℕ} {k : ℕ} {new : List ℕ} {exit : Lent} → a ≡ b → Exported a l old k new exit → Exported b l old k new exit
+stated-as {l = l} {old = old} {k = k} {new = new} {exit = exit} e h = subst (λ a. Exported a l old k new exit) e h

@@ -5,7 +5,8 @@ use mathlib.Core.List.{List, [], _∷_}
 use Prim.Native.Nat.{ℕ, _<_, _≤_}
 use lib.Dec.{eqb}
 use lib.ListN.{length}
-use Rattle.definition.specs.Numbers.{base}
+use lib.Ieee.{Float}
+use Rattle.definition.specs.Numbers.{Quality}
 use Rattle.definition.specs.Call.{Asked, Lent, call, onto}
 use Rattle.refusals.specs.Refusals.{first-refusal}
 use Rattle.mesher.specs.declared.Answer.{Answer}
@@ -29,17 +30,22 @@ numbers r =
     ∷ r .components
     ∷ []
 
+-- a quality set by its five numbers
+abbrev pub set-of : Float → Float → Float → Float → ℕ → Quality
+set-of least-jacobian largest-cosine side-low side-high pairs =
+    record { least-jacobian = least-jacobian; largest-cosine = largest-cosine; side-low = side-low; side-high = side-high; pairs = pairs }
+
 -- what the answer's slice holds: the numbers of a finished run before what was there, and after a refusal what was there
 abbrev pub handed : Answer → List ℕ → List ℕ
 handed r old = cond (eqb (r .refusal) 0) (onto (numbers r) old) old
 
--- the number of a call whose answer is too short: 1 to 3 come before 4
+-- the number of a call whose answer is too short: 1 to 3 and 14 come before 4
 abbrev pub up-to-4 : ℕ → ℕ
-up-to-4 k = cond (eqb k 1) 1 (cond (eqb k 2) 2 (cond (eqb k 3) 3 4))
+up-to-4 k = cond (eqb k 1) 1 (cond (eqb k 2) 2 (cond (eqb k 3) 3 (cond (eqb k 14) 14 4)))
 
 -- With room for the numbers: r is all that the definition's call answers, k is its number, and the slice has its numbers.
 pub record Roomy (a : Asked) (l : Lent) (old : List ℕ) (k : ℕ) (new : List ℕ) (exit : Lent) (r : Answer) : Type 0 where
-  pub returns : Returns (call base a l) r exit
+  pub returns : Returns (call a l) r exit
   pub keeps : Kept-account a l r exit
   pub number : k ≡ r .refusal
   pub answer : new ≡ handed r old

@@ -7,14 +7,17 @@ use mesher::run_front;
 use refusals::Room;
 use refusals::Stated;
 use refusals::refusal;
+use refusals::standard;
+use rules::Quality;
 ghost use mathlib.Core.Path.{_≡_};
 ghost use Prim.Native.Nat.{_≤_};
 ghost use lib.ListN.{length};
 ghost use Rattle.definition.specs.Call.{Lent, onto};
-ghost use Rattle.refusals.specs.Stated.{Lends, asked};
+ghost use Rattle.definition.specs.Numbers.{base};
+ghost use Rattle.refusals.specs.Stated.{Lends, asked, asked-for};
 ghost use Rattle.refusals.specs.Refusals.{first-refusal};
-ghost use Rattle.mesher.specs.Promise.{asked-of, lent-of};
-ghost use Rattle.library.specs.Exported.{numbers, up-to-4, Exported};
+ghost use Rattle.mesher.specs.Promise.{lent-of};
+ghost use Rattle.library.specs.Exported.{numbers, up-to-4, set-of, Exported};
 
 // Numbers of a finished run: nine counts and four lengths.
 const ANSWER: usize = 13;
@@ -39,7 +42,7 @@ fn write_answer(answer: &mut [usize], a: Answer)
     answer[12] = a.components;
 }
 
-// The number of a call whose answer is too short: 1 to 3 come before it, and it is 4.
+// The number of a call whose answer is too short: 1 to 3 and 14 come before it, and it is 4.
 fn short_answer(points: &[f64], triangles: &[u32], a: Stated, n: Room) -> usize
     ensures { λ r. ⌜ ((l : Lent) → Lends l (now (points .entry)) (now (triangles .entry)) n → r ≡ up-to-4 (first-refusal (asked a) l)) ⌝ }
 {
@@ -53,10 +56,61 @@ fn short_answer(points: &[f64], triangles: &[u32], a: Stated, n: Room) -> usize
     if k == 3 {
         return 3;
     }
+    if k == 14 {
+        return 14;
+    }
     4
 }
 
-// run_front. The number of the refusal is returned, 0 where the run finished; then the counts and the lengths of the lists come to the front of the answer, and a refusal leaves it as it was.
+// The number of the refusal is returned, 0 where the run finished; then the counts and the lengths of the lists come to the front of the answer, and a refusal leaves it as it was.
+fn answered(
+    points: &mut [f64],
+    triangles: &[u32],
+    quads: &mut [u32],
+    triangles_out: &mut [u32],
+    components: &mut [u32],
+    work: &mut [u32],
+    float_work: &mut [f64],
+    stated: Stated,
+    answer: &mut [usize],
+) -> usize
+    ensures { λ r. ⌜ Exported
+        (asked stated)
+        (lent-of (now (points .entry)) (now (triangles .entry)) (now (quads .entry)) (now («triangles_out» .entry)) (now (components .entry)) (now (work .entry)) (now («float_work» .entry)))
+        (now (answer .entry))
+        r
+        (now (answer .exit))
+        (lent-of (now (points .exit)) (now (triangles .entry)) (now (quads .exit)) (now («triangles_out» .exit)) (now (components .exit)) (now (work .exit)) (now («float_work» .exit))) ⌝ }
+{
+    if answer.len() < ANSWER {
+        let room = Room {
+            quads: quads.len(),
+            out: triangles_out.len(),
+            components: components.len(),
+            work: work.len(),
+            floats: float_work.len(),
+        };
+        return short_answer(points, triangles, stated, room);
+    }
+    let a = run_front(
+        points,
+        triangles,
+        quads,
+        triangles_out,
+        components,
+        work,
+        float_work,
+        stated,
+    );
+    let k = a.refusal;
+    if k != 0 {
+        return k;
+    }
+    write_answer(answer, a);
+    0
+}
+
+// run_front, with document 01's quality set.
 #[no_mangle]
 pub extern "C" fn sedgepick_run_front(
     points: &mut [f64],
@@ -75,32 +129,15 @@ pub extern "C" fn sedgepick_run_front(
     answer: &mut [usize],
 ) -> usize
     ensures { λ r. ⌜ Exported
-        (asked-of given capacity count slots size stop)
+        (asked-for given capacity count slots size stop base)
         (lent-of (now (points .entry)) (now (triangles .entry)) (now (quads .entry)) (now («triangles_out» .entry)) (now (components .entry)) (now (work .entry)) (now («float_work» .entry)))
         (now (answer .entry))
         r
         (now (answer .exit))
         (lent-of (now (points .exit)) (now (triangles .entry)) (now (quads .exit)) (now («triangles_out» .exit)) (now (components .exit)) (now (work .exit)) (now («float_work» .exit))) ⌝ }
 {
-    if answer.len() < ANSWER {
-        let stated = Stated {
-            given,
-            capacity,
-            count,
-            slots,
-            size,
-            stop,
-        };
-        let room = Room {
-            quads: quads.len(),
-            out: triangles_out.len(),
-            components: components.len(),
-            work: work.len(),
-            floats: float_work.len(),
-        };
-        return short_answer(points, triangles, stated, room);
-    }
-    let a = run_front(
+    let stated = standard(given, capacity, count, slots, size, stop);
+    answered(
         points,
         triangles,
         quads,
@@ -108,17 +145,67 @@ pub extern "C" fn sedgepick_run_front(
         components,
         work,
         float_work,
+        stated,
+        answer,
+    )
+}
+
+// run_front, with a quality set by its five numbers.
+#[no_mangle]
+pub extern "C" fn sedgepick_run_front_with(
+    points: &mut [f64],
+    triangles: &[u32],
+    quads: &mut [u32],
+    triangles_out: &mut [u32],
+    components: &mut [u32],
+    work: &mut [u32],
+    float_work: &mut [f64],
+    given: usize,
+    capacity: usize,
+    count: usize,
+    slots: usize,
+    size: f64,
+    stop: u32,
+    least_jacobian: f64,
+    largest_cosine: f64,
+    side_low: f64,
+    side_high: f64,
+    pairs: usize,
+    answer: &mut [usize],
+) -> usize
+    ensures { λ r. ⌜ Exported
+        (asked-for given capacity count slots size stop (set-of «least_jacobian» «largest_cosine» «side_low» «side_high» pairs))
+        (lent-of (now (points .entry)) (now (triangles .entry)) (now (quads .entry)) (now («triangles_out» .entry)) (now (components .entry)) (now (work .entry)) (now («float_work» .entry)))
+        (now (answer .entry))
+        r
+        (now (answer .exit))
+        (lent-of (now (points .exit)) (now (triangles .entry)) (now (quads .exit)) (now («triangles_out» .exit)) (now (components .exit)) (now (work .exit)) (now («float_work» .exit))) ⌝ }
+{
+    let quality = Quality {
+        least_jacobian,
+        largest_cosine,
+        side_low,
+        side_high,
+        pairs,
+    };
+    let stated = Stated {
         given,
         capacity,
         count,
         slots,
         size,
         stop,
-    );
-    let k = a.refusal;
-    if k != 0 {
-        return k;
-    }
-    write_answer(answer, a);
-    0
+        quality,
+    };
+    answered(
+        points,
+        triangles,
+        quads,
+        triangles_out,
+        components,
+        work,
+        float_work,
+        stated,
+        answer,
+    )
 }

@@ -1,4 +1,4 @@
--- A call that none of 1 to 7 refuses has all that its run asks.
+-- A call that is not refused before its run has all that its run asks.
 use mathlib.Core.Path.{_≡_, refl, ap, sym, _∙_, subst}
 use mathlib.Core.List.{List, [], _∷_}
 use Prim.Native.Nat.{ℕ, suc, _+_, _*_, _<_}
@@ -46,8 +46,8 @@ module _ (a : Asked) (l : Lent) (h : first-refusal a l ≡ 0) where
       let p = passed a l h in
       shape-at (l .triangles) (a .given) i (p .apart i k) (p .known (3 * i) (omega arith)) (p .known (3 * i + 1) (omega arith)) (p .known (3 * i + 2) (omega arith))
 
-  pub small : Small (a .slots) (a .capacity)
-  small = let p = passed a l h in record { slots = p .limited .slots; points = p .limited .capacity }
+  pub small : Small (rules-of a)
+  small = let p = passed a l h in record { slots = p .limited .slots; points = p .limited .capacity; pairs = p .pairs }
 
   -- what building it asks
   pub can-build : CanBuild (l .work) (a .slots) (a .capacity) (l .triangles) (a .count) (a .given)

@@ -8,13 +8,14 @@ use lib.ListN.{length}
 use lib.Ieee.{Float}
 use Rattle.definition.specs.Lists.{flat-map}
 use Rattle.definition.specs.Floats.{_≺_, 1·0}
-use Rattle.definition.specs.Numbers.{base, max-attempts, tiny-size}
+use Rattle.definition.specs.Numbers.{max-attempts, tiny-size}
 use Rattle.definition.specs.Counts.{no-counts}
 use Rattle.definition.specs.Cells.{Mesh, tri-nodes, triangles}
 use Rattle.definition.specs.Components.{component-sizes}
 use Rattle.definition.specs.Front.{Progress, front-loop, start}
 use Rattle.definition.specs.Call.{Asked, Lent, given-points, given-tris, onto, settings}
 use Rattle.rules.specs.declared.Rules.{Rules}
+use Rattle.rules.specs.Settings.{quality-in}
 use Rattle.cells.specs.Rep.{Rep}
 use Rattle.refusals.specs.Refusals.{first-refusal}
 use Rattle.mesher.specs.declared.Answer.{Answer}
@@ -42,7 +43,7 @@ bucket-of size = cond (tiny-size ≺ size) size 1·0
 
 -- what the run of a call goes by, with this side of a bucket
 abbrev pub rules-with : Asked → Float → Rules
-rules-with a bucket = record { slots = a .slots; capacity = a .capacity; given = a .count; bucket = bucket; size = a .size; even = eqb (a .stop) 1; attempts = max-attempts (a .count) }
+rules-with a bucket = record { slots = a .slots; capacity = a .capacity; given = a .count; bucket = bucket; size = a .size; even = eqb (a .stop) 1; attempts = max-attempts (a .count); quality = quality-in (a .quality) }
 
 -- and with its own
 abbrev pub rules-of : Asked → Rules
@@ -53,9 +54,9 @@ rules-of a = rules-with a (bucket-of (a .size))
 -- how the run of a call ends
 abbrev pub progress-of : Asked → Lent → Progress
 progress-of a l =
-    front-loop (max-attempts (a .count) + 2) (settings base a) (length (given-tris a l)) (start (settings base a) (given-tris a l) (given-points a l))
+    front-loop (max-attempts (a .count) + 2) (settings a) (length (given-tris a l)) (start (settings a) (given-tris a l) (given-points a l))
 
--- a call that none of 1 to 7 refuses, and the slices that its run reads and writes
+-- a call that is not refused before its run, and the slices that its run reads and writes
 pub record CanMesh (q : List Float) (ts qs w : List ℕ) (f : List Float) (a : Asked) (l : Lent) : Type 0 where
   pub passed : first-refusal a l ≡ 0
   pub points : l .points ≡ q

@@ -1,4 +1,4 @@
-// The run of a call that none of 1 to 7 refuses.
+// The run of a call that is not refused before it.
 use crate::Answer;
 use cells::clear::clear_floats;
 use cells::clear::clear_words;
@@ -13,7 +13,6 @@ use settling::standing::Finish;
 use settling::standing::Run;
 use settling::standing::Standing;
 ghost use mathlib.Core.Path.{_≡_};
-ghost use Rattle.definition.specs.Numbers.{base};
 ghost use Rattle.definition.specs.Cells.{Mesh};
 ghost use Rattle.definition.specs.Call.{Lent, call};
 ghost use Rattle.refusals.specs.Refusals.{first-refusal};
@@ -103,6 +102,7 @@ fn mesh(
     let bucket = bucket_of(stated.size);
     let even = stated.stop == EVEN;
     let attempts = ATTEMPTS_EACH * stated.count + ATTEMPTS_MORE;
+    let quality = stated.quality;
     let rules = Rules {
         slots: stated.slots,
         capacity: stated.capacity,
@@ -111,6 +111,7 @@ fn mesh(
         size: stated.size,
         even,
         attempts,
+        quality,
     };
     front_loop(work, points, float_work, quads, rules, counters)
 }
@@ -162,7 +163,7 @@ pub fn run(
 ) -> Answer
     requires { ⌜ first-refusal (asked stated) (lent-of (now points) (now triangles) (now quads) (now «triangles_out») (now components) (now work) (now «float_work»)) ≡ 0 ⌝ }
     ensures { λ r. ⌜ Returns
-        (call base
+        (call
         (asked stated)
         (lent-of (now (points .entry)) (now (triangles .entry)) (now (quads .entry)) (now («triangles_out» .entry)) (now (components .entry)) (now (work .entry)) (now («float_work» .entry))))
         r

@@ -6,7 +6,7 @@ ghost use lib.Ieee.{inf};
 ghost use Rattle.definition.specs.Call.{point-at};
 ghost use Rattle.definition.specs.Floats.{_≺_, _≼_, finite, greater, 0·0};
 ghost use Rattle.definition.specs.Lists.{any};
-ghost use Rattle.definition.specs.Numbers.{Quality, base};
+ghost use Rattle.definition.specs.Numbers.{Quality};
 ghost use Rattle.definition.specs.Plane.{Node};
 ghost use Rattle.definition.specs.Metrics.{corners, corner-of, angle-of, not-convex, clamp, cosine, largest-cosine, quad-metrics, passes, score};
 ghost use Rattle.plane.specs.Measures.{LengthsOf, SidesOf, metrics-of-enum};
@@ -18,8 +18,6 @@ use crate::floats::lesser;
 use crate::jacobian::least_jacobian;
 use crate::lengths::Lengths;
 use crate::lengths::lengths_of;
-use crate::limits::LARGEST_COSINE;
-use crate::limits::LEAST_JACOBIAN;
 use crate::points::Spot;
 use crate::points::at;
 use crate::sides::any_of;
@@ -176,13 +174,6 @@ pub fn passes(m: Metrics, least: f64, most: f64) -> bool
         Metrics::Absent => false,
         Metrics::Measured(sj, k) => good(sj, k, least, most),
     }
-}
-
-// With document 01's limits.
-pub fn passes_base(m: Metrics) -> bool
-    ensures { λ r. ⌜ r ≡ passes base (metrics-of-enum m) ⌝ }
-{
-    passes(m, LEAST_JACOBIAN, LARGEST_COSINE)
 }
 
 // The lesser of the scaled Jacobian and the sine of the least angle.

@@ -9,7 +9,6 @@ use lib.Dec.{leb}
 use lib.ListN.{length, take, drop}
 use lib.Seq.{take-add}
 use Rattle.definition.specs.Lists.{empty, rows, concat, flat-map}
-use Rattle.definition.specs.Numbers.{base}
 use Rattle.definition.specs.Call.{call}
 use Rattle.definition.specs.Text.{Bytes, Taken, Reader, _>>=_, _>>_, give, ensure, lit, dec, hex, one-digit, most-listed, most-bytes, Input, input, asked, lent-for, show-refusal, show-returned, answer-to, reply}
 use Rattle.laws.specs.Lists.{rows-length}
@@ -34,14 +33,14 @@ whole s = cond (leb (length s) most-bytes) (to-the-end (input s)) none
 -- the text that answers an input; refusal 10 for none
 unfoldable pub answer : Option Input → Bytes
 answer none = show-refusal 10
-answer (some i) = show-returned (i .points) (call base (asked i) (lent-for i))
+answer (some i) = show-returned (i .points) (call (asked i) (lent-for i))
 
 ended : (o : Option (Taken Input)) → answer-to o ≡ answer (to-the-end o)
 unfolding answer-to to-the-end answer
 ended none = refl
 ended (some t) = go (empty (t .rest))
   where
-    go : (b : Bool) → cond b (show-returned (t .value .points) (call base (asked (t .value)) (lent-for (t .value)))) (show-refusal 10) ≡ answer (cond b (some (t .value)) none)
+    go : (b : Bool) → cond b (show-returned (t .value .points) (call (asked (t .value)) (lent-for (t .value)))) (show-refusal 10) ≡ answer (cond b (some (t .value)) none)
     go true = refl
     go false = refl
 

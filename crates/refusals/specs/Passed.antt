@@ -1,4 +1,4 @@
--- What each of the conditions 1 to 7 says where it does not hold, in terms of the slices. The laws named `pass` lead back to the condition.
+-- What each of the conditions before a run says where it does not hold, in terms of the slices. The laws named `pass` lead back to the condition.
 use mathlib.Core.Path.{_≡_, refl, sym}
 use mathlib.Core.Bool.{Bool, true, false, not, _&&_, _||_}
 use mathlib.Core.Logic.{_≢_, inl, inr}
@@ -10,12 +10,12 @@ use native.Mathlib.Omega.{arith}
 use lib.Dec.{eqb, leb, ltb}
 use lib.ListN.{length, getD}
 use lib.Ieee.{Float}
-use borrow.Author.Tests.{eqb-true, eqb-false, eq-eqb, ne-eqb, leb-false, lt-leb, ltb-false, le-ltb, not-false}
-use Rattle.definition.specs.Floats.{_≼_, abs, 0·0}
+use borrow.Author.Tests.{eqb-true, eqb-false, eq-eqb, ne-eqb, leb-true, leb-false, lt-leb, ltb-false, le-ltb, not-false}
+use Rattle.definition.specs.Floats.{_≼_, abs, 0·0, 0·1, 0·5, 0·99, 1·0, 4·0}
 use Rattle.definition.specs.Lists.{any}
 use Rattle.definition.specs.Cells.{Tri, new-tri, tri-nodes}
-use Rattle.definition.specs.Call.{Asked, Lent, point-at, tri-at, first-points, first-tris, given-points, given-tris, most-given, most-capacity, most-slots, most-coordinate, slot-words, point-words, slot-floats, over-limit, bad-size, bad-stop, too-short, unknown-node, twice, repeated-node, outside, far-point}
-use Rattle.laws.specs.Bools.{which, or-none}
+use Rattle.definition.specs.Call.{Asked, Lent, point-at, tri-at, first-points, first-tris, given-points, given-tris, most-given, most-capacity, most-slots, most-coordinate, slot-words, point-words, slot-floats, over-limit, bad-size, bad-stop, ranges, most-pairs, good-quality, bad-quality, too-short, unknown-node, twice, repeated-node, outside, far-point}
+use Rattle.laws.specs.Bools.{which, and-right, both, or-none}
 use Rattle.refusals.specs.Tests.{none-below, below-none, by-thirds}
 
 -- ---- 1
@@ -62,6 +62,16 @@ module _ (a : Asked) where
     | yes e ↦ rw (eq-eqb (a .stop) 0 e)
     | no e ↦ rw (ne-eqb (a .stop) 0 e, eq-eqb (a .stop) 1 (omega arith))
   ]
+
+  -- ---- 14
+
+  -- no more pairs than can be kept
+  pub few-pairs : bad-quality a ≡ false → a .quality .pairs ≤ 64
+  unfolding bad-quality good-quality most-pairs
+  few-pairs e =
+      let y = a .quality in
+      let rest = ranges 0·0 1·0 (y .least-jacobian) && ranges 0·5 0·99 (y .largest-cosine) && ranges 0·1 4·0 (y .side-low) && ranges 0·1 4·0 (y .side-high) && y .side-low ≼ y .side-high && leb 1 (y .pairs) in
+      leb-true (a .quality .pairs) 64 (and-right rest (leb (a .quality .pairs) 64) (not-false (good-quality (a .quality)) e))
 
 -- ---- 4
 
@@ -183,11 +193,6 @@ pub record Near (ps : List Float) (i : ℕ) : Type 0 where
   pub x : (abs (getD ps (3 * i) 0·0) ≼ most-coordinate) ≡ true
   pub y : (abs (getD ps (3 * i + 1) 0·0) ≼ most-coordinate) ≡ true
 
-both : (a b : Bool) → not (a && b) ≡ false → (a ≡ true) × (b ≡ true)
-both true true e = (refl, refl)
-both true false e = (refl, sym e)
-both false b e = absurd (let z : _≡_ {A = ℕ} 0 1 = cc in omega arith)
-
 module _ (a : Asked) (l : Lent) where
   -- no point is outside
   pub near-pass : ((i : ℕ) → i < a .given → outside (point-at (l .points) i) ≡ false) → far-point a l ≡ false
@@ -201,16 +206,17 @@ module _ (a : Asked) (l : Lent) where
   pub near : far-point a l ≡ false → (i : ℕ) → i < a .given → Near (l .points) i
   unfolding outside point-at
   near e i k =
-      let h = both (abs (getD (l .points) (3 * i) 0·0) ≼ most-coordinate) (abs (getD (l .points) (3 * i + 1) 0·0) ≼ most-coordinate) (near-each e i k) in
+      let h = both (abs (getD (l .points) (3 * i) 0·0) ≼ most-coordinate) (abs (getD (l .points) (3 * i + 1) 0·0) ≼ most-coordinate) (not-false _ (near-each e i k)) in
       record { x = h .0; y = h .1 }
 
 -- ---- all of them
 
--- what a call that gets past 1 to 7 has
+-- what a call that none of them refuses has
 pub record Passed (a : Asked) (l : Lent) : Type 0 where
   pub limited : Limited a
   pub sized : bad-size a ≡ false
   pub ruled : a .stop ≤ 1
+  pub pairs : a .quality .pairs ≤ 64
   pub roomy : Roomy a l
   pub known : Known (a .given) (a .count) (l .triangles)
   pub apart : (i : ℕ) → i < a .count → Apart (l .triangles) i

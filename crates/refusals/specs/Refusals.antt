@@ -9,12 +9,11 @@ use Prim.Native.Nat.{ℕ, _≤_, _<_}
 use native.Mathlib.Omega.{arith}
 use lib.Ieee.{Float}
 use Rattle.definition.specs.Lists.{find}
-use Rattle.definition.specs.Numbers.{Quality}
 use Rattle.definition.specs.Front.{run-front}
-use Rattle.definition.specs.Call.{Asked, Lent, over-limit, bad-size, bad-stop, too-short, unknown-node, repeated-node, far-point, conditions, given-points, given-tris, settings, untouched, after-run, call}
+use Rattle.definition.specs.Call.{Asked, Lent, over-limit, bad-size, bad-stop, bad-quality, too-short, unknown-node, repeated-node, far-point, conditions, given-points, given-tris, settings, untouched, after-run, call}
 use Rattle.refusals.specs.declared.Room.{Room}
 use Rattle.refusals.specs.Stated.{Lends}
-use Rattle.refusals.specs.Passed.{Passed, limited, ruled, roomy, known, apart, near}
+use Rattle.refusals.specs.Passed.{Passed, limited, ruled, few-pairs, roomy, known, apart, near}
 
 -- the number of a pair, and 0 where there is none
 unfoldable pub number-of : Option (ℕ × Bool) → ℕ
@@ -44,10 +43,11 @@ module _ (a : Asked) (l : Lent) where
       ≡ cond (over-limit a) 1
       (cond (bad-size a) 2
       (cond (bad-stop a) 3
+      (cond (bad-quality a) 14
       (cond (too-short a l) 4
       (cond (unknown-node a l) 5
       (cond (repeated-node a l) 6
-      (cond (far-point a l) 7 0))))))
+      (cond (far-point a l) 7 0)))))))
   unfolding first-refusal number-of conditions
   in-turn = simp (turn, no-turn)
 
@@ -56,6 +56,7 @@ record Clear (a : Asked) (l : Lent) : Type 0 where
   c1 : over-limit a ≡ false
   c2 : bad-size a ≡ false
   c3 : bad-stop a ≡ false
+  c14 : bad-quality a ≡ false
   c4 : too-short a l ≡ false
   c5 : unknown-node a l ≡ false
   c6 : repeated-node a l ≡ false
@@ -67,11 +68,12 @@ module _ (a : Asked) (l : Lent) (zero-is : first-refusal a l ≡ 0) where
       let h1 = not-taken (over-limit a) 1 _ (omega arith) (sym (in-turn a l) ∙ zero-is) in
       let h2 = not-taken (bad-size a) 2 _ (omega arith) (h1 .1) in
       let h3 = not-taken (bad-stop a) 3 _ (omega arith) (h2 .1) in
-      let h4 = not-taken (too-short a l) 4 _ (omega arith) (h3 .1) in
+      let h14 = not-taken (bad-quality a) 14 _ (omega arith) (h3 .1) in
+      let h4 = not-taken (too-short a l) 4 _ (omega arith) (h14 .1) in
       let h5 = not-taken (unknown-node a l) 5 _ (omega arith) (h4 .1) in
       let h6 = not-taken (repeated-node a l) 6 _ (omega arith) (h5 .1) in
       let h7 = not-taken (far-point a l) 7 0 (omega arith) (h6 .1) in
-      record { c1 = h1 .0; c2 = h2 .0; c3 = h3 .0; c4 = h4 .0; c5 = h5 .0; c6 = h6 .0; c7 = h7 .0 }
+      record { c1 = h1 .0; c2 = h2 .0; c3 = h3 .0; c14 = h14 .0; c4 = h4 .0; c5 = h5 .0; c6 = h6 .0; c7 = h7 .0 }
 
   -- what a call with no refusal has
   pub passed : Passed a l
@@ -80,6 +82,7 @@ module _ (a : Asked) (l : Lent) (zero-is : first-refusal a l ≡ 0) where
         limited = limited a (clear .c1);
         sized = clear .c2;
         ruled = ruled a (clear .c3);
+        pairs = few-pairs a (clear .c14);
         roomy = roomy a l (clear .c4);
         known = known a l (clear .c5);
         apart = apart a l (clear .c6);
@@ -89,12 +92,12 @@ module _ (a : Asked) (l : Lent) (zero-is : first-refusal a l ≡ 0) where
   -- as the laws of a finished call take it
   pub none-holds : find (λ c. c .1) (conditions a l) ≡ none
   unfolding find conditions
-  none-holds = rw (clear .c1, clear .c2, clear .c3, clear .c4, clear .c5, clear .c6, clear .c7)
+  none-holds = rw (clear .c1, clear .c2, clear .c3, clear .c14, clear .c4, clear .c5, clear .c6, clear .c7)
 
   -- and the call runs
-  pub call-runs : (y : Quality) → call y a l ≡ after-run l (run-front (settings y a) (given-tris a l) (given-points a l))
+  pub call-runs : call a l ≡ after-run l (run-front (settings a) (given-tris a l) (given-points a l))
   unfolding call
-  call-runs y = rw (none-holds, call)
+  call-runs = rw (none-holds, call)
 
 some-found : (o : Option (ℕ × Bool)) → number-of o ≢ 0 → (c : ℕ × Bool) × (o ≡ some c)
 unfolding number-of
@@ -102,9 +105,9 @@ some-found none h = absurd (h refl)
 some-found (some c) h = (c, refl)
 
 -- a refusal is the whole answer, and nothing is touched
-pub call-refused : (y : Quality) (a : Asked) (l : Lent) → first-refusal a l ≢ 0 → call y a l ≡ untouched (first-refusal a l) l
+pub call-refused : (a : Asked) (l : Lent) → first-refusal a l ≢ 0 → call a l ≡ untouched (first-refusal a l) l
 unfolding call first-refusal number-of
-call-refused y a l h =
+call-refused a l h =
     let f = some-found (find (λ c. c .1) (conditions a l)) h in
     rw (f .1, call, first-refusal)
 
@@ -128,19 +131,3 @@ by-length a l m ps ts n h k =
       k .work,
       k .float-work,
     )
-
-few : (b : Bool) (k n : ℕ) → k ≤ 7 → n ≤ 7 → cond b k n ≤ 7
-few true k n h m = h
-few false k n h m = m
-
--- there are seven
-pub at-most-7 : (a : Asked) (l : Lent) → first-refusal a l ≤ 7
-at-most-7 a l =
-    rw in-turn
-    (few (over-limit a) 1 _ (omega arith)
-    (few (bad-size a) 2 _ (omega arith)
-    (few (bad-stop a) 3 _ (omega arith)
-    (few (too-short a l) 4 _ (omega arith)
-    (few (unknown-node a l) 5 _ (omega arith)
-    (few (repeated-node a l) 6 _ (omega arith)
-    (few (far-point a l) 7 0 (omega arith) (omega arith))))))))

@@ -6,13 +6,20 @@ use lib.ListN.{length, replicate, length-replicate}
 use lib.Ieee.{Float}
 use Rattle.definition.specs.Floats.{0·0}
 use Rattle.definition.specs.Plane.{Node}
+use Rattle.definition.specs.Numbers.{Quality}
 use Rattle.definition.specs.Call.{Asked, Lent}
+use Rattle.rules.specs.Settings.{quality-of}
 use Rattle.refusals.specs.declared.Stated.{Stated}
 use Rattle.refusals.specs.declared.Room.{Room}
 
 -- the numbers that the caller states
+abbrev pub asked-for : ℕ → ℕ → ℕ → ℕ → Float → ℕ → Quality → Asked
+asked-for given capacity count slots size stop quality =
+    record { given = given; capacity = capacity; count = count; slots = slots; size = size; stop = stop; quality = quality }
+
+-- as the code has them
 abbrev pub asked : Stated → Asked
-asked a = record { given = a .given; capacity = a .capacity; count = a .count; slots = a .slots; size = a .size; stop = a .stop }
+asked a = asked-for (a .given) (a .capacity) (a .count) (a .slots) (a .size) (a .stop) (quality-of (a .quality))
 
 -- a point by its coordinates
 abbrev pub spot : Float → Float → Float → Node

@@ -1,12 +1,16 @@
-// The refusals 1 to 7 that open a call of run_front: they read the points and the triangles, and touch nothing.
+// The refusals that open a call of run_front: they read the points and the triangles, and touch nothing.
+use rules::Quality;
+use rules::standard_quality;
 ghost use mathlib.Core.Path.{_≡_};
 ghost use Prim.Native.Nat.{_*_, _≤_};
 ghost use lib.Ieee.{Float};
 ghost use lib.ListN.{length};
-ghost use Rattle.definition.specs.Call.{Lent, over-limit, bad-size, bad-stop, too-short, unknown-node, twice, repeated-node, outside, far-point, most-coordinate};
+ghost use Rattle.definition.specs.Call.{Lent, over-limit, bad-size, bad-stop, ranges, good-quality, bad-quality, too-short, unknown-node, twice, repeated-node, outside, far-point, most-coordinate};
 ghost use Rattle.definition.specs.Cells.{new-tri};
 ghost use Rattle.definition.specs.Floats.{_≼_, abs};
-ghost use Rattle.refusals.specs.Stated.{asked, Lends, spot};
+ghost use Rattle.definition.specs.Numbers.{base};
+ghost use Rattle.rules.specs.Settings.{quality-of};
+ghost use Rattle.refusals.specs.Stated.{asked, asked-for, Lends, spot};
 ghost use Rattle.refusals.specs.Passed.{Limited};
 ghost use Rattle.refusals.specs.Refusals.{first-refusal};
 
@@ -24,6 +28,21 @@ const LEAST_SIZE: f64 = 0.015625;
 
 // The greatest size.
 const MOST_SIZE: f64 = 8.0;
+
+// The ranges of a quality set: least and most of the scaled Jacobian, of the cosine and of the side factors; the most pairs.
+const LEAST_JACOBIAN: f64 = 0.0;
+
+const MOST_JACOBIAN: f64 = 1.0;
+
+const LEAST_COSINE: f64 = 0.5;
+
+const MOST_COSINE: f64 = 0.99;
+
+const LEAST_FACTOR: f64 = 0.1;
+
+const MOST_FACTOR: f64 = 4.0;
+
+const MOST_PAIRS: usize = 64;
 
 // The greatest magnitude of an x or y.
 const MOST_COORDINATE: f64 = 8.0;
@@ -43,6 +62,30 @@ pub struct Stated {
     pub slots: usize,
     pub size: f64,
     pub stop: u32,
+    pub quality: Quality,
+}
+
+// With document 01's quality set.
+pub fn standard(
+    given: usize,
+    capacity: usize,
+    count: usize,
+    slots: usize,
+    size: f64,
+    stop: u32,
+) -> Stated
+    ensures { λ r. ⌜ asked r ≡ asked-for given capacity count slots size stop base ⌝ }
+{
+    let quality = standard_quality();
+    Stated {
+        given,
+        capacity,
+        count,
+        slots,
+        size,
+        stop,
+        quality,
+    }
 }
 
 // The lengths of the lent slices that are measured and not read: `out` of the triangles out, `floats` of the f64 work.
@@ -97,6 +140,49 @@ fn bad_stop(a: Stated) -> bool
         return true;
     }
     false
+}
+
+// From low to high, which pass; a NaN does not.
+fn ranges(low: f64, high: f64, c: f64) -> bool
+    ensures { λ r. ⌜ r ≡ ranges low high c ⌝ }
+{
+    if low <= c {
+        return c <= high;
+    }
+    false
+}
+
+// Every number of the set is in its range, and the low side factor is not above the high one.
+fn good_quality(y: Quality) -> bool
+    ensures { λ r. ⌜ r ≡ good-quality (quality-of y) ⌝ }
+{
+    if !ranges(LEAST_JACOBIAN, MOST_JACOBIAN, y.least_jacobian) {
+        return false;
+    }
+    if !ranges(LEAST_COSINE, MOST_COSINE, y.largest_cosine) {
+        return false;
+    }
+    if !ranges(LEAST_FACTOR, MOST_FACTOR, y.side_low) {
+        return false;
+    }
+    if !ranges(LEAST_FACTOR, MOST_FACTOR, y.side_high) {
+        return false;
+    }
+    if !(y.side_low <= y.side_high) {
+        return false;
+    }
+    if y.pairs < 1 {
+        return false;
+    }
+    y.pairs <= MOST_PAIRS
+}
+
+// 14: a quality set out of its ranges.
+fn bad_quality(a: Stated) -> bool
+    ensures { λ r. ⌜ r ≡ bad-quality (asked a) ⌝ }
+{
+    let y = a.quality;
+    !good_quality(y)
 }
 
 // ---- the lender's slices
@@ -244,6 +330,9 @@ pub fn refusal(points: &[f64], triangles: &[u32], a: Stated, n: Room) -> u32
     }
     if bad_stop(a) {
         return 3;
+    }
+    if bad_quality(a) {
+        return 14;
     }
     if too_short(points, triangles, a, n) {
         return 4;

@@ -5,6 +5,7 @@ use hashing::mixed_floats;
 use hashing::mixed_words;
 use mesher::Answer;
 use mesher::run_front;
+use refusals::standard;
 ghost use mathlib.Core.Path.{_≡_};
 ghost use Prim.Native.Nat.{_≤_, _<_};
 ghost use lib.ListN.{length};
@@ -156,12 +157,7 @@ fn answer_hash(size: f64, stop: u32) -> u64 {
         &mut components,
         &mut work,
         &mut floats,
-        NODES,
-        CAPACITY,
-        2 * SQUARES,
-        SLOTS,
-        size,
-        stop,
+        standard(NODES, CAPACITY, 2 * SQUARES, SLOTS, size, stop),
     );
     let given = mixed_words(mixed_counts(a), &quads, 4 * within(a.quads));
     let cut = mixed_words(given, &out, 3 * within(a.triangles));

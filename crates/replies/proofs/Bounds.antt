@@ -1,12 +1,13 @@
 -- The numbers of a call's answer are small, for what the program asks.
 use mathlib.Core.Path.{_≡_, refl, sym, ap, _∙_, subst}
-use mathlib.Core.Bool.{Bool}
+use mathlib.Core.Bool.{Bool, true}
 use mathlib.Core.Logic.{inl, inr}
 use Prim.{absurd}
 use Prim.Native.Nat.{ℕ, _+_, _≤_, _<_}
 use native.Mathlib.Omega.{arith}
+use lib.Ieee.{binary64, fits}
 use Rattle.definition.specs.Lists.{find}
-use Rattle.definition.specs.Numbers.{base, max-attempts}
+use Rattle.definition.specs.Numbers.{max-attempts}
 use Rattle.definition.specs.Counts.{Counts, tally, no-counts, Want, of-points, of-slots, number}
 use Rattle.definition.specs.Front.{Outcome, ran, wanting, run-front}
 use Rattle.definition.specs.Call.{Asked, Lent, Lengths, finished, refusal, given-points, given-tris, settings, conditions, untouched, after-run, call}
@@ -25,7 +26,7 @@ use Rattle.replies.proofs.Empties.{front-empty-bound}
 -- ---- refusals
 
 module _ (a : Asked) (l : Lent) (k : ℕ) where
-  of-condition : (c : ℕ × Bool) → In c (conditions a l) → (0 < c .0) × (c .0 ≤ 9)
+  of-condition : (c : ℕ × Bool) → In c (conditions a l) → (0 < c .0) × (c .0 ≤ 16)
   unfolding conditions
   of-condition c i = elim i [
     | inl e ↦ let f = ap (λ z. z .0) e in (omega arith, omega arith)
@@ -35,24 +36,25 @@ module _ (a : Asked) (l : Lent) (k : ℕ) where
     | inr (inr (inr (inr (inl e)))) ↦ let f = ap (λ z. z .0) e in (omega arith, omega arith)
     | inr (inr (inr (inr (inr (inl e))))) ↦ let f = ap (λ z. z .0) e in (omega arith, omega arith)
     | inr (inr (inr (inr (inr (inr (inl e)))))) ↦ let f = ap (λ z. z .0) e in (omega arith, omega arith)
-    | inr (inr (inr (inr (inr (inr (inr e)))))) ↦ absurd e
+    | inr (inr (inr (inr (inr (inr (inr (inl e))))))) ↦ let f = ap (λ z. z .0) e in (omega arith, omega arith)
+    | inr (inr (inr (inr (inr (inr (inr (inr e))))))) ↦ absurd e
   ]
 
-  of-want : (w : Want) → (0 < number w) × (number w ≤ 9)
+  of-want : (w : Want) → (0 < number w) × (number w ≤ 16)
   unfolding number
   of-want of-points = (omega arith, omega arith)
   of-want of-slots = (omega arith, omega arith)
 
-  of-outcome : (o : Outcome) → after-run l o .answer ≡ refusal k → (0 < k) × (k ≤ 9)
+  of-outcome : (o : Outcome) → after-run l o .answer ≡ refusal k → (0 < k) × (k ≤ 16)
   unfolding after-run
   of-outcome (ran r) e = absurd (let z : _≡_ {A = ℕ} 0 1 = cc in omega arith)
   of-outcome (wanting w ps qs) e = let f : number w ≡ k = cc in let b = of-want w in (omega arith, omega arith)
 
-  -- a call's refusal has one of the numbers 1 to 9
-  pub refused-number : call base a l .answer ≡ refusal k → (0 < k) × (k ≤ 9)
+  -- a call's refusal has one of the numbers 1 to 16
+  pub refused-number : call a l .answer ≡ refusal k → (0 < k) × (k ≤ 16)
   unfolding call untouched
   refused-number h = elim (known (find (λ c. c .1) (conditions a l))) [
-    | inl f ↦ of-outcome (run-front (settings base a) (given-tris a l) (given-points a l)) (rw (f, call) at h)
+    | inl f ↦ of-outcome (run-front (settings a) (given-tris a l) (given-points a l)) (rw (f, call) at h)
     | inr f ↦
         let g : refusal (f .0 .0) ≡ refusal k = rw (f .1, call) at h in
         let e : f .0 .0 ≡ k = cc in
@@ -73,20 +75,20 @@ record Small (given : ℕ) (c : Counts) (n : Lengths) : Type 0 where
   points : n .points ≤ 96
   components : n .components ≤ 160
 
-module _ (a : Asked) (l : Lent) (few : a .count ≤ 64) (capacity : a .capacity ≡ 96) (slots : a .slots ≡ 160) where
-  small : (c : Counts) (n : Lengths) → call base a l .answer ≡ finished c n → Small (a .given) c n
+module _ (a : Asked) (l : Lent) (double : fits binary64 (a .quality .largest-cosine) ≡ true) (few : a .count ≤ 64) (capacity : a .capacity ≡ 96) (slots : a .slots ≡ 160) where
+  small : (c : Counts) (n : Lengths) → call a l .answer ≡ finished c n → Small (a .given) c n
   unfolding settings max-attempts
   small c n e =
-      let b = behind base a l c n e in
+      let b = behind a l c n e in
       let t = tris-number a l (b .passed) in
       let p = points-number a l (b .passed) in
-      let k = keeps-account a l c n e in
-      let f = answer-fits base a l c n e in
-      let exit = call base a l .lent in
+      let k = keeps-account a l double c n e in
+      let f = answer-fits a l c n e in
+      let exit = call a l .lent in
       record {
-        front-empty = subst (λ z. z .front-empty ≤ 1) (sym (b .counts-are)) (front-empty-bound (settings base a) (given-tris a l) (given-points a l) (b .run) (b .ended));
+        front-empty = subst (λ z. z .front-empty ≤ 1) (sym (b .counts-are)) (front-empty-bound (settings a) (given-tris a l) (given-points a l) (b .run) (b .ended));
         attempts =
-            let h = attempts-bound (settings base a) (given-tris a l) (given-points a l) (b .run) (b .ended) in
+            let h = attempts-bound (settings a) (given-tris a l) (given-points a l) (b .run) (b .ended) in
             let g : b .run .counts .attempts ≤ 22801 = omega arith in
             subst (λ z. z .attempts ≤ 22801) (sym (b .counts-are)) g;
         adds-up = let s = k .attempts-sum in omega arith;
@@ -98,7 +100,7 @@ module _ (a : Asked) (l : Lent) (few : a .count ≤ 64) (capacity : a .capacity 
       }
 
   -- field by field
-  writable : (w : call.Answer) → call base a l .answer ≡ w → (r : Answer) → r .refusal ≡ number-of w → counts-in r ≡ call.counts-of w → lengths-in r ≡ call.lengths-of w → Writable r (a .given)
+  writable : (w : call.Answer) → call a l .answer ≡ w → (r : Answer) → r .refusal ≡ number-of w → counts-in r ≡ call.counts-of w → lengths-in r ≡ call.lengths-of w → Writable r (a .given)
   unfolding number-of tally call.counts-of call.lengths-of no-counts
   writable (finished c n) e r f g h =
       let s = small c n e in
@@ -150,5 +152,5 @@ module _ (a : Asked) (l : Lent) (few : a .count ≤ 64) (capacity : a .capacity 
       }
 
   -- what the program's call answers can be written
-  pub call-writable : {r : Answer} {l′ : Lent} → Returns (call base a l) r l′ → Writable r (a .given)
-  call-writable {r} h = writable (call base a l .answer) refl r (h .number) (h .counts) (h .lengths)
+  pub call-writable : {r : Answer} {l′ : Lent} → Returns (call a l) r l′ → Writable r (a .given)
+  call-writable {r} h = writable (call a l .answer) refl r (h .number) (h .counts) (h .lengths)

@@ -12,12 +12,13 @@ use Rattle.definition.specs.Text.{lent-points, lent-slots, asked, lent-for, sho
 use Rattle.reading.specs.declared.found.Header.{Header}
 use Rattle.reading.specs.Whole.{input-of, answer, triangle-count, point-count, triangle-words, point-words as point-numbers}
 use mathlib.Core.Option.{some}
-use Rattle.mesher.specs.Promise.{asked-of, lent-of}
+use Rattle.refusals.specs.Stated.{asked-for}
+use Rattle.mesher.specs.Promise.{lent-of}
 use Rattle.replies.specs.Tells.{filled}
 
 -- what the program asks
 abbrev pub asks : Header → Asked
-asks h = asked-of (h .points) 96 (h .triangles) 160 (f64 (h .size)) (h .stop)
+asks h = asked-for (h .points) 96 (h .triangles) 160 (f64 (h .size)) (h .stop) base
 
 -- what it lends, with these points and triangles
 abbrev pub lending : List Float → List ℕ → Lent
@@ -31,8 +32,8 @@ module _ (h : Header) (tris bits : List ℕ) where
   asks-is : asked (input-of h tris bits) ≡ asks h
   unfolding asked lent-points lent-slots input-of
   asks-is =
-      ap (λ n. asked-of n 96 (length (input-of h tris bits .triangles)) 160 (f64 (h .size)) (h .stop)) (point-count h tris bits)
-      ∙ ap (λ n. asked-of (h .points) 96 n 160 (f64 (h .size)) (h .stop)) (triangle-count h tris bits)
+      ap (λ n. asked-for n 96 (length (input-of h tris bits .triangles)) 160 (f64 (h .size)) (h .stop) base) (point-count h tris bits)
+      ∙ ap (λ n. asked-for (h .points) 96 n 160 (f64 (h .size)) (h .stop) base) (triangle-count h tris bits)
 
   lends-is : lent-for (input-of h tris bits) ≡ lends h tris bits
   unfolding lent-for lent-points lent-slots filled slot-words point-words slot-floats
@@ -41,6 +42,6 @@ module _ (h : Header) (tris bits : List ℕ) where
       ∙ ap (λ ts. lending (filled (3 * h .points) bits (replicate 288 0·0)) ts) (triangle-words h tris bits)
 
   -- the reply goes by that call
-  pub answer-is : show-returned (rows 3 (h .points) bits) (call base (asks h) (lends h tris bits)) ≡ answer (some (input-of h tris bits))
+  pub answer-is : show-returned (rows 3 (h .points) bits) (call (asks h) (lends h tris bits)) ≡ answer (some (input-of h tris bits))
   unfolding answer input-of
-  answer-is = sym (ap (λ a. show-returned (rows 3 (h .points) bits) (call base a (lent-for (input-of h tris bits)))) asks-is ∙ ap (λ l. show-returned (rows 3 (h .points) bits) (call base (asks h) l)) lends-is)
+  answer-is = sym (ap (λ a. show-returned (rows 3 (h .points) bits) (call a (lent-for (input-of h tris bits)))) asks-is ∙ ap (λ l. show-returned (rows 3 (h .points) bits) (call (asks h) l)) lends-is)

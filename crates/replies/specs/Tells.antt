@@ -35,7 +35,7 @@ pub record Countable (a : Answer) : Type 0 where
 
 -- the answer is one that the program can write: its numbers are small, and its lists within what was lent
 pub record Writable (a : Answer) (given : ℕ) : Type 0 where
-  pub number : a .refusal ≤ 9
+  pub number : a .refusal ≤ 16
   pub counts : Countable a
   pub quads : a .quads ≤ 160
   pub triangles : a .triangles ≤ 160

@@ -88,6 +88,7 @@ fn meshed(h: Header, tris: &[u32], bits: &[u64], out: &mut [u8]) -> usize
     let mut work = [0u32; 11008];
     let mut float_work = [0.0f64; 640];
     let end = 3 * count;
+    let stated = refusals::standard(given, POINTS, count, SLOTS, size, h.stop);
     let a = mesher::run_front(
         &mut points,
         &tris[..end],
@@ -96,12 +97,7 @@ fn meshed(h: Header, tris: &[u32], bits: &[u64], out: &mut [u8]) -> usize
         &mut components,
         &mut work,
         &mut float_work,
-        given,
-        POINTS,
-        count,
-        SLOTS,
-        size,
-        h.stop,
+        stated,
     );
     told(
         out,

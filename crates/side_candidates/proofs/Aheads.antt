@@ -8,7 +8,7 @@ use lib.ListN.{length}
 use lib.Ieee.{Float}
 use borrow.Author.Tests.{eq-eqb, ne-eqb}
 use Rattle.definition.specs.Plane.{Node, Vec, from-to}
-use Rattle.definition.specs.Numbers.{base}
+use Rattle.definition.specs.Numbers.{Quality}
 use Rattle.definition.specs.Lists.{any}
 use Rattle.definition.specs.Cells.{Live, Mesh, node-at, has-node}
 use Rattle.definition.specs.Candidates.{ahead, walls, segment-inside, side-candidate}
@@ -18,31 +18,31 @@ use Rattle.plane.specs.Points.{node-of}
 use Rattle.side_candidates.specs.Hand.{Ends}
 
 -- the way from a to v, by the points as they are read
-pub ahead-read : (q : List Float) (p : ℕ) (m : Mesh) → Pts q p m → (a v : ℕ) → Ends m a v → (n d : Vec) (target : Float) → d ≡ from-to (point-at q a) (point-at q v)
-    → ahead base n d target ≡ ahead base n (from-to (node-at m a) (node-at m v)) target
-ahead-read q p m k a v e n d target h =
+pub ahead-read : (y : Quality) (q : List Float) (p : ℕ) (m : Mesh) → Pts q p m → (a v : ℕ) → Ends m a v → (n d : Vec) (target : Float) → d ≡ from-to (point-at q a) (point-at q v)
+    → ahead y n d target ≡ ahead y n (from-to (node-at m a) (node-at m v)) target
+ahead-read y q p m k a v e n d target h =
     let r = node-of m (length (m .points)) q (k .are) in
-    ap (λ (y : Vec). ahead base n y target) (h ∙ ap (λ (y : Node). from-to y (point-at q v)) (sym (r a (e .first))) ∙ ap (from-to (node-at m a)) (sym (r v (e .second))))
+    ap (λ (z : Vec). ahead y n z target) (h ∙ ap (λ (z : Node). from-to z (point-at q v)) (sym (r a (e .first))) ∙ ap (from-to (node-at m a)) (sym (r v (e .second))))
 
-module _ (m : Mesh) (a other : ℕ) (n : Vec) (target : Float) (g : List Live) (v : ℕ) where
-  pub side-same : v ≡ a → false ≡ side-candidate base m a other n target g (walls m g) v
+module _ (y : Quality) (m : Mesh) (a other : ℕ) (n : Vec) (target : Float) (g : List Live) (v : ℕ) where
+  pub side-same : v ≡ a → false ≡ side-candidate y m a other n target g (walls m g) v
   unfolding side-candidate
   side-same e = rw (eq-eqb v a e)
 
-  pub side-other : v ≢ a → v ≡ other → false ≡ side-candidate base m a other n target g (walls m g) v
+  pub side-other : v ≢ a → v ≡ other → false ≡ side-candidate y m a other n target g (walls m g) v
   unfolding side-candidate
   side-other d e = rw (ne-eqb v a d, eq-eqb v other e)
 
-  pub side-outside : v ≢ a → v ≢ other → false ≡ any (has-node v) g → false ≡ side-candidate base m a other n target g (walls m g) v
+  pub side-outside : v ≢ a → v ≢ other → false ≡ any (has-node v) g → false ≡ side-candidate y m a other n target g (walls m g) v
   unfolding side-candidate
   side-outside d e f = rw (ne-eqb v a d, ne-eqb v other e, ← f)
 
-  pub side-behind : v ≢ a → v ≢ other → true ≡ any (has-node v) g → false ≡ ahead base n (from-to (node-at m a) (node-at m v)) target
-      → false ≡ side-candidate base m a other n target g (walls m g) v
+  pub side-behind : v ≢ a → v ≢ other → true ≡ any (has-node v) g → false ≡ ahead y n (from-to (node-at m a) (node-at m v)) target
+      → false ≡ side-candidate y m a other n target g (walls m g) v
   unfolding side-candidate
   side-behind d e f h = rw (ne-eqb v a d, ne-eqb v other e, ← f, ← h)
 
-  pub side-inside : (x : Bool) → v ≢ a → v ≢ other → true ≡ any (has-node v) g → true ≡ ahead base n (from-to (node-at m a) (node-at m v)) target
-      → x ≡ segment-inside m a v (walls m g) → x ≡ side-candidate base m a other n target g (walls m g) v
+  pub side-inside : (x : Bool) → v ≢ a → v ≢ other → true ≡ any (has-node v) g → true ≡ ahead y n (from-to (node-at m a) (node-at m v)) target
+      → x ≡ segment-inside m a v (walls m g) → x ≡ side-candidate y m a other n target g (walls m g) v
   unfolding side-candidate
   side-inside x d e f h k = rw (ne-eqb v a d, ne-eqb v other e, ← f, ← h) k

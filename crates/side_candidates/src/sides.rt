@@ -6,32 +6,29 @@ use plane::vectors::Vec;
 use plane::vectors::dot;
 use plane::vectors::from_to;
 use plane::vectors::norm;
+use rules::Quality;
 ghost use mathlib.Core.Path.{_≡_};
 ghost use mathlib.Core.List.{List};
-ghost use Rattle.definition.specs.Numbers.{base};
 ghost use Rattle.definition.specs.Cells.{Live, Mesh};
 ghost use Rattle.definition.specs.Candidates.{ahead, walls, side-candidate};
 ghost use Rattle.plane.specs.Vectors.{vec};
+ghost use Rattle.rules.specs.Settings.{quality-of};
 ghost use Rattle.side_candidates.specs.Hand.{InHand, Ends};
 
-// A side node: its distance in targets, its way along the normal in targets, its way across in ways along.
-pub const SIDE_LOW: f64 = 0.5;
-
-pub const SIDE_HIGH: f64 = 2.2;
-
+// A side node: its way along the normal in targets, its way across in ways along.
 pub const SIDE_ALONG: f64 = 0.25;
 
 pub const SIDE_ACROSS: f64 = 2.5;
 
 // d has a length between the side factors, goes far enough along n and, measured by that, not too far across.
-pub fn ahead(n: Vec, d: Vec, target: f64) -> bool
-    ensures { λ r. ⌜ r ≡ ahead base (vec n) (vec d) target ⌝ }
+pub fn ahead(y: Quality, n: Vec, d: Vec, target: f64) -> bool
+    ensures { λ r. ⌜ r ≡ ahead (quality-of y) (vec n) (vec d) target ⌝ }
 {
     let far = norm(d);
-    if far < SIDE_LOW * target {
+    if far < y.side_low * target {
         return false;
     }
-    if far > SIDE_HIGH * target {
+    if far > y.side_high * target {
         return false;
     }
     let along = dot(d, n);
@@ -53,9 +50,10 @@ pub fn side_candidate(
     n: Vec,
     target: f64,
     v: usize,
+    y: Quality,
 ) -> bool
     requires { ⌜ ((m : Mesh) × (region : List Live) × InHand (now w) (now q) s p k m region × Ends m a v) ⌝ }
-    ensures { λ r. ⌜ ((m : Mesh) (region : List Live) → InHand (now (w .entry)) (now (q .entry)) s p k m region → Ends m a v → r ≡ side-candidate base m a other (vec n) target region (walls m region) v) ⌝ }
+    ensures { λ r. ⌜ ((m : Mesh) (region : List Live) → InHand (now (w .entry)) (now (q .entry)) s p k m region → Ends m a v → r ≡ side-candidate (quality-of y) m a other (vec n) target region (walls m region) v) ⌝ }
 {
     if v == a {
         return false;
@@ -66,7 +64,7 @@ pub fn side_candidate(
     if !in_region(w, q, s, p, k, v) {
         return false;
     }
-    if !ahead(n, from_to(q, a, v), target) {
+    if !ahead(y, n, from_to(q, a, v), target) {
         return false;
     }
     segment_inside(w, q, s, p, k, a, v)

@@ -11,7 +11,7 @@ use lib.ListN.{length, getD, set, take, drop, length-set}
 use lib.Seq.{getD-set-same, getD-set-other}
 use lib.Ieee.{Float}
 use Rattle.definition.specs.Counts.{of-points, of-slots, Spent, inserting}
-use Rattle.definition.specs.Numbers.{Settings, Turn, base}
+use Rattle.definition.specs.Numbers.{Settings, Turn}
 use Rattle.definition.specs.Plane.{Vec}
 use Rattle.definition.specs.Cells.{Mesh, node-at}
 use Rattle.definition.specs.Candidates.{candidates}
@@ -20,7 +20,7 @@ use Rattle.definition.specs.Attempt.{Stance, Sides, found, missing, sides-by, s
 use Rattle.laws.specs.Numbers.{clash}
 use Rattle.laws.specs.Frames.{under-set}
 use Rattle.rules.specs.declared.Rules.{Rules}
-use Rattle.rules.specs.Settings.{settings-of}
+use Rattle.rules.specs.Settings.{quality-of, settings-of, quality-is}
 use Rattle.cells.specs.Layout.{mesh-end}
 use Rattle.cells.specs.Rep.{Pts}
 use Rattle.cells.specs.Counting.{Few, Split}
@@ -194,9 +194,9 @@ module _ (g : Settings) (f : Stance) (n : Spent) (m : Mesh) (a : ℕ) where
 
 -- what an attempt goes by, put in
 pub nodes-of : (rules : Rules) (t : Turn) (f : Stance) (n : Spent) (m : Mesh) (a other seed : ℕ) (normal : Vec) (target : Float) (off : Bool) → Goes f seed normal target off
-    → side-nodes (settings-of rules) t f n m a other ≡ sides-from (settings-of rules) f n m a (candidates base t m a other seed normal target)
-unfolding side-nodes settings-of
-nodes-of rules t f n m a other seed normal target off h = rw (h .from, h .along, h .far)
+    → side-nodes (settings-of rules) t f n m a other ≡ sides-from (settings-of rules) f n m a (candidates (quality-of (rules .quality)) t m a other seed normal target)
+unfolding side-nodes
+nodes-of rules t f n m a other seed normal target off h = rw (quality-is rules, h .from, h .along, h .far)
 
 pub insertion-of : (g : Settings) (f : Stance) (m : Mesh) (a seed : ℕ) (normal : Vec) (target : Float) (off : Bool) → Goes f seed normal target off
     → insert-along g m (f .seed) (node-at m a) (f .normal) (f .target) ≡ insert-along g m seed (node-at m a) normal target

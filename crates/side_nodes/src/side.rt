@@ -132,6 +132,7 @@ pub fn side_nodes(
         stance.seed,
         normal,
         stance.target,
+        rules.quality,
     );
     if k > 0 {
         return Side {

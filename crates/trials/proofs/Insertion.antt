@@ -1,7 +1,7 @@
 -- Insertion into a sorted list of which only the first n are kept. No law of the order is used.
 use mathlib.Core.Path.{_≡_, refl, ap, sym, _∙_}
 use mathlib.Core.Bool.{Bool, true, false, cond}
-use mathlib.Core.List.{List, [], _∷_, _++_, map}
+use mathlib.Core.List.{List, [], _∷_, _++_}
 use Prim.Native.Nat.{ℕ, zero, suc, _≤_, _<_}
 use native.Mathlib.Nat.{le-of-suc-le-suc, not-suc-le-zero}
 use native.Mathlib.Omega.{arith}
@@ -68,12 +68,6 @@ module _ {A : Type 0} where
   put-take l (suc p) zero x h = absurd (not-suc-le-zero h)
   put-take [] (suc p) (suc c) x h = refl
   put-take (y ∷ ys) (suc p) (suc c) x h = ap (λ (t : List A). y ∷ t) (put-take ys p c x (le-of-suc-le-suc h))
-
-  pub map-put : {B : Type 0} (f : A → B) (l : List A) (p : ℕ) (x : A) → map f (put p x l) ≡ put p (f x) (map f l)
-  unfolding put
-  map-put f l zero x = refl
-  map-put f [] (suc p) x = refl
-  map-put f (y ∷ ys) (suc p) x = ap (λ t. f y ∷ t) (map-put f ys p x)
 
   pub length-put : (l : List A) (p : ℕ) (x : A) → length (put p x l) ≡ suc (length l)
   unfolding put

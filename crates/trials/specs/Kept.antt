@@ -1,19 +1,21 @@
--- The trials that the code keeps, as a list of the definition's.
-use mathlib.Core.Path.{_≡_}
+-- The trials that the code keeps in two arrays, as a list of the definition's.
+use mathlib.Core.Path.{_≡_, ap, _∙_}
 use mathlib.Core.Bool.{Bool}
-use mathlib.Core.List.{List, [], _∷_, _++_, map}
-use Prim.Native.Nat.{ℕ, _≤_}
-use lib.ListN.{take, drop, getD}
+use mathlib.Core.List.{List, [], _∷_, _++_}
+use Prim.Native.Nat.{ℕ, _+_, _*_, _≤_, _<_}
+use native.Mathlib.Omega.{arith}
+use lib.ListN.{length, take, drop, getD}
+use lib.Ieee.{Float, nan}
 use Rattle.definition.specs.Cells.{Quad, new-quad}
-use Rattle.definition.specs.Lists.{insert}
+use Rattle.definition.specs.Lists.{insert, table, below}
 use Rattle.definition.specs.Trials as trials
 use Rattle.definition.specs.Trials.{trial-before}
+use Rattle.laws.specs.Lists.{numbers-length, table-length, table-at}
 use Rattle.trials.specs.declared.kept.Trial.{Trial}
-use Rattle.trials.specs.declared.kept.Trials.{Trials}
 
--- how many are kept
-abbrev pub most : ℕ
-most = 8
+-- how many the arrays have room for
+abbrev pub room : ℕ
+room = 64
 
 -- the four nodes
 unfoldable pub quad-of : Trial → Quad
@@ -23,14 +25,34 @@ quad-of t = new-quad (t .n0) (t .n1) (t .n2) (t .n3)
 unfoldable pub trial-of : Trial → trials.Trial
 trial-of t = record { score = t .score; nodes = quad-of t }
 
--- the first `count` of the array
-unfoldable pub listed : Trials → List trials.Trial
-listed r = map trial-of (take (r .count) (r .kept))
+-- the quad at i
+unfoldable pub quad-at : List ℕ → ℕ → Quad
+quad-at nodes i = new-quad (getD nodes (4 * i) 0) (getD nodes (4 * i + 1) 0) (getD nodes (4 * i + 2) 0) (getD nodes (4 * i + 3) 0)
 
--- the code keeps the list
-pub record Keeps (r : Trials) (l : List trials.Trial) : Type 0 where
-  pub few : r .count ≤ most
-  pub list : listed r ≡ l
+-- the trial at i
+unfoldable pub row : List Float → List ℕ → ℕ → trials.Trial
+row scores nodes i = record { score = getD scores i nan; nodes = quad-at nodes i }
+
+-- the first k
+unfoldable pub listed : List Float → List ℕ → ℕ → List trials.Trial
+listed scores nodes k = table (row scores nodes) (below k)
+
+pub length-listed : (scores : List Float) (nodes : List ℕ) (k : ℕ) → length (listed scores nodes k) ≡ k
+unfolding listed below
+length-listed scores nodes k = table-length (row scores nodes) _ ∙ numbers-length 0 k
+
+pub listed-at : (scores : List Float) (nodes : List ℕ) (k i : ℕ) (d : trials.Trial) → i < k → getD (listed scores nodes k) i d ≡ row scores nodes i
+unfolding listed below
+listed-at scores nodes k i d h = table-at (row scores nodes) 0 k i d h ∙ ap (row scores nodes) (omega arith)
+
+-- whatever the arrays hold
+abbrev pub all : List Float → List ℕ → List trials.Trial
+all scores nodes = listed scores nodes room
+
+-- the first k, of at most so many, are the list
+pub record Keeps (scores : List Float) (nodes : List ℕ) (most k : ℕ) (l : List trials.Trial) : Type 0 where
+  pub few : k ≤ most
+  pub list : listed scores nodes k ≡ l
 
 -- x stands at i
 pub record Stands (l : List trials.Trial) (i : ℕ) (x : trials.Trial) : Type 0 where

@@ -1,8 +1,8 @@
 -- The nodes of the trials, for those who go on with them: a, b and two side nodes, all apart.
-use mathlib.Core.Path.{_≡_, refl, subst}
+use mathlib.Core.Path.{_≡_, refl, ap, sym, subst, _∙_}
 use mathlib.Core.Bool.{Bool, true, false, _||_, cond}
 use mathlib.Core.List.{List, [], _∷_, _++_}
-use Prim.Native.Nat.{ℕ, zero, suc, _<_}
+use Prim.Native.Nat.{ℕ, zero, suc, _≤_, _<_}
 use native.Mathlib.Nat.{le-of-suc-le-suc, not-suc-le-zero}
 use native.Mathlib.Omega.{arith}
 use borrow.Author.Tests.{eqb-false}
@@ -12,11 +12,30 @@ use lib.Ieee.{Float}
 use Rattle.definition.specs.Cells.{Mesh, new-quad}
 use Rattle.definition.specs.Lists.{insert, sort, flat-map, any, contains}
 use Rattle.definition.specs.Metrics.{passes, score}
-use Rattle.definition.specs.Numbers.{Quality, base}
+use Rattle.definition.specs.Numbers.{Quality}
 use Rattle.definition.specs.Trials.{Trial, rated, metrics-of, trial, trial-before, trials}
 use Rattle.laws.specs.Bools.{none-left, none-right}
-use Rattle.trials.specs.Kept.{Stands}
+use Rattle.trials.specs.Kept.{Keeps, Stands, length-listed, listed-at, quad-at, room, row}
 use Rattle.trials.specs.Ranked.{Named, part, part-below}
+
+-- ---- the array of nodes alone
+
+-- the list has k trials, and the nodes of each stand in the array
+pub record Names (nodes : List ℕ) (k : ℕ) (l : List Trial) : Type 0 where
+  pub few : k ≤ room
+  pub count : k ≡ length l
+  pub quads : (i : ℕ) (x : Trial) → i < k → Stands l i x → x .nodes ≡ quad-at nodes i
+
+pub names-of : (scores : List Float) (nodes : List ℕ) (most k : ℕ) (l : List Trial) → Keeps scores nodes most k l → most ≤ room → Names nodes k l
+unfolding row
+names-of scores nodes most k l h u =
+    record {
+      few = omega arith;
+      count = sym (length-listed scores nodes k) ∙ ap length (h .list);
+      quads = λ i x v s. ap (λ (t : Trial). t .nodes) (sym (s .at x) ∙ ap (λ (t : List Trial). getD t i x) (sym (h .list)) ∙ listed-at scores nodes k i x v);
+    }
+
+-- ---- one trial
 
 -- the quad is a, b and two nodes below n, no two the same but for a and b
 pub record Sound (n a b : ℕ) (t : Trial) : Type 0 where
@@ -106,16 +125,16 @@ pair-sound y m n a b c d hc hd =
 -- ---- all pairs
 
 -- each of the best trials is sound
-pub sound : (m : Mesh) (n : ℕ) (w : List ℕ) (q : List Float) (near-at nears far-at fars a b : ℕ) → Named n w q near-at nears far-at fars a b
-    → (i : ℕ) (x : Trial) → i < length (trials base m a b (part w near-at nears) (part w far-at fars))
-    → Stands (trials base m a b (part w near-at nears) (part w far-at fars)) i x → Sound n a b x
+pub sound : (y : Quality) (m : Mesh) (n : ℕ) (w : List ℕ) (q : List Float) (near-at nears far-at fars a b : ℕ) → Named n w q near-at nears far-at fars a b
+    → (i : ℕ) (x : Trial) → i < length (trials y m a b (part w near-at nears) (part w far-at fars))
+    → Stands (trials y m a b (part w near-at nears) (part w far-at fars)) i x → Sound n a b x
 unfolding trials
-sound m n w q near-at nears far-at fars a b k i x h s =
+sound y m n w q near-at nears far-at fars a b k i x h s =
     let cs = part w near-at nears in
     let ds = part w far-at fars in
     let P = Sound n a b in
     let c-below = part-below w near-at nears n (k .near) (k .near-below) in
     let d-below = part-below w far-at fars n (k .far) (k .far-below) in
-    let each = all-flat-map P (λ c. flat-map (λ d. trial base m a b c d) ds) cs (λ i u.
-    all-flat-map P (λ d. trial base m a b _ d) ds (λ j v. pair-sound base m n a b _ _ (c-below i u) (d-below j v))) in
-    all-at P _ i x h s (all-take P (base .pairs) _ (all-sort P _ each))
+    let each = all-flat-map P (λ c. flat-map (λ d. trial y m a b c d) ds) cs (λ i u.
+    all-flat-map P (λ d. trial y m a b _ d) ds (λ j v. pair-sound y m n a b _ _ (c-below i u) (d-below j v))) in
+    all-at P _ i x h s (all-take P (y .pairs) _ (all-sort P _ each))

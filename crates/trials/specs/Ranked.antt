@@ -11,7 +11,7 @@ use Rattle.definition.specs.Call.{point-at}
 use Rattle.definition.specs.Cells.{new-quad}
 use Rattle.definition.specs.Lists.{contains}
 use Rattle.definition.specs.Metrics.{Metrics, quad-metrics}
-use Rattle.definition.specs.Numbers.{base}
+use Rattle.definition.specs.Numbers.{Quality}
 use Rattle.definition.specs.Trials.{Trial, rated}
 use Rattle.plane.specs.Points.{Within}
 
@@ -35,9 +35,9 @@ unfoldable pub metrics-at : List Float → ℕ → ℕ → ℕ → ℕ → Metri
 metrics-at q a b c d = quad-metrics (point-at q a) (point-at q b) (point-at q c) (point-at q d)
 
 -- the definition's `trial`, over the slice's points
-unfoldable pub trial-at : List Float → ℕ → ℕ → ℕ → ℕ → List Trial
-trial-at q a b c d =
-    let scored = rated base (new-quad a b d c) (metrics-at q a b d c) in
+unfoldable pub trial-at : Quality → List Float → ℕ → ℕ → ℕ → ℕ → List Trial
+trial-at y q a b c d =
+    let scored = rated y (new-quad a b d c) (metrics-at q a b d c) in
     cond (contains (a ∷ b ∷ []) c || contains (a ∷ b ∷ c ∷ []) d) [] scored
 
 -- the edge's ends, c and the side nodes at b are in the slice of points

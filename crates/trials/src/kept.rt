@@ -1,15 +1,16 @@
-// The best trials so far, in order, at most eight.
+// The best trials so far, in order, in two lent arrays: the scores, and four nodes for each.
 ghost use mathlib.Core.Path.{_≡_};
-ghost use mathlib.Core.List.{[]};
-ghost use Prim.Native.Nat.{_≤_, _<_};
-ghost use lib.ListN.{length, take};
+ghost use Prim.Native.Nat.{_*_, _≤_, _<_};
+ghost use lib.ListN.{length, take, set};
 ghost use Rattle.definition.specs.Cells.{quad-nodes};
 ghost use Rattle.definition.specs.Lists.{insert};
 ghost use Rattle.definition.specs.Trials.{trial-before, numbers-before};
-ghost use Rattle.trials.specs.Kept.{Keeps, Place, Stands, listed, most, put, quad-of, trial-of};
+ghost use Rattle.trials.specs.Kept.{Keeps, Place, all, listed, put, quad-of, room, row, trial-of};
 
-// How many are kept.
-pub const PAIRS: usize = 8;
+// How many the arrays have room for.
+pub const ROOM: usize = 64;
+
+pub const NODES: usize = 4 * ROOM;
 
 // A pair's score and the four nodes of its quad.
 pub struct Trial {
@@ -18,12 +19,6 @@ pub struct Trial {
     pub n1: usize,
     pub n2: usize,
     pub n3: usize,
-}
-
-// The first `count` of the array, the best first.
-pub struct Trials {
-    pub kept: [Trial; PAIRS],
-    pub count: usize,
 }
 
 // ---- the order
@@ -59,81 +54,87 @@ pub fn before(l: Trial, r: Trial) -> bool
 
 // ---- what is kept
 
-impl Trials {
-    // None yet.
-    pub fn none() -> Trials
-        ensures { λ r. ⌜ Keeps r [] ⌝ }
-    {
-        let t = Trial {
-            score: 0.0,
-            n0: 0,
-            n1: 0,
-            n2: 0,
-            n3: 0,
-        };
-        let kept = [t; PAIRS];
-        Trials { kept, count: 0 }
+// The trial at i.
+fn get(scores: &[f64; ROOM], nodes: &[usize; NODES], i: usize) -> Trial
+    requires { ⌜ i < room ⌝ }
+    ensures { λ r. ⌜ trial-of r ≡ row (now (scores .entry)) (now (nodes .entry)) i ⌝ }
+{
+    let at = 4 * i;
+    Trial {
+        score: scores[i],
+        n0: nodes[at],
+        n1: nodes[at + 1],
+        n2: nodes[at + 2],
+        n3: nodes[at + 3],
     }
+}
 
-    // How many there are.
-    pub fn len(self) -> usize
-        requires { ⌜ self .count ≤ most ⌝ }
-        ensures { λ r. ⌜ (r ≡ length (listed self)) × (r ≤ most) ⌝ }
-    {
-        self.count
-    }
+// t in place of the one at i.
+fn store(scores: &mut [f64], nodes: &mut [usize], i: usize, t: Trial)
+    requires { ⌜ (i < room) × (room ≤ length (now scores)) × (4 * room ≤ length (now nodes)) ⌝ }
+    ensures { λ r. ⌜ all (now (scores .exit)) (now (nodes .exit)) ≡ set (all (now (scores .entry)) (now (nodes .entry))) i (trial-of t) ⌝ }
+{
+    let at = 4 * i;
+    scores[i] = t.score;
+    nodes[at] = t.n0;
+    nodes[at + 1] = t.n1;
+    nodes[at + 2] = t.n2;
+    nodes[at + 3] = t.n3;
+}
 
-    // The trial at i.
-    pub fn get(self, i: usize) -> Trial
-        requires { ⌜ (self .count ≤ most) × (i < length (listed self)) ⌝ }
-        ensures { λ r. ⌜ Stands (listed self) i (trial-of r) ⌝ }
-    {
-        self.kept[i]
-    }
-
-    // Where t goes: before the first that does not come before it.
-    fn place(self, t: Trial) -> usize
-        requires { ⌜ self .count ≤ most ⌝ }
-        ensures { λ p. ⌜ Place (trial-of t) (listed self) (self .count) p ⌝ }
-    {
-        let count = self.count;
-        let mut p = 0;
-        while p < count {
-            if !before(self.kept[p], t) {
-                return p;
-            }
-            p += 1;
+// Where t goes among the first `count`: before the first that does not come before it.
+fn place(scores: &[f64; ROOM], nodes: &[usize; NODES], count: usize, t: Trial) -> usize
+    requires { ⌜ count ≤ room ⌝ }
+    ensures { λ p. ⌜ Place (trial-of t) (listed (now (scores .entry)) (now (nodes .entry)) count) count p ⌝ }
+{
+    let mut p = 0;
+    while p < count {
+        if !before(get(scores, nodes, p), t) {
+            return p;
         }
-        p
+        p += 1;
     }
+    p
+}
 
-    // t after the first p, the others pushed back, a ninth dropped.
-    fn put(mut self, p: usize, t: Trial) -> Trials
-        requires { ⌜ (p ≤ self .count) × (self .count ≤ most) ⌝ }
-        ensures { λ r. ⌜ Keeps r (take most (put p (trial-of t) (listed self))) ⌝ }
-    {
-        let count = self.count;
-        let mut carried = t;
-        let mut i = p;
-        while i < count {
-            let next = self.kept[i];
-            self.kept[i] = carried;
-            carried = next;
-            i += 1;
-        }
-        if count == PAIRS {
-            return self;
-        }
-        self.kept[count] = carried;
-        self.count = count + 1;
-        self
+// t after the first p, the others pushed back, one beyond the pairs dropped; how many are kept then.
+fn put(
+    scores: &mut [f64; ROOM],
+    nodes: &mut [usize; NODES],
+    count: usize,
+    pairs: usize,
+    p: usize,
+    t: Trial,
+) -> usize
+    requires { ⌜ (p ≤ count) × (count ≤ pairs) × (pairs ≤ room) ⌝ }
+    ensures { λ k. ⌜ Keeps (now (scores .exit)) (now (nodes .exit)) pairs k (take pairs (put p (trial-of t) (listed (now (scores .entry)) (now (nodes .entry)) count))) ⌝ }
+{
+    let mut carried = t;
+    let mut i = p;
+    while i < count {
+        let next = get(scores, nodes, i);
+        store(scores, nodes, i, carried);
+        carried = next;
+        i += 1;
     }
+    if count == pairs {
+        return count;
+    }
+    store(scores, nodes, count, carried);
+    count + 1
+}
 
-    // t in its place, a ninth dropped.
-    pub fn insert(self, t: Trial) -> Trials
-        requires { ⌜ self .count ≤ most ⌝ }
-        ensures { λ r. ⌜ Keeps r (take most (insert trial-before (trial-of t) (listed self))) ⌝ }
-    {
-        self.put(self.place(t), t)
-    }
+// t in its place, one beyond the pairs dropped; how many are kept then.
+pub fn insert(
+    scores: &mut [f64; ROOM],
+    nodes: &mut [usize; NODES],
+    count: usize,
+    pairs: usize,
+    t: Trial,
+) -> usize
+    requires { ⌜ (count ≤ pairs) × (pairs ≤ room) ⌝ }
+    ensures { λ k. ⌜ Keeps (now (scores .exit)) (now (nodes .exit)) pairs k (take pairs (insert trial-before (trial-of t) (listed (now (scores .entry)) (now (nodes .entry)) count))) ⌝ }
+{
+    let p = place(scores, nodes, count, t);
+    put(scores, nodes, count, pairs, p, t)
 }

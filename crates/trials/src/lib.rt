@@ -1,3 +1,3 @@
-// The best eight pairs of side nodes of an attempt.
+// The best pairs of side nodes of an attempt.
 pub mod kept;
 pub mod ranked;

@@ -7,17 +7,20 @@ ghost use lib.ListN.{take};
 ghost use Rattle.definition.specs.Call.{first-points};
 ghost use Rattle.definition.specs.Cells.{Mesh, new-quad};
 ghost use Rattle.definition.specs.Lists.{contains, flat-map};
-ghost use Rattle.definition.specs.Numbers.{base};
 ghost use Rattle.definition.specs.Trials.{rated, trial-before, trials};
 ghost use Rattle.plane.specs.Points.{Within};
-ghost use Rattle.trials.specs.Kept.{Keeps, listed, most, onto};
+ghost use Rattle.rules.specs.Settings.{quality-of};
+ghost use Rattle.trials.specs.Kept.{Keeps, listed, onto, room};
 ghost use Rattle.trials.specs.Ranked.{Far, Named, metrics-at, part, trial-at};
+use crate::kept::NODES;
+use crate::kept::ROOM;
 use crate::kept::Trial;
-use crate::kept::Trials;
+use crate::kept::insert;
 use plane::metrics::Metrics;
-use plane::metrics::passes_base;
+use plane::metrics::passes;
 use plane::metrics::quad_metrics;
 use plane::metrics::score;
+use rules::Quality;
 
 // Two of the nodes are one, a and b apart.
 fn meets(a: usize, b: usize, c: usize, d: usize) -> bool
@@ -39,40 +42,66 @@ fn meets(a: usize, b: usize, c: usize, d: usize) -> bool
 }
 
 // With the quad a b d c, if its metrics pass.
-fn rate(t: Trials, q: &[f64], a: usize, b: usize, c: usize, d: usize) -> Trials
-    requires { ⌜ (t .count ≤ most) × Within (now q) a × Within (now q) b × Within (now q) c × Within (now q) d ⌝ }
-    ensures { λ r. ⌜ Keeps r (take most (onto trial-before (rated base (new-quad a b d c) (metrics-at (now (q .entry)) a b d c)) (listed t))) ⌝ }
+fn rate(
+    scores: &mut [f64; ROOM],
+    nodes: &mut [usize; NODES],
+    count: usize,
+    y: Quality,
+    q: &[f64],
+    a: usize,
+    b: usize,
+    c: usize,
+    d: usize,
+) -> usize
+    requires { ⌜ (count ≤ y .pairs) × (y .pairs ≤ room) ⌝ }
+    requires { ⌜ Within (now q) a × Within (now q) b × Within (now q) c × Within (now q) d ⌝ }
+    ensures { λ k. ⌜ Keeps (now (scores .exit)) (now (nodes .exit)) (y .pairs) k (take (y .pairs) (onto trial-before (rated (quality-of y) (new-quad a b d c) (metrics-at (now (q .entry)) a b d c)) (listed (now (scores .entry)) (now (nodes .entry)) count))) ⌝ }
 {
     let m = quad_metrics(q, a, b, d, c);
     if let Metrics::Absent = m {
-        return t;
+        return count;
     }
-    if !passes_base(m) {
-        return t;
+    if !passes(m, y.least_jacobian, y.largest_cosine) {
+        return count;
     }
-    t.insert(Trial {
+    let t = Trial {
         score: score(m),
         n0: a,
         n1: b,
         n2: d,
         n3: c,
-    })
+    };
+    insert(scores, nodes, count, y.pairs, t)
 }
 
 // With the pair c d, if its nodes differ and its metrics pass.
-fn with_pair(t: Trials, q: &[f64], a: usize, b: usize, c: usize, d: usize) -> Trials
-    requires { ⌜ (t .count ≤ most) × Within (now q) a × Within (now q) b × Within (now q) c × Within (now q) d ⌝ }
-    ensures { λ r. ⌜ Keeps r (take most (onto trial-before (trial-at (now (q .entry)) a b c d) (listed t))) ⌝ }
+fn with_pair(
+    scores: &mut [f64; ROOM],
+    nodes: &mut [usize; NODES],
+    count: usize,
+    y: Quality,
+    q: &[f64],
+    a: usize,
+    b: usize,
+    c: usize,
+    d: usize,
+) -> usize
+    requires { ⌜ (count ≤ y .pairs) × (y .pairs ≤ room) ⌝ }
+    requires { ⌜ Within (now q) a × Within (now q) b × Within (now q) c × Within (now q) d ⌝ }
+    ensures { λ k. ⌜ Keeps (now (scores .exit)) (now (nodes .exit)) (y .pairs) k (take (y .pairs) (onto trial-before (trial-at (quality-of y) (now (q .entry)) a b c d) (listed (now (scores .entry)) (now (nodes .entry)) count))) ⌝ }
 {
     if meets(a, b, c, d) {
-        return t;
+        return count;
     }
-    rate(t, q, a, b, c, d)
+    rate(scores, nodes, count, y, q, a, b, c, d)
 }
 
 // With the pairs of c and each side node at b, the last first.
 fn with_node(
-    t: Trials,
+    scores: &mut [f64; ROOM],
+    nodes: &mut [usize; NODES],
+    count: usize,
+    y: Quality,
     w: &[u32],
     q: &[f64],
     far_at: usize,
@@ -80,40 +109,45 @@ fn with_node(
     a: usize,
     b: usize,
     c: usize,
-) -> Trials
-    requires { ⌜ (t .count ≤ most) × Far (now w) (now q) «far_at» fars a b c ⌝ }
-    ensures { λ r. ⌜ Keeps r (take most (onto trial-before (flat-map (trial-at (now (q .entry)) a b c) (part (now (w .entry)) «far_at» fars)) (listed t))) ⌝ }
+) -> usize
+    requires { ⌜ (count ≤ y .pairs) × (y .pairs ≤ room) ⌝ }
+    requires { ⌜ Far (now w) (now q) «far_at» fars a b c ⌝ }
+    ensures { λ k. ⌜ Keeps (now (scores .exit)) (now (nodes .exit)) (y .pairs) k (take (y .pairs) (onto trial-before (flat-map (trial-at (quality-of y) (now (q .entry)) a b c) (part (now (w .entry)) «far_at» fars)) (listed (now (scores .entry)) (now (nodes .entry)) count))) ⌝ }
 {
-    let mut kept = t;
+    let mut k = count;
     let mut j = fars;
     while 0 < j {
         j -= 1;
         let d = w[far_at + j] as usize;
-        kept = with_pair(kept, q, a, b, c, d);
+        k = with_pair(scores, nodes, k, y, q, a, b, c, d);
     }
-    kept
+    k
 }
 
-// The best pairs. The definition sorts by insertion from the last pair on, so the nodes are gone through backward.
+// The best pairs, and how many. The definition sorts by insertion from the last pair on, so the nodes are gone through backward.
 pub fn best(
     w: &[u32],
     q: &[f64],
+    scores: &mut [f64; ROOM],
+    nodes: &mut [usize; NODES],
+    y: Quality,
     near_at: usize,
     nears: usize,
     far_at: usize,
     fars: usize,
     a: usize,
     b: usize,
-) -> Trials
+) -> usize
+    requires { ⌜ y .pairs ≤ room ⌝ }
     requires { ⌜ ((n : ℕ) × Named n (now w) (now q) «near_at» nears «far_at» fars a b) ⌝ }
-    ensures { λ r. ⌜ ((m : Mesh) (n : ℕ) → m .points ≡ first-points n (now (q .entry)) → Named n (now (w .entry)) (now (q .entry)) «near_at» nears «far_at» fars a b → Keeps r (trials base m a b (part (now (w .entry)) «near_at» nears) (part (now (w .entry)) «far_at» fars))) ⌝ }
+    ensures { λ k. ⌜ ((m : Mesh) (n : ℕ) → m .points ≡ first-points n (now (q .entry)) → Named n (now (w .entry)) (now (q .entry)) «near_at» nears «far_at» fars a b → Keeps (now (scores .exit)) (now (nodes .exit)) (y .pairs) k (trials (quality-of y) m a b (part (now (w .entry)) «near_at» nears) (part (now (w .entry)) «far_at» fars))) ⌝ }
 {
-    let mut kept = Trials::none();
+    let mut k = 0;
     let mut i = nears;
     while 0 < i {
         i -= 1;
         let c = w[near_at + i] as usize;
-        kept = with_node(kept, w, q, far_at, fars, a, b, c);
+        k = with_node(scores, nodes, k, y, w, q, far_at, fars, a, b, c);
     }
-    kept
+    k
 }

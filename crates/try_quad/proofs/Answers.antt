@@ -9,7 +9,7 @@ use lib.ListN.{length, getD, drop}
 use lib.Seq.{drop-drop}
 use lib.Ieee.{Float}
 use Rattle.definition.specs.Counts.{Spent, Placement, of-points, of-slots, Want}
-use Rattle.definition.specs.Numbers.{Settings, base, second-turn}
+use Rattle.definition.specs.Numbers.{Settings, second-turn}
 use Rattle.definition.specs.Cells.{Mesh}
 use Rattle.definition.specs.Call.{first-points}
 use Rattle.definition.specs.Trials.{Trial, trials}
@@ -17,15 +17,14 @@ use Rattle.definition.specs.Attempt.{Attempt, placed, refused, ended, Stance, S
 use Rattle.laws.specs.Numbers.{clash}
 use Rattle.laws.specs.Frames.{stays-trans}
 use Rattle.rules.specs.declared.Rules.{Rules}
-use Rattle.rules.specs.Settings.{settings-of}
+use Rattle.rules.specs.Settings.{quality-of, settings-of}
 use Rattle.cells.specs.Layout.{Sizes, near-at, far-at, refused-at}
 use Rattle.cells.specs.declared.counters.Counters.{Counters}
 use Rattle.cells.proofs.Slots.{sizes}
 use Rattle.edge_candidates.specs.Wanted.{turn}
 use Rattle.trials.specs.Kept.{Stands as StandsAt, Keeps as KeepsTrials}
 use Rattle.trials.specs.Ranked.{part, length-part, part-at, Named}
-use Rattle.trials.specs.Nodes.{Sound, sound}
-use Rattle.trials.specs.declared.kept.Trials.{Trials}
+use Rattle.trials.specs.Nodes.{Sound, names-of, sound}
 use Rattle.outcomes.specs.Ready.{Ready, Behind}
 use Rattle.outcomes.specs.Ends.{only-inserted, Plain, Left, AttemptTo, end-of, end-for}
 use Rattle.outcomes.specs.declared.End.{End}
@@ -137,7 +136,7 @@ module _ (g : Settings) (f : Stance) where
 
 -- with what was found, by the edge and its ends
 both-eq : (rules : Rules) (f : Stance) (cs ds : List ℕ) (n k : Spent) (m : Mesh) (u v a b : ℕ) → f .edge ≡ (u, v) → f .a ≡ a → f .b ≡ b → k ≡ n
-    → try-both (settings-of rules) f cs (found ds n m) ≡ try-trials (settings-of rules) k m (u, v) (trials base m a b cs ds)
+    → try-both (settings-of rules) f cs (found ds n m) ≡ try-trials (settings-of rules) k m (u, v) (trials (quality-of (rules .quality)) m a b cs ds)
 unfolding try-both settings-of
 both-eq rules f cs ds n k m u v a b ee ea eb en = rw (ee, ea, eb, en)
 
@@ -148,7 +147,7 @@ first-eq rules f cs n k m a b ea eb en = rw (ea, eb, en)
 
 -- ---- with the side nodes at both ends
 
-module _ (w : List ℕ) (q₀ q : List Float) (rules : Rules) (c₀ : Counters) (u v a b nears : ℕ) (far : Side) (cs : List ℕ) (x : Sides)
+module _ {w : List ℕ} {q₀ q : List Float} {rules : Rules} {c₀ : Counters} {u v a b nears : ℕ} {far : Side} {cs : List ℕ} {x : Sides}
     (h : Both w q₀ q rules c₀ u v a b nears far cs x) (e : far .found ≡ founds.Found) where
   abbrev pub both-found : IsFound w q₀ q rules (far-at (rules .slots) (rules .capacity)) c₀ far x
   both-found = at-found w q₀ q rules (far-at (rules .slots) (rules .capacity)) c₀ far x (h .is) e
@@ -174,31 +173,34 @@ module _ (w : List ℕ) (q₀ q : List Float) (rules : Rules) (c₀ : Counters) 
       }
 
   -- with the offsets that were computed
-  module _ (na fa : ℕ) (en : na ≡ near-at (rules .slots) (rules .capacity)) (ef : fa ≡ far-at (rules .slots) (rules .capacity)) where
+  module _ {na fa : ℕ} (en : na ≡ near-at (rules .slots) (rules .capacity)) (ef : fa ≡ far-at (rules .slots) (rules .capacity)) where
     pub both-named : Named (far .counters .points) w q na nears fa (far .count) a b
     both-named =
         subst (λ (z : ℕ). Named (far .counters .points) w q z nears fa (far .count) a b) (sym en)
         (subst (λ (z : ℕ). Named (far .counters .points) w q (near-at (rules .slots) (rules .capacity)) nears z (far .count) a b) (sym ef) named)
 
     abbrev pub kept-list : List Trial
-    kept-list = trials base (both-found .m) a b cs (both-found .cs)
+    kept-list = trials (quality-of (rules .quality)) (both-found .m) a b cs (both-found .cs)
 
-    lists : trials base (both-found .m) a b (part w na nears) (part w fa (far .count)) ≡ kept-list
+    lists : trials (quality-of (rules .quality)) (both-found .m) a b (part w na nears) (part w fa (far .count)) ≡ kept-list
     lists =
-        ap (λ (l : List ℕ). trials base (both-found .m) a b l (part w fa (far .count))) (ap (λ (z : ℕ). part w z nears) en ∙ h .near .are)
-        ∙ ap (λ (l : List ℕ). trials base (both-found .m) a b cs l) (ap (λ (z : ℕ). part w z (far .count)) ef ∙ both-found .listed .are)
+        ap (λ (l : List ℕ). trials (quality-of (rules .quality)) (both-found .m) a b l (part w fa (far .count))) (ap (λ (z : ℕ). part w z nears) en ∙ h .near .are)
+        ∙ ap (λ (l : List ℕ). trials (quality-of (rules .quality)) (both-found .m) a b cs l) (ap (λ (z : ℕ). part w z (far .count)) ef ∙ both-found .listed .are)
 
-    module _ (t : Trials)
-        (k : (m : Mesh) (n : ℕ) → m .points ≡ first-points n q → Named n w q na nears fa (far .count) a b → KeepsTrials t (trials base m a b (part w na nears) (part w fa (far .count)))) where
-      pub can-pair : CanPair w q rules (far .counters) u v a b t (both-found .m) kept-list
+    module _ (scores : List Float) (nodes : List ℕ) (count : ℕ)
+        (k : (m : Mesh) (n : ℕ) → m .points ≡ first-points n q → Named n w q na nears fa (far .count) a b
+        → KeepsTrials scores nodes (rules .quality .pairs) count (trials (quality-of (rules .quality)) m a b (part w na nears) (part w fa (far .count)))) where
+      pub can-pair : CanPair w q rules (far .counters) u v a b nodes count (both-found .m) kept-list
       can-pair =
+          let y = quality-of (rules .quality) in
+          let kept = k (both-found .m) (far .counters .points) points-are both-named in
           record {
             ready = both-found .left .ready;
             up = h .ends .up;
             known = h .ends .known;
-            kept = subst (λ (l : List Trial). KeepsTrials t l) lists (k (both-found .m) (far .counters .points) points-are both-named);
-            sound = subst (λ (l : List Trial). (i : ℕ) (y : Trial) → i < length l → StandsAt l i y → Sound (far .counters .points) a b y) lists
-                (sound (both-found .m) (far .counters .points) w q na nears fa (far .count) a b both-named);
+            kept = names-of scores nodes (rules .quality .pairs) count kept-list (subst (λ (l : List Trial). KeepsTrials scores nodes (rules .quality .pairs) count l) lists kept) (h .pairs);
+            sound = subst (λ (l : List Trial). (i : ℕ) (x : Trial) → i < length l → StandsAt l i x → Sound (far .counters .points) a b x) lists
+                (sound y (both-found .m) (far .counters .points) w q na nears fa (far .count) a b both-named);
             first = h .ends .first;
             second = h .ends .second;
             apart = h .ends .apart;
@@ -219,18 +221,18 @@ module _ (w : List ℕ) (q₀ q : List Float) (rules : Rules) (c₀ : Counters) 
   attempt-after w' (ended wt n m) t o z = (z .0, left-after w' n m t o (z .1))
 
   module _ (f : Stance) (ee : f .edge ≡ (u, v)) (ea : f .a ≡ a) (eb : f .b ≡ b) where
-    both-is : try-both (settings-of rules) f cs x ≡ try-trials (settings-of rules) (only-inserted (far .inserted)) (both-found .m) (u, v) (trials base (both-found .m) a b cs (both-found .cs))
+    both-is : try-both (settings-of rules) f cs x ≡ try-trials (settings-of rules) (only-inserted (far .inserted)) (both-found .m) (u, v) (trials (quality-of (rules .quality)) (both-found .m) a b cs (both-found .cs))
     both-is =
         ap (try-both (settings-of rules) f cs) (both-found .is)
         ∙ both-eq rules f cs (both-found .cs) (both-found .n) (only-inserted (far .inserted)) (both-found .m) u v a b ee ea eb (both-found .left .spent)
 
     pub both-to : (w' : List ℕ) (t : Tried)
-        → PairsTo w w' q rules (far .counters) (try-trials (settings-of rules) (only-inserted (far .inserted)) (both-found .m) (u, v) (trials base (both-found .m) a b cs (both-found .cs))) t
+        → PairsTo w w' q rules (far .counters) (try-trials (settings-of rules) (only-inserted (far .inserted)) (both-found .m) (u, v) (trials (quality-of (rules .quality)) (both-found .m) a b cs (both-found .cs))) t
         → TriedTo w w' q₀ q rules c₀ (try-both (settings-of rules) f cs x) t
     both-to w' t z =
         record {
           is = subst (λ (y : Attempt). AttemptTo w' q₀ q rules c₀ y t) (sym both-is)
-              (attempt-after w' (try-trials (settings-of rules) (only-inserted (far .inserted)) (both-found .m) (u, v) (trials base (both-found .m) a b cs (both-found .cs))) t (trials-on (settings-of rules) (only-inserted (far .inserted)) (both-found .m) (u, v) (trials base (both-found .m) a b cs (both-found .cs))) (z .is));
+              (attempt-after w' (try-trials (settings-of rules) (only-inserted (far .inserted)) (both-found .m) (u, v) (trials (quality-of (rules .quality)) (both-found .m) a b cs (both-found .cs))) t (trials-on (settings-of rules) (only-inserted (far .inserted)) (both-found .m) (u, v) (trials (quality-of (rules .quality)) (both-found .m) a b cs (both-found .cs))) (z .is));
           beyond = record { len = z .keeps .len; same = λ i l _. z .keeps .high i l };
         }
 
@@ -311,6 +313,7 @@ module _ (w : List ℕ) (q₀ q : List Float) (rules : Rules) (c₀ : Counters) 
           is = sides-both w' q' (far-at (rules .slots) (rules .capacity)) y far (z .is);
           near = near-still;
           ends = ends-on (far .counters .points) (omega (arith, first-found .left .more, sides-more w' q' (far-at (rules .slots) (rules .capacity)) y far (z .is)));
+          pairs = h .pairs;
         }
 
     module _ (f : Stance) (ea : f .a ≡ a) (eb : f .b ≡ b) where

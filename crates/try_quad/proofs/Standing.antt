@@ -156,6 +156,7 @@ module _ (w : List ℕ) (q : List Float) (rules : Rules) (c : Counters) (u v : �
             ends = d;
             seeded = hs;
             few = omega (arith, counted-by w' q q' rules (near-at (rules .slots) (rules .capacity)) c (side-nodes (settings-of rules) (turn true) f (only-inserted 0) m a b) near (z .is), sides-few (settings-of rules) (turn true) f (only-inserted 0) m a b);
+            pairs = h .pairs;
           }
 
       pub along-to : (w2 : List ℕ) (q2 : List Float) (t : Tried) (x y : Attempt) → x ≡ y → TriedTo w' w2 q q2 rules c y t → TriedTo w w2 q q2 rules c x t

@@ -2,7 +2,7 @@
 use mathlib.Core.Path.{_≡_}
 use mathlib.Core.Bool.{Bool}
 use mathlib.Core.List.{List}
-use Prim.Native.Nat.{ℕ, _<_}
+use Prim.Native.Nat.{ℕ, _≤_, _<_}
 use lib.Ieee.{Float}
 use Rattle.definition.specs.Plane.{Vec}
 use Rattle.definition.specs.Cells.{Mesh}
@@ -12,15 +12,17 @@ use Rattle.cells.specs.Layout.{near-at, far-at}
 use Rattle.cells.specs.declared.counters.Counters.{Counters}
 use Rattle.side_nodes.specs.Sides.{Goes, ListedAt, SidesAre}
 use Rattle.side_nodes.specs.declared.side.Side.{Side}
+use Rattle.trials.specs.Kept.{room}
 use Rattle.outcomes.specs.Ready.{Ready, Beyond}
 use Rattle.outcomes.specs.Ends.{AttemptTo}
 use Rattle.outcomes.specs.declared.Tried.{Tried}
 
--- the slices and counters stand for the mesh; u-v is an edge of its nodes, the smaller first
+-- the slices and counters stand for the mesh; u-v is an edge of its nodes, the smaller first; no more pairs are asked for than there is room for
 pub record CanAttempt (w : List ℕ) (q : List Float) (rules : Rules) (c : Counters) (u v : ℕ) (m : Mesh) : Type 0 where
   pub ready : Ready w q rules c m
   pub up : u < v
   pub known : v < c .points
+  pub pairs : rules .quality .pairs ≤ room
 
 -- the attempt ended as the definition says; refused edges and the front's areas are as they were
 pub record TriedTo (w w' : List ℕ) (q q' : List Float) (rules : Rules) (c : Counters) (x : Attempt) (r : Tried) : Type 0 where
@@ -47,6 +49,7 @@ pub record Both (w : List ℕ) (q₀ q : List Float) (rules : Rules) (c₀ : Cou
   pub is : SidesAre w q₀ q rules (far-at (rules .slots) (rules .capacity)) c₀ x far
   pub near : ListedAt w (near-at (rules .slots) (rules .capacity)) nears (far .counters .points) cs
   pub ends : Ends (far .counters .points) u v a b
+  pub pairs : rules .quality .pairs ≤ room
 
 -- the side nodes at a are x; the seed is a slot
 pub record First (w : List ℕ) (q₀ q : List Float) (rules : Rules) (c₀ : Counters) (u v a b seed : ℕ) (near : Side) (x : Sides) : Type 0 where
@@ -54,3 +57,4 @@ pub record First (w : List ℕ) (q₀ q : List Float) (rules : Rules) (c₀ : Co
   pub ends : Ends (c₀ .points) u v a b
   pub seeded : seed < rules .slots
   pub few : near .inserted < 2
+  pub pairs : rules .quality .pairs ≤ room

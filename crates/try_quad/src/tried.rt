@@ -21,6 +21,8 @@ use side_nodes::side::Found;
 use side_nodes::side::Side;
 use side_nodes::side::Stance;
 use side_nodes::side::side_nodes;
+use trials::kept::NODES;
+use trials::kept::ROOM;
 use trials::ranked::best;
 ghost use mathlib.Core.Path.{_≡_};
 ghost use mathlib.Core.List.{List};
@@ -57,9 +59,14 @@ fn with_both(
         Found::NoPoint => without_quad(End::NoPoint, c, inserted),
         Found::NoSlots => without_quad(End::NoSlots, c, inserted),
         Found::Found => {
-            let t = best(
+            let mut scores = [0.0; ROOM];
+            let mut nodes = [0; NODES];
+            let count = best(
                 w,
                 q,
+                &mut scores,
+                &mut nodes,
+                rules.quality,
                 near_at(rules.slots, rules.capacity),
                 nears,
                 far_at(rules.slots, rules.capacity),
@@ -67,7 +74,7 @@ fn with_both(
                 a,
                 b,
             );
-            try_pairs(w, q, rules, c, inserted, u, v, a, b, t)
+            try_pairs(w, q, rules, c, inserted, u, v, &nodes, count)
         }
     }
 }

@@ -3,6 +3,7 @@
 mod extremes;
 mod grids;
 pub mod large;
+pub mod sets;
 pub mod shape;
 mod soups;
 mod strips;

@@ -186,6 +186,7 @@ impl Shape {
             triangles: shape.tris,
             size: size.to_bits(),
             stop: r.below(2) as u32,
+            ..Input::default()
         }
     }
 }

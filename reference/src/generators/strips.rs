@@ -51,5 +51,6 @@ pub fn strip(r: &mut Random, room: &Room) -> Input {
         stop: r.below(2) as u32,
         triangles,
         points,
+        ..Input::default()
     }
 }

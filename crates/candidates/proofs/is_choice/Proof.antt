@@ -6,6 +6,7 @@ use Rattle.definition.specs.Plane.{norm}
 use Rattle.definition.specs.Candidates.{toward}
 use Rattle.cells.proofs.Points.{node-within}
 use Rattle.plane.specs.Vectors.{vec}
+use Rattle.rules.specs.Settings.{quality-of}
 use Rattle.side_candidates.proofs.Aheads.{ahead-read}
 use Rattle.edge_candidates.specs.Wanted.{turn}
 use Rattle.edge_candidates.proofs.Halves.{toward-read}
@@ -34,8 +35,8 @@ returns c =
     λ m g h y e.
     let d : vec (ft .from-to .result) ≡ toward m (a .a) (a .v) = toward-read (a .q .now) (a .p) m (h .pts) (a .a) (a .v) (record { node = e .first; end = e .second }) (vec (ft .from-to .result)) (ft .from-to .ensures) in
     let n : norm (toward m (a .a) (a .v)) ≡ sqrt (sq .square .result) = ap norm (sym d) ∙ norm-root (vec (ft .from-to .result)) ∙ ap sqrt (sym (sq .square .ensures)) in
-    choice-far (turn (a .left)) m (a .a) (a .other) (vec (a .normal)) (a .target) g (a .v)
-    (sym (ap (λ (x : Float). too-far x (a .target)) n ∙ t .pre .1 .beyond (sq .square .result) (ap (fits binary64) (sq .square .ensures) ∙ square-fits (vec (ft .from-to .result))) (c .if1 .taken)))
+    choice-far (quality-of (a .y)) (turn (a .left)) m (a .a) (a .other) (vec (a .normal)) (a .target) g (a .v)
+    (sym (ap (λ (x : Float). too-far (quality-of (a .y)) x (a .target)) n ∙ t .pre .1 .beyond (sq .square .result) (ap (fits binary64) (sq .square .ensures) ∙ square-fits (vec (ft .from-to .result))) (c .if1 .taken)))
 
 edge-candidate-requires : tie.Need-edge-candidate-requires
 edge-candidate-requires c κs =
@@ -50,7 +51,7 @@ returns-2 c =
     let t = ft .before .before .before in
     let a = t .args in
     λ m g h y e.
-    choice-edge (turn (a .left)) m (a .a) (a .other) (vec (a .normal)) (a .target) g (a .v)
+    choice-edge (quality-of (a .y)) (turn (a .left)) m (a .a) (a .other) (vec (a .normal)) (a .target) g (a .v)
     (sym (c .if2 .taken) ∙ ec .edge-candidate .ensures m (h .rep) (h .pts) y (record { node = e .first; end = e .second }))
 
 returns-3 : tie.Need-returns-3
@@ -62,9 +63,9 @@ returns-3 c =
     let t = ft .before .before .before in
     let a = t .args in
     λ m g h y e.
-    choice-behind (turn (a .left)) m (a .a) (a .other) (vec (a .normal)) (a .target) g (a .v)
+    choice-behind (quality-of (a .y)) (turn (a .left)) m (a .a) (a .other) (vec (a .normal)) (a .target) g (a .v)
     (sym (e2 .if2 .left) ∙ ec .edge-candidate .ensures m (h .rep) (h .pts) y (record { node = e .first; end = e .second }))
-    (sym (not-true (ah .ahead .result) (c .if3 .taken)) ∙ ah .ahead .ensures ∙ ahead-read (a .q .now) (a .p) m (h .pts) (a .a) (a .v) e (vec (a .normal)) (vec (ft .from-to .result)) (a .target) (ft .from-to .ensures))
+    (sym (not-true (ah .ahead .result) (c .if3 .taken)) ∙ ah .ahead .ensures ∙ ahead-read (quality-of (a .y)) (a .q .now) (a .p) m (h .pts) (a .a) (a .v) e (vec (a .normal)) (vec (ft .from-to .result)) (a .target) (ft .from-to .ensures))
 
 side-candidate-requires : tie.Need-side-candidate-requires
 side-candidate-requires c κs =
@@ -83,7 +84,7 @@ returns-4 c =
     let t = ft .before .before .before in
     let a = t .args in
     λ m g h y e.
-    choice-side (turn (a .left)) m (a .a) (a .other) (vec (a .normal)) (a .target) g (a .v) (c .side-candidate .result)
+    choice-side (quality-of (a .y)) (turn (a .left)) m (a .a) (a .other) (vec (a .normal)) (a .target) g (a .v) (c .side-candidate .result)
     (sym (e2 .if2 .left) ∙ ec .edge-candidate .ensures m (h .rep) (h .pts) y (record { node = e .first; end = e .second }))
     (c .side-candidate .ensures m g h e)
 

@@ -1,6 +1,6 @@
 use mathlib.Core.Path.{subst}
-use Rattle.definition.specs.Floats.{_⊕_, _⊗_, 2·2, 0·8, f64}
-use Rattle.definition.specs.Numbers.{base, side-margin}
+use Rattle.definition.specs.Floats.{_⊕_, _⊗_, 0·8, f64}
+use Rattle.definition.specs.Numbers.{side-margin}
 use Rattle.live_regions.specs.Stack.{LiveTo}
 use Rattle.plane.specs.Points.{node, ground}
 use Rattle.candidates.proofs.Tests.{region-read}
@@ -9,14 +9,14 @@ use Rattle.candidates.proofs.region_around.Statement.{statement}
 use Rattle.candidates.proofs.region_around.Tie as tie
 
 returns : tie.Need-returns
-unfolding base side-margin _⊕_ _⊗_ 2·2 0·8 f64 node ground
+unfolding side-margin _⊕_ _⊗_ 0·8 f64 node ground
 returns c =
     let lr = c .before .before in
-    let t = c .before .before .before .before .before .before .before in
+    let t = c .before .before .before .before .before .before .before .before in
     let a = t .args in
     λ m l h.
     subst (LiveTo (a .w .now) (lr .live-region .last .0) (a .s) (a .p) (lr .live-region .result) m)
-    (region-read (a .q .now) (a .p) m (l .pts) (a .seed) (a .a) h _ _ ((base .side-high ⊕ side-margin) ⊗ a .target) (c .before .before .before .before .at .ensures))
+    (region-read (a .q .now) (a .p) m (l .pts) (a .seed) (a .a) h _ _ ((a .y .«side_high» ⊕ side-margin) ⊗ a .target) (c .before .before .before .before .before .at .ensures))
     (lr .live-region .ensures m l)
 
 pub region-around-spec : {M : Type 1} → statement M

@@ -6,6 +6,7 @@ use native.Mathlib.Omega.{arith}
 use lib.ListN.{length}
 use Rattle.definition.specs.Cells.{Live, Mesh}
 use Rattle.plane.specs.Vectors.{vec}
+use Rattle.rules.specs.Settings.{quality-of}
 use Rattle.edge_candidates.specs.Wanted.{turn}
 use Rattle.edge_candidates.proofs.Nears.{wished-kept}
 use Rattle.candidates.specs.Choice.{is-choice, CanScan}
@@ -16,11 +17,11 @@ use Rattle.candidates.proofs.scan.Statement.{statement}
 use Rattle.candidates.proofs.scan.Tie as tie
 
 abbrev Inv-loop : tie.InvT-loop
-Inv-loop w₀ q s p k n b left a other normal target i o far g r₀ v₀ w r v =
-    (length w ≡ length w₀) × (r ≤ v) × (v ≤ n) × ((m : Mesh) (region : List Live) → CanScan w₀ q s p k n b a other i o m region → Listing w₀ w p b v r (is-choice (turn left) m a other (vec normal) target region))
+Inv-loop w₀ q s p k n b left a other normal target i o y far g r₀ v₀ w r v =
+    (length w ≡ length w₀) × (r ≤ v) × (v ≤ n) × ((m : Mesh) (region : List Live) → CanScan w₀ q s p k n b a other i o m region → Listing w₀ w p b v r (is-choice (quality-of y) (turn left) m a other (vec normal) target region))
 
 abbrev μ-loop : tie.MeasureT-loop
-μ-loop w₀ q s p k n b left a other normal target i o far g r₀ v₀ w r v = n - v
+μ-loop w₀ q s p k n b left a other normal target i o y far g r₀ v₀ w r v = n - v
 
 span-for-requires : tie.Need-span-for-requires Inv-loop μ-loop
 span-for-requires c κs =
@@ -41,8 +42,8 @@ loop-holds c =
       omega (arith, y .node .from, h .first),
       λ m region e.
           let z = sf .span-for .ensures (a .q .now) m region (e .hand) (omega (arith, e .first, e .count)) in
-          listing-from (a .w .now) (a .p) (a .b) (sf .span-for .result .low) (is-choice (turn (a .left)) m (a .a) (a .other) (vec (a .normal)) (a .target) region)
-          (λ u k. choice-before (turn (a .left)) m (a .a) (a .other) (vec (a .normal)) (a .target) region u (sf .span-for .result) z k),
+          listing-from (a .w .now) (a .p) (a .b) (sf .span-for .result .low) (is-choice (quality-of (a .y)) (turn (a .left)) m (a .a) (a .other) (vec (a .normal)) (a .target) region)
+          (λ u k. choice-before (quality-of (a .y)) (turn (a .left)) m (a .a) (a .other) (vec (a .normal)) (a .target) region u (sf .span-for .result) z k),
     )
 
 is-choice-requires : tie.Need-is-choice-requires Inv-loop μ-loop
@@ -141,7 +142,7 @@ loop-again c =
           let z = x .inv .3 m region k in
           let r = k .hand .rep in
           let o : a .n ≡ length (m .points) = k .count in
-          listing-more (a .w .now) (x .w) (a .p) (a .b) (x .v) (x .r) (is-choice (turn (a .left)) m (a .a) (a .other) (vec (a .normal)) (a .target) region) z (x .inv .1) (omega (arith, v, o, r .points)) (omega (arith, x .inv .0, k .to, k .wish .to)) (ad .add .last .0) (ic .is-choice .result) (ad .add .result)
+          listing-more (a .w .now) (x .w) (a .p) (a .b) (x .v) (x .r) (is-choice (quality-of (a .y)) (turn (a .left)) m (a .a) (a .other) (vec (a .normal)) (a .target) region) z (x .inv .1) (omega (arith, v, o, r .points)) (omega (arith, x .inv .0, k .to, k .wish .to)) (ad .add .last .0) (ic .is-choice .result) (ad .add .result)
           (ic .is-choice .ensures m region (hand-kept (a .w .now) (x .w) (a .q .now) (a .s) (a .p) (a .k) (a .b) (a .p) m region (k .hand) (k .from) (z .besides))
           (wished-kept (a .w .now) (x .w) (a .q .now) (a .s) (a .i) (a .o) m (a .a) (a .other) (x .inv .0) (λ j f. z .besides .behind j (omega (arith, f, k .to))) (k .wish)) (record { first = omega (arith, o, k .first); second = omega (arith, o, v) })) e,
     )
@@ -162,8 +163,8 @@ returns c =
     let a = t .args in
     λ m region h.
     let y = sf .span-for .ensures (a .q .now) m region (h .hand) (omega (arith, h .first, h .count)) in
-    listing-end (a .w .now) (x .w) (a .p) (a .n) (a .b) (x .v) (x .r) (is-choice (turn (a .left)) m (a .a) (a .other) (vec (a .normal)) (a .target) region) (x .inv .3 m region h) (x .inv .1) (x .inv .2)
-    (λ u k. choice-behind (turn (a .left)) m (a .a) (a .other) (vec (a .normal)) (a .target) region u (sf .span-for .result) y (omega (arith, k, i .if1 .left)))
+    listing-end (a .w .now) (x .w) (a .p) (a .n) (a .b) (x .v) (x .r) (is-choice (quality-of (a .y)) (turn (a .left)) m (a .a) (a .other) (vec (a .normal)) (a .target) region) (x .inv .3 m region h) (x .inv .1) (x .inv .2)
+    (λ u k. choice-behind (quality-of (a .y)) (turn (a .left)) m (a .a) (a .other) (vec (a .normal)) (a .target) region u (sf .span-for .result) y (omega (arith, k, i .if1 .left)))
 
 pub scan-spec : {M : Type 1} → statement M
 scan-spec =

@@ -1,4 +1,4 @@
--- The number of checks, where it is 1 to 3.
+-- The number of the first refusal, where it comes before 4.
 use mathlib.Core.Path.{ap, sym, _∙_}
 use borrow.Author.Needs.{needs}
 use Rattle.library.specs.Exported.{up-to-4}
@@ -16,9 +16,12 @@ returns-3 : tie.Need-returns-3
 returns-3 c = λ l h. sym (ap up-to-4 (sym (c .before .before .before .refusal .ensures l h) ∙ c .if3 .taken))
 
 returns-4 : tie.Need-returns-4
-returns-4 c = λ l h.
-    let r = c .before .before .before in
-    sym (ap up-to-4 (sym (r .refusal .ensures l h)) ∙ is-4 (r .refusal .result) (c .before .before .if1 .left) (c .before .if2 .left) (c .if3 .left))
+returns-4 c = λ l h. sym (ap up-to-4 (sym (c .before .before .before .before .refusal .ensures l h) ∙ c .if4 .taken))
+
+returns-5 : tie.Need-returns-5
+returns-5 c = λ l h.
+    let r = c .before .before .before .before in
+    sym (ap up-to-4 (sym (r .refusal .ensures l h)) ∙ is-4 (r .refusal .result) (c .before .before .before .if1 .left) (c .before .before .if2 .left) (c .before .if3 .left) (c .if4 .left))
 
 pub short-answer-spec : {M : Type 1} → statement M
-short-answer-spec = tie.close (tie.spec (λ c κs. search needs) returns returns-2 returns-3 returns-4)
+short-answer-spec = tie.close (tie.spec (λ c κs. search needs) returns returns-2 returns-3 returns-4 returns-5)

@@ -1,12 +1,12 @@
 -- One refusal after the other, in the definition's order; `no-k` is what passing test k gave.
 use mathlib.Core.Path.{_≡_, sym, _∙_}
-use mathlib.Core.Bool.{false}
+use mathlib.Core.Bool.{false, cond}
 use native.Mathlib.Omega.{arith}
 use borrow.Author.Needs.{needs}
-use Rattle.definition.specs.Call.{Lent, over-limit, bad-size, bad-stop, too-short, unknown-node, repeated-node}
+use Rattle.definition.specs.Call.{Lent, over-limit, bad-size, bad-stop, bad-quality, too-short, unknown-node, repeated-node, far-point}
 use Rattle.refusals.specs.Stated.{asked, Lends, blank, blank-lends}
 use Rattle.refusals.specs.Passed.{Roomy, limited, roomy}
-use Rattle.refusals.specs.Refusals.{in-turn}
+use Rattle.refusals.specs.Refusals.{first-refusal, in-turn}
 use Rattle.refusals.proofs.refusal.Statement.{statement}
 use Rattle.refusals.proofs.refusal.Tie as tie
 
@@ -31,31 +31,37 @@ no-3 c = sym (c .before .bad-stop .ensures) ∙ c .if3 .left
 abbrev top4 : tie.Else4 → tie.Else3
 top4 c = c .before .before
 
-abbrev start : tie.Else4 → tie.Start
-start c = top (top2 (top3 (top4 c)))
+no-14 : (c : tie.Else4) → bad-quality (asked (top (top2 (top3 (top4 c))) .args .a)) ≡ false
+no-14 c = sym (c .before .bad-quality .ensures) ∙ c .if4 .left
 
-no-4 : (c : tie.Else4) (l : Lent) → Lends l (start c .args .points .now) (start c .args .triangles .now) (start c .args .n) → too-short (asked (start c .args .a)) l ≡ false
-no-4 c l h = sym (c .before .too-short .ensures l h) ∙ c .if4 .left
+abbrev top5 : tie.Else5 → tie.Else4
+top5 c = c .before .before
+
+abbrev start : tie.Else5 → tie.Start
+start c = top (top2 (top3 (top4 (top5 c))))
+
+no-4 : (c : tie.Else5) (l : Lent) → Lends l (start c .args .points .now) (start c .args .triangles .now) (start c .args .n) → too-short (asked (start c .args .a)) l ≡ false
+no-4 c l h = sym (c .before .too-short .ensures l h) ∙ c .if5 .left
 
 -- the slices read are long enough
-room : (c : tie.Else4) → Roomy (asked (start c .args .a)) (blank (start c .args .points .now) (start c .args .triangles .now) (start c .args .n))
+room : (c : tie.Else5) → Roomy (asked (start c .args .a)) (blank (start c .args .points .now) (start c .args .triangles .now) (start c .args .n))
 room c =
     let ps = start c .args .points .now in
     let ts = start c .args .triangles .now in
     let n = start c .args .n in
     roomy _ (blank ps ts n) (no-4 c (blank ps ts n) (blank-lends ps ts n))
 
-abbrev top5 : tie.Else5 → tie.Else4
-top5 c = c .before .before
-
-no-5 : (c : tie.Else5) (l : Lent) → l .triangles ≡ start (top5 c) .args .triangles .now → unknown-node (asked (start (top5 c) .args .a)) l ≡ false
-no-5 c l e = sym (c .before .unknown-node .ensures l e) ∙ c .if5 .left
-
 abbrev top6 : tie.Else6 → tie.Else5
 top6 c = c .before .before
 
-no-6 : (c : tie.Else6) (l : Lent) → l .triangles ≡ start (top5 (top6 c)) .args .triangles .now → repeated-node (asked (start (top5 (top6 c)) .args .a)) l ≡ false
-no-6 c l e = sym (c .before .repeated-node .ensures l e) ∙ c .if6 .left
+no-5 : (c : tie.Else6) (l : Lent) → l .triangles ≡ start (top6 c) .args .triangles .now → unknown-node (asked (start (top6 c) .args .a)) l ≡ false
+no-5 c l e = sym (c .before .unknown-node .ensures l e) ∙ c .if6 .left
+
+abbrev top7 : tie.Else7 → tie.Else6
+top7 c = c .before .before
+
+no-6 : (c : tie.Else7) (l : Lent) → l .triangles ≡ start (top6 (top7 c)) .args .triangles .now → repeated-node (asked (start (top6 (top7 c)) .args .a)) l ≡ false
+no-6 c l e = sym (c .before .repeated-node .ensures l e) ∙ c .if7 .left
 
 returns : tie.Need-returns
 returns c = λ l h. rw (in-turn, sym (c .before .over-limit .ensures) ∙ c .if1 .taken)
@@ -71,45 +77,46 @@ returns-3 c = λ l h.
 returns-4 : tie.Need-returns-4
 returns-4 c = λ l h.
     let p = c .before .before in
-    rw (in-turn, no-1 (top2 (top3 p)), no-2 (top3 p), no-3 p, sym (c .before .too-short .ensures l h) ∙ c .if4 .taken)
+    rw (in-turn, no-1 (top2 (top3 p)), no-2 (top3 p), no-3 p, sym (c .before .bad-quality .ensures) ∙ c .if4 .taken)
+
+-- the caller's numbers pass
+numbers : (c : tie.Else4) (l : Lent) → let a = asked (top (top2 (top3 (top4 c))) .args .a) in
+    first-refusal a l ≡ cond (too-short a l) 4 (cond (unknown-node a l) 5 (cond (repeated-node a l) 6 (cond (far-point a l) 7 0)))
+numbers c l = let p = top4 c in rw (in-turn, no-1 (top2 (top3 p)), no-2 (top3 p), no-3 p, no-14 c)
 
 returns-5 : tie.Need-returns-5
-returns-5 c = λ l h.
-    let p4 = c .before .before in
-    let p3 = top4 p4 in
-    rw (in-turn, no-1 (top2 (top3 p3)), no-2 (top3 p3), no-3 p3, no-4 p4 l h, sym (c .before .unknown-node .ensures l (h .triangles)) ∙ c .if5 .taken)
+returns-5 c = λ l h. rw (numbers (c .before .before) l, sym (c .before .too-short .ensures l h) ∙ c .if5 .taken)
 
 returns-6 : tie.Need-returns-6
 returns-6 c = λ l h.
-    let p5 = c .before .before in
-    let p4 = top5 p5 in
-    let p3 = top4 p4 in
-    rw (in-turn, no-1 (top2 (top3 p3)), no-2 (top3 p3), no-3 p3, no-4 p4 l h, no-5 p5 l (h .triangles), sym (c .before .repeated-node .ensures l (h .triangles)) ∙ c .if6 .taken)
-
-far-point-requires : tie.Need-far-point-requires
-far-point-requires c κs =
-    let r = room (top5 (top6 c)) in
-    omega arith
+    let p = c .before .before in
+    rw (numbers (top5 p) l, no-4 p l h, sym (c .before .unknown-node .ensures l (h .triangles)) ∙ c .if6 .taken)
 
 returns-7 : tie.Need-returns-7
 returns-7 c = λ l h.
-    let p6 = c .before .before in
-    let p5 = top6 p6 in
-    let p4 = top5 p5 in
-    let p3 = top4 p4 in
-    rw (in-turn, no-1 (top2 (top3 p3)), no-2 (top3 p3), no-3 p3, no-4 p4 l h, no-5 p5 l (h .triangles), no-6 p6 l (h .triangles), sym (c .before .far-point .ensures l (h .points)) ∙ c .if7 .taken)
+    let p = c .before .before in
+    rw (numbers (top5 (top6 p)) l, no-4 (top6 p) l h, no-5 p l (h .triangles), sym (c .before .repeated-node .ensures l (h .triangles)) ∙ c .if7 .taken)
+
+far-point-requires : tie.Need-far-point-requires
+far-point-requires c κs =
+    let r = room (top6 (top7 c)) in
+    omega arith
 
 returns-8 : tie.Need-returns-8
 returns-8 c = λ l h.
-    let p6 = c .before .before in
-    let p5 = top6 p6 in
-    let p4 = top5 p5 in
-    let p3 = top4 p4 in
-    rw (in-turn, no-1 (top2 (top3 p3)), no-2 (top3 p3), no-3 p3, no-4 p4 l h, no-5 p5 l (h .triangles), no-6 p6 l (h .triangles), sym (c .before .far-point .ensures l (h .points)) ∙ c .if7 .left)
+    let p = c .before .before in
+    let p6 = top7 p in
+    rw (numbers (top5 (top6 p6)) l, no-4 (top6 p6) l h, no-5 p6 l (h .triangles), no-6 p l (h .triangles), sym (c .before .far-point .ensures l (h .points)) ∙ c .if8 .taken)
+
+returns-9 : tie.Need-returns-9
+returns-9 c = λ l h.
+    let p = c .before .before in
+    let p6 = top7 p in
+    rw (numbers (top5 (top6 p6)) l, no-4 (top6 p6) l h, no-5 p6 l (h .triangles), no-6 p l (h .triangles), sym (c .before .far-point .ensures l (h .points)) ∙ c .if8 .left)
 
 pub refusal-spec : {M : Type 1} → statement M
 refusal-spec =
     tie.close
     (tie.spec
-    (λ c κs. search needs) returns (λ c κs. search needs) returns-2 (λ c κs. search needs) returns-3 (λ c κs. limited _ (no-1 (top2 (top3 c)))) returns-4
-    (λ c κs. room c .triangles) returns-5 (λ c κs. room (top5 c) .triangles) returns-6 far-point-requires returns-7 returns-8)
+    (λ c κs. search needs) returns (λ c κs. search needs) returns-2 (λ c κs. search needs) returns-3 (λ c κs. search needs) returns-4
+    (λ c κs. limited _ (no-1 (top2 (top3 (top4 c))))) returns-5 (λ c κs. room c .triangles) returns-6 (λ c κs. room (top6 c) .triangles) returns-7 far-point-requires returns-8 returns-9)

@@ -50,7 +50,7 @@ add-attempts c = omega (arith, few (start (c .before .before)))
 front-loop-requires : tie.Need-front-loop-requires
 unfolding max-attempts
 front-loop-requires c κs =
-    let b = c .before .before .before .before .before .before in
+    let b = c .before .before .before .before .before .before .before in
     let t = start b in
     let l = t .pre .0 in
     (given-tris (stated t) l, given-points (stated t) l, can-run b l (t .pre .1))
@@ -59,7 +59,7 @@ returns : tie.Need-returns
 unfolding max-attempts
 returns c =
     let f = c .before .before .before .before .before .before .before .before in
-    let b = f .before .before .before .before .before .before .before in
+    let b = f .before .before .before .before .before .before .before .before in
     let t = start b in
     let a = t .args in
     λ l m.

@@ -1,6 +1,7 @@
 use mathlib.Core.Path.{_∙_, sym}
 use Rattle.cells.proofs.Points.{node-within}
 use Rattle.plane.specs.Vectors.{vec}
+use Rattle.rules.specs.Settings.{quality-of}
 use Rattle.side_candidates.proofs.Aheads.{side-same, side-other, side-outside, side-behind, side-inside, ahead-read}
 use borrow.Author.Needs.{needs}
 use borrow.Author.Tests.{not-true, not-false}
@@ -11,14 +12,14 @@ returns : tie.Need-returns
 returns c =
     let t = c .before .before .before in
     let a = t .args in
-    λ m g h e. side-same m (a .a) (a .other) (vec (a .n)) (a .target) g (a .v) (c .if1 .taken)
+    λ m g h e. side-same (quality-of (a .y)) m (a .a) (a .other) (vec (a .n)) (a .target) g (a .v) (c .if1 .taken)
 
 returns-2 : tie.Need-returns-2
 returns-2 c =
     let e1 = c .before in
     let t = e1 .before .before .before in
     let a = t .args in
-    λ m g h e. side-other m (a .a) (a .other) (vec (a .n)) (a .target) g (a .v) (e1 .if1 .left) (c .if2 .taken)
+    λ m g h e. side-other (quality-of (a .y)) m (a .a) (a .other) (vec (a .n)) (a .target) g (a .v) (e1 .if1 .left) (c .if2 .taken)
 
 in-region-requires : tie.Need-in-region-requires
 in-region-requires c κs =
@@ -34,7 +35,7 @@ returns-3 c =
     let e1 = e2 .before in
     let t = e1 .before .before .before in
     let a = t .args in
-    λ m g h e. side-outside m (a .a) (a .other) (vec (a .n)) (a .target) g (a .v) (e1 .if1 .left) (e2 .if2 .left) (sym (not-true (ir .in-region .result) (c .if3 .taken)) ∙ ir .in-region .ensures m g h)
+    λ m g h e. side-outside (quality-of (a .y)) m (a .a) (a .other) (vec (a .n)) (a .target) g (a .v) (e1 .if1 .left) (e2 .if2 .left) (sym (not-true (ir .in-region .result) (c .if3 .taken)) ∙ ir .in-region .ensures m g h)
 
 from-to-requires : tie.Need-from-to-requires
 from-to-requires c κs =
@@ -55,8 +56,8 @@ returns-4 c =
     let e1 = e2 .before in
     let t = e1 .before .before .before in
     let a = t .args in
-    λ m g h e. side-behind m (a .a) (a .other) (vec (a .n)) (a .target) g (a .v) (e1 .if1 .left) (e2 .if2 .left) (sym (not-false (ir .in-region .result) (e3 .if3 .left)) ∙ ir .in-region .ensures m g h)
-    (sym (not-true (ah .ahead .result) (c .if4 .taken)) ∙ ah .ahead .ensures ∙ ahead-read (a .q .now) (a .p) m (h .pts) (a .a) (a .v) e (vec (a .n)) (vec (ft .from-to .result)) (a .target) (ft .from-to .ensures))
+    λ m g h e. side-behind (quality-of (a .y)) m (a .a) (a .other) (vec (a .n)) (a .target) g (a .v) (e1 .if1 .left) (e2 .if2 .left) (sym (not-false (ir .in-region .result) (e3 .if3 .left)) ∙ ir .in-region .ensures m g h)
+    (sym (not-true (ah .ahead .result) (c .if4 .taken)) ∙ ah .ahead .ensures ∙ ahead-read (quality-of (a .y)) (a .q .now) (a .p) m (h .pts) (a .a) (a .v) e (vec (a .n)) (vec (ft .from-to .result)) (a .target) (ft .from-to .ensures))
 
 segment-inside-requires : tie.Need-segment-inside-requires
 segment-inside-requires c κs =
@@ -77,8 +78,8 @@ returns-5 c =
     let e1 = e2 .before in
     let t = e1 .before .before .before in
     let a = t .args in
-    λ m g h e. side-inside m (a .a) (a .other) (vec (a .n)) (a .target) g (a .v) (c .segment-inside .result) (e1 .if1 .left) (e2 .if2 .left) (sym (not-false (ir .in-region .result) (e3 .if3 .left)) ∙ ir .in-region .ensures m g h)
-    (sym (not-false (ah .ahead .result) (e4 .if4 .left)) ∙ ah .ahead .ensures ∙ ahead-read (a .q .now) (a .p) m (h .pts) (a .a) (a .v) e (vec (a .n)) (vec (ft .from-to .result)) (a .target) (ft .from-to .ensures))
+    λ m g h e. side-inside (quality-of (a .y)) m (a .a) (a .other) (vec (a .n)) (a .target) g (a .v) (c .segment-inside .result) (e1 .if1 .left) (e2 .if2 .left) (sym (not-false (ir .in-region .result) (e3 .if3 .left)) ∙ ir .in-region .ensures m g h)
+    (sym (not-false (ah .ahead .result) (e4 .if4 .left)) ∙ ah .ahead .ensures ∙ ahead-read (quality-of (a .y)) (a .q .now) (a .p) m (h .pts) (a .a) (a .v) e (vec (a .n)) (vec (ft .from-to .result)) (a .target) (ft .from-to .ensures))
     (c .segment-inside .ensures m g h e)
 
 pub side-candidate-spec : {M : Type 1} → statement M

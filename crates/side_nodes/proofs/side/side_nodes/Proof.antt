@@ -2,10 +2,9 @@
 use mathlib.Core.Path.{refl, ap, sym, _∙_, subst}
 use native.Mathlib.Omega.{arith}
 use borrow.Author.Tests.{not-true, not-false}
-use Rattle.definition.specs.Numbers.{base}
 use Rattle.definition.specs.Candidates.{candidates}
 use Rattle.definition.specs.Attempt.{sides-by}
-use Rattle.rules.specs.Settings.{settings-of}
+use Rattle.rules.specs.Settings.{quality-of, settings-of}
 use Rattle.plane.specs.Vectors.{vec}
 use Rattle.edge_candidates.specs.Wanted.{turn}
 use Rattle.outcomes.specs.Ends.{only-inserted}
@@ -31,7 +30,7 @@ returns c =
     let w' = j .candidates .last .0 in
     λ m f h o.
     let y = j .candidates .ensures m (can-choose (a .w .now) (a .q .now) (a .rules) (a .c) (a .at) (a .a) (a .other) (a .stance .seed) (a .inserted) m h) in
-    let cs = candidates base (turn (a .left)) m (a .a) (a .other) (a .stance .seed) (vec (a .stance .normal)) (a .stance .target) in
+    let cs = candidates (quality-of (a .rules .quality)) (turn (a .left)) m (a .a) (a .other) (a .stance .seed) (vec (a .stance .normal)) (a .stance .target) in
     let e = nodes-of (a .rules) (turn (a .left)) f (only-inserted (a .inserted)) m (a .a) (a .other) (a .stance .seed) (vec (a .stance .normal)) (a .stance .target) (a .stance .mismatch) o in
     let g = settings-of (a .rules) in
     let r : Side = record { found = founds.Found; count = j .candidates .result; inserted = a .inserted; counters = a .c } in
@@ -47,7 +46,7 @@ returns-2 c =
     let w' = j .candidates .last .0 in
     λ m f h o.
     let y = j .candidates .ensures m (can-choose (a .w .now) (a .q .now) (a .rules) (a .c) (a .at) (a .a) (a .other) (a .stance .seed) (a .inserted) m h) in
-    let cs = candidates base (turn (a .left)) m (a .a) (a .other) (a .stance .seed) (vec (a .stance .normal)) (a .stance .target) in
+    let cs = candidates (quality-of (a .rules .quality)) (turn (a .left)) m (a .a) (a .other) (a .stance .seed) (vec (a .stance .normal)) (a .stance .target) in
     let e = nodes-of (a .rules) (turn (a .left)) f (only-inserted (a .inserted)) m (a .a) (a .other) (a .stance .seed) (vec (a .stance .normal)) (a .stance .target) (a .stance .mismatch) o in
     let g = settings-of (a .rules) in
     let z = from-missing g f (only-inserted (a .inserted)) m (a .a) cs (omega (arith, y .len, c .before .before .if1 .left)) (o .off ∙ not-true (a .stance .mismatch) (c .before .if2 .taken)) in
@@ -73,7 +72,7 @@ returns-3 c =
     let i = c .before .before .before .before in
     λ m f h o.
     let y = j .candidates .ensures m (can-choose (a .w .now) (a .q .now) (a .rules) (a .c) (a .at) (a .a) (a .other) (a .stance .seed) (a .inserted) m h) in
-    let cs = candidates base (turn (a .left)) m (a .a) (a .other) (a .stance .seed) (vec (a .stance .normal)) (a .stance .target) in
+    let cs = candidates (quality-of (a .rules .quality)) (turn (a .left)) m (a .a) (a .other) (a .stance .seed) (vec (a .stance .normal)) (a .stance .target) in
     let e = nodes-of (a .rules) (turn (a .left)) f (only-inserted (a .inserted)) m (a .a) (a .other) (a .stance .seed) (vec (a .stance .normal)) (a .stance .target) (a .stance .mismatch) o in
     let g = settings-of (a .rules) in
     let z = from-insertion g f (only-inserted (a .inserted)) m (a .a) cs (omega (arith, y .len, i .before .before .before .before .if1 .left)) (o .off ∙ not-false (a .stance .mismatch) (i .before .before .before .if2 .left)) in

@@ -6,59 +6,63 @@ use native.Mathlib.Omega.{arith}
 use borrow.Author.Needs.{needs}
 use lib.ListN.{length}
 use Rattle.definition.specs.Lists.{flat-map}
+use Rattle.rules.specs.Settings.{quality-of}
 use Rattle.trials.specs.Ranked.{part, trial-at, length-part, part-at}
+use Rattle.trials.proofs.Rating.{kept-none}
 use Rattle.trials.proofs.Rounds.{Gone, gone-none, gone-more, gone-all, best-of}
 use Rattle.trials.proofs.ranked.best.Statement.{statement}
 use Rattle.trials.proofs.ranked.best.Tie as tie
 
 abbrev Inv-loop : tie.InvT-loop
-Inv-loop w q near-at nears far-at fars a b kept₀ i₀ kept i = Gone (λ c. flat-map (trial-at q a b c) (part w far-at fars)) (part w near-at nears) [] nears kept i
+Inv-loop w q scores₀ nodes₀ y near-at nears far-at fars a b k₀ i₀ scores nodes k i = Gone (λ c. flat-map (trial-at (quality-of y) q a b c) (part w far-at fars)) (part w near-at nears) [] (y .pairs) nears scores nodes k i
 
 abbrev μ-loop : tie.MeasureT-loop
-μ-loop w q near-at nears far-at fars a b kept₀ i₀ kept i = i
+μ-loop w q scores₀ nodes₀ y near-at nears far-at fars a b k₀ i₀ scores nodes k i = i
 
 -- the node that is read
-below : (c : tie.In-loop Inv-loop μ-loop) → c .before .loop .i - 1 < c .before .before .before .before .before .args .nears
+below : (c : tie.In-loop Inv-loop μ-loop) → c .before .loop .i - 1 < c .before .before .before .before .args .nears
 below c = omega (arith, c .before .loop .inv .within, c .loop-test .taken)
 
-inside : (c : tie.In-loop Inv-loop μ-loop) → c .before .before .before .before .before .args .near-at + (c .before .loop .i - 1) < length (c .before .before .before .before .before .args .w .now)
-inside c = omega (arith, below c, c .before .before .before .before .before .pre .1 .near)
+inside : (c : tie.In-loop Inv-loop μ-loop) → c .before .before .before .before .args .near-at + (c .before .loop .i - 1) < length (c .before .before .before .before .args .w .now)
+inside c = omega (arith, below c, c .before .before .before .before .pre .1 .1 .near)
 
 loop-holds : tie.Need-loop-holds Inv-loop μ-loop
-loop-holds c = gone-none _ _ _ _ (length-part _ _ _ (c .before .before .before .pre .1 .near)) _ (c .none .ensures)
+loop-holds c = gone-none _ _ _ _ _ (length-part _ _ _ (c .before .before .pre .1 .1 .near)) _ _ _ (kept-none _ _ _)
 
 cast-c : tie.Need-cast-c Inv-loop μ-loop
-cast-c c = search (needs, c .shared-slice-known3 .given (c .before .before .before .before .before .before .args .near-at + (c .before .before .loop .i - 1)))
+cast-c c = search (needs, c .shared-slice-known3 .given (c .before .before .before .before .before .args .near-at + (c .before .before .loop .i - 1)))
 
 with-node-requires : tie.Need-with-node-requires Inv-loop μ-loop
 with-node-requires c κs =
-    let k = c .before .before .before .before .before .before .pre .1 in
-    let l = k .near-below _ (below (c .before)) in (
-      c .before .before .loop .inv .so-far .few,
+    let l = c .before .before .before in
+    let a = l .before .before .before .before in
+    let k = a .pre .1 .1 in
+    let h = k .near-below _ (below l) in (
+      (l .before .loop .inv .so-far .few, a .pre .0),
       record {
         stands = k .far;
         a-within = omega (arith, k .points, k .a-below);
         b-within = omega (arith, k .points, k .b-below);
-        c-within = omega (arith, k .points, l);
-        within = λ j h. omega (arith, k .points, k .far-below j h);
+        c-within = omega (arith, k .points, h);
+        within = λ j u. omega (arith, k .points, k .far-below j u);
       },
     )
 
 loop-again : tie.Need-loop-again Inv-loop μ-loop
 loop-again c =
-    let l = c .before .before .before in
-    let e : l .loop .i ≡ suc (l .loop .i - 1) = omega (arith, c .before .before .loop-test .taken) in
-    gone-more _ _ _ _ (length-part _ _ _ (c .before .before .before .before .before .before .before .pre .1 .near)) _ _ _ _ e (l .loop .inv) (rw (part-at _ _ _ _ (below (c .before .before))) (c .with-node .ensures))
+    let l = c .before .before .before .before in
+    let e : l .before .loop .i ≡ suc (l .before .loop .i - 1) = omega (arith, l .loop-test .taken) in
+    gone-more _ _ _ _ _ (length-part _ _ _ (l .before .before .before .before .pre .1 .1 .near)) _ _ _ _ _ _ _ _ e (l .before .loop .inv) (rw (part-at _ _ _ _ (below l)) (c .with-node .ensures))
 
 returns : tie.Need-returns Inv-loop μ-loop
 returns c =
     λ m n e k.
-    let g = gone-all _ _ _ _ _ _ (c .before .loop .inv) (c .loop-test .left) in
-    record { few = g .few; list = g .list ∙ best-of m n _ _ _ _ _ _ _ _ e k }
+    let g = gone-all _ _ _ _ _ _ _ _ _ (c .before .loop .inv) (c .loop-test .left) in
+    record { few = g .few; list = g .list ∙ best-of _ m n _ _ _ _ _ _ _ _ e k }
 
 pub best-spec : {M : Type 1} → statement M
 best-spec =
     tie.close
     (tie.spec
-    Inv-loop μ-loop (λ c κs. search needs) loop-holds (λ c. search needs) (λ c. let h = inside c in search needs) (λ c. let h = inside c in search needs)
+    Inv-loop μ-loop loop-holds (λ c. search needs) (λ c. let h = inside c in search needs) (λ c. let h = inside c in search needs)
     (λ c. inside (c .before)) cast-c with-node-requires (λ c. search needs) loop-again returns)

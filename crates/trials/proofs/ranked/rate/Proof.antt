@@ -1,10 +1,10 @@
 -- No metrics and metrics that do not pass give no trial; others give one, which is inserted.
-use mathlib.Core.Path.{ap, sym, _∙_}
+use mathlib.Core.Path.{refl, ap, sym, _∙_}
 use borrow.Author.Needs.{needs}
 use borrow.Author.Tests.{not-true, not-false}
-use Rattle.definition.specs.Numbers.{base}
 use Rattle.definition.specs.Metrics.{passes, score}
 use Rattle.plane.specs.Measures.{metrics-of-enum}
+use Rattle.rules.specs.Settings.{quality-of}
 use Rattle.trials.specs.Kept.{trial-of, quad-of}
 use Rattle.trials.specs.Ranked.{metrics-at}
 use Rattle.trials.proofs.Rating.{rated-absent, rated-fails, rated-passes, kept-same, kept-one}
@@ -18,22 +18,25 @@ returns : tie.Need-returns
 unfolding metrics-at metrics-of-enum
 returns c =
     let k = c .before .before in
-    kept-same _ _ (k .before .before .pre .0) (rated-absent _ _ (sym (k .quad-metrics .ensures) ∙ ap metrics-of-enum (c .enum-told .given .1)))
+    kept-same _ _ _ _ _ (k .before .before .pre .0 .0) (rated-absent _ _ _ (sym (k .quad-metrics .ensures) ∙ ap metrics-of-enum (c .enum-told .given .1)))
 
 returns-2 : tie.Need-returns-2
 unfolding metrics-at
 returns-2 c =
     let k = c .before in
+    let a = k .before .before .before .before .before in
+    let y = quality-of (a .args .y) in
     let m = k .before .before .before .quad-metrics .ensures in
-    kept-same _ _ (k .before .before .before .before .before .pre .0) (rated-fails _ _ (ap (passes base) (sym m) ∙ sym (k .passes-base .ensures) ∙ not-true _ (c .if1 .taken)))
+    kept-same _ _ _ _ _ (a .pre .0 .0) (rated-fails _ _ _ (ap (passes y) (sym m) ∙ sym (k .passes .ensures y refl refl) ∙ not-true _ (c .if1 .taken)))
 
 returns-3 : tie.Need-returns-3
 unfolding metrics-at trial-of quad-of
 returns-3 c =
-    let k = c .before .before .before in
+    let k = c .before .before .before .before .before in
+    let y = quality-of (k .before .before .before .before .before .args .y) in
     let m = k .before .before .before .quad-metrics .ensures in
-    let good = ap (passes base) (sym m) ∙ sym (k .passes-base .ensures) ∙ not-false _ (c .before .before .if1 .left) in
-    kept-one _ _ _ _ (c .insert .ensures) (rated-passes _ _ _ good (c .before .score .ensures ∙ ap score m))
+    let good = ap (passes y) (sym m) ∙ sym (k .passes .ensures y refl refl) ∙ not-false _ (c .before .before .before .before .if1 .left) in
+    kept-one _ _ _ _ _ _ _ (c .insert .ensures) (rated-passes _ _ _ _ good (c .before .before .before .score .ensures ∙ ap score m))
 
 pub rate-spec : {M : Type 1} → statement M
 rate-spec =

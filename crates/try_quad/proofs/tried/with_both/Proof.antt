@@ -12,35 +12,24 @@ enum-told : tie.Need-enum-told
 enum-told c = search needs
 
 near-at-requires : tie.Need-near-at-requires
-near-at-requires c κs =
-    let t = c .before .before .before .before .before .before in
-    let a = t .args in
-    let e = c .before .enum-told4 .given .1 in
-    both-sizes (a .w .now) (t .pre .0) (a .q .now) (a .rules) (t .pre .1) (a .u) (a .v) (a .a) (a .b) (a .nears) (a .far) (t .pre .2) (t .pre .3) (t .pre .4) e
+near-at-requires c κs = both-sizes (c .before .before .before .before .before .before .before .before .pre .4) (c .before .before .before .enum-told4 .given .1)
 
 far-at-requires : tie.Need-far-at-requires
-far-at-requires c κs =
-    let t = c .before .before .before .before .before .before .before in
-    let a = t .args in
-    let e = c .before .before .enum-told4 .given .1 in
-    both-sizes (a .w .now) (t .pre .0) (a .q .now) (a .rules) (t .pre .1) (a .u) (a .v) (a .a) (a .b) (a .nears) (a .far) (t .pre .2) (t .pre .3) (t .pre .4) e
+far-at-requires c κs = both-sizes (c .before .before .before .before .before .before .before .before .before .pre .4) (c .before .before .before .before .enum-told4 .given .1)
 
 best-requires : tie.Need-best-requires
 best-requires c κs =
-    let t = c .before .before .before .before .before .before .before .before in
-    let a = t .args in
-    let e = c .before .before .before .enum-told4 .given .1 in
-    (a .far .counters .points, both-named (a .w .now) (t .pre .0) (a .q .now) (a .rules) (t .pre .1) (a .u) (a .v) (a .a) (a .b) (a .nears) (a .far) (t .pre .2) (t .pre .3) (t .pre .4) e (c .before .near-at .result) (c .far-at .result) (c .before .near-at .ensures) (c .far-at .ensures))
+    let h = c .before .before .before .before .before .before .before .before .before .before .pre .4 in
+    (h .pairs, (_, both-named h (c .before .before .before .before .before .enum-told4 .given .1) (c .before .near-at .ensures) (c .far-at .ensures)))
 
 try-pairs-requires : tie.Need-try-pairs-requires
 try-pairs-requires c κs =
-    let t = c .before .before .before .before .before .before .before .before .before .before in
-    let a = t .args in
-    let e = c .before .before .before .before .before .enum-told4 .given .1 in
-    let na = c .before .before .before .near-at in
-    let fa = c .before .before .far-at in
-    let y = c .before .best in
-    (both-found (a .w .now) (t .pre .0) (a .q .now) (a .rules) (t .pre .1) (a .u) (a .v) (a .a) (a .b) (a .nears) (a .far) (t .pre .2) (t .pre .3) (t .pre .4) e .m, kept-list (a .w .now) (t .pre .0) (a .q .now) (a .rules) (t .pre .1) (a .u) (a .v) (a .a) (a .b) (a .nears) (a .far) (t .pre .2) (t .pre .3) (t .pre .4) e (na .result) (fa .result) (na .ensures) (fa .ensures), can-pair (a .w .now) (t .pre .0) (a .q .now) (a .rules) (t .pre .1) (a .u) (a .v) (a .a) (a .b) (a .nears) (a .far) (t .pre .2) (t .pre .3) (t .pre .4) e (na .result) (fa .result) (na .ensures) (fa .ensures) (y .result) (y .ensures))
+    let t = c .before .before .before .before .before .before .before .before .before .before .before .before .before in
+    let h = t .pre .4 in
+    let e = c .before .before .before .before .before .before .before .before .enum-told4 .given .1 in
+    let near = c .before .before .before .before .near-at .ensures in
+    let far = c .before .before .before .far-at .ensures in
+    (t .args .a, t .args .b, both-found h e .m, kept-list h e near far, can-pair h e near far _ _ _ (c .before .before .best .ensures))
 
 returns : tie.Need-returns
 returns c =
@@ -77,17 +66,14 @@ returns-3 c =
 
 returns-4 : tie.Need-returns-4
 returns-4 c =
-    let t = c .before .before .before .before .before .before .before .before .before .before .before .before .before in
-    let a = t .args in
-    let e = c .before .before .before .before .before .before .before .before .enum-told4 .given .1 in
-    let na = c .before .before .before .before .before .before .near-at in
-    let fa = c .before .before .before .before .before .far-at in
-    let y = c .before .before .before .before .best in
+    let t = c .before .before .before .before .before .before .before .before .before .before .before .before .before .before .before .before in
+    let e = c .before .before .before .before .before .before .before .before .before .before .before .enum-told4 .given .1 in
+    let near = c .before .before .before .before .before .before .before .near-at .ensures in
+    let far = c .before .before .before .before .before .before .far-at .ensures in
+    let k = c .before .before .before .before .before .best .ensures in
     let z = c .before .before .try-pairs in
     λ q₀ c₀ cs x f h ee ea eb.
-    both-to (a .w .now) q₀ (a .q .now) (a .rules) c₀ (a .u) (a .v) (a .a) (a .b) (a .nears) (a .far) cs x h e f ee ea eb (z .last .0) (z .result)
-    (z .ensures (both-found (a .w .now) q₀ (a .q .now) (a .rules) c₀ (a .u) (a .v) (a .a) (a .b) (a .nears) (a .far) cs x h e .m) (kept-list (a .w .now) q₀ (a .q .now) (a .rules) c₀ (a .u) (a .v) (a .a) (a .b) (a .nears) (a .far) cs x h e (na .result) (fa .result) (na .ensures) (fa .ensures))
-    (can-pair (a .w .now) q₀ (a .q .now) (a .rules) c₀ (a .u) (a .v) (a .a) (a .b) (a .nears) (a .far) cs x h e (na .result) (fa .result) (na .ensures) (fa .ensures) (y .result) (y .ensures)))
+    both-to h e f ee ea eb (z .last .0) (z .result) (z .ensures (t .args .a) (t .args .b) (both-found h e .m) (kept-list h e near far) (can-pair h e near far _ _ _ k))
 
 pub with-both-spec : {M : Type 1} → statement M
 with-both-spec =
