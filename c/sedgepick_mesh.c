@@ -36,12 +36,13 @@ static size_t attempt(
         refusal = sedgepick_run_front_with(
             mesh->points, SEDGEPICK_POINTS(capacity),
             count ? triangles : none, 3 * count,
+            options->joint_count ? options->joints : none, SEDGEPICK_JOINTS(options->joint_count),
             mesh->quads, SEDGEPICK_QUADS(slots),
             mesh->triangles, SEDGEPICK_TRIANGLES_OUT(slots),
             mesh->components, SEDGEPICK_COMPONENTS(slots),
             work, SEDGEPICK_WORK(slots, capacity),
             float_work, SEDGEPICK_FLOAT_WORK(slots),
-            given, capacity, count, slots, options->size, options->stop,
+            given, capacity, count, slots, options->joint_count, options->size, options->stop,
             quality->least_jacobian, quality->largest_cosine, quality->side_low, quality->side_high, quality->pairs,
             mesh->answer, SEDGEPICK_ANSWER);
     }
@@ -59,6 +60,8 @@ size_t sedgepick_mesh_run_with(
     memset(mesh, 0, sizeof *mesh);
     if (given > SEDGEPICK_MOST_GIVEN || count > SEDGEPICK_MOST_GIVEN)
         return SEDGEPICK_OVER_LIMIT;
+    if (options->joint_count > (size_t)-1 / 2)
+        return SEDGEPICK_BAD_JOINT; /* no list is as long */
     capacity = within(capacity, given ? given : 1, SEDGEPICK_MOST_CAPACITY);
     slots = within(slots, count ? count : 1, SEDGEPICK_MOST_SLOTS);
     for (;;) {
@@ -106,6 +109,7 @@ const char *sedgepick_refusal_words(size_t refusal) {
     case SEDGEPICK_UNKNOWN_NODE: return "a triangle names a node that is not there";
     case SEDGEPICK_REPEATED_NODE: return "a triangle has a node twice";
     case SEDGEPICK_FAR_POINT: return "x or y is not finite or is beyond 8 in magnitude";
+    case SEDGEPICK_BAD_JOINT: return "a joint is one node twice or names a node that is not there, or there are over 256 joints";
     case SEDGEPICK_NO_POINT: return "the run inserts a point, and the point capacity is used up";
     case SEDGEPICK_NO_SLOTS: return "the run needs a slot, and none is free";
     case SEDGEPICK_NO_MEMORY: return "no memory could be had";

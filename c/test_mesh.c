@@ -101,6 +101,7 @@ static void test_refusals(void) {
     for (size_t i = 0; i <= SEDGEPICK_NO_SLOTS; i++)
         CHECK(strcmp(sedgepick_refusal_words(i), sedgepick_refusal_words(77)) != 0);
     CHECK(strcmp(sedgepick_refusal_words(SEDGEPICK_BAD_QUALITY), sedgepick_refusal_words(77)) != 0);
+    CHECK(strcmp(sedgepick_refusal_words(SEDGEPICK_BAD_JOINT), sedgepick_refusal_words(77)) != 0);
 }
 
 /* The refusal of a triangle with a set; 3 comes before 14, and 4 to 7 behind it. */
@@ -172,12 +173,85 @@ static void test_sets(void) {
     sedgepick_mesh_free(&mesh);
 }
 
+/* Whether a cell of the mesh has the edge. */
+static int has_edge(const uint32_t *cells, size_t count, size_t width, uint32_t u, uint32_t v) {
+    for (size_t i = 0; i < count * width; i++) {
+        uint32_t a = cells[i], b = cells[i / width * width + (i + 1) % width];
+        if ((a == u && b == v) || (a == v && b == u))
+            return 1;
+    }
+    return 0;
+}
+
+static int stands(const sedgepick_mesh *mesh, const uint32_t *joint) {
+    return has_edge(mesh->quads, mesh->answer[SEDGEPICK_QUAD_COUNT], 4, joint[0], joint[1])
+        || has_edge(mesh->triangles, mesh->answer[SEDGEPICK_TRIANGLE_COUNT], 3, joint[0], joint[1]);
+}
+
+/* A line across the grid, from corner to corner along the diagonals, which most runs take away. */
+static void test_joints(void) {
+    uint32_t joints[2 * SIDE], turned[4 * SIDE], lost = 0;
+    sedgepick_options options = sedgepick_standard_options(0.25, 0);
+    sedgepick_mesh mesh, again;
+    for (uint32_t i = 0; i < SIDE; i++) {
+        joints[2 * i] = i * (SIDE + 2);
+        joints[2 * i + 1] = (i + 1) * (SIDE + 2);
+        lost += !stands(&alone[0], joints + 2 * i);
+    }
+    CHECK(lost > 0);
+    options.joints = joints;
+    options.joint_count = SIDE;
+    CHECK(sedgepick_mesh_run_with(points[0], POINTS, triangles[0], TRIANGLES, &options, &mesh) == SEDGEPICK_FINISHED);
+    for (uint32_t i = 0; i < SIDE; i++)
+        CHECK(stands(&mesh, joints + 2 * i));
+    CHECK(mesh.answer[SEDGEPICK_QUAD_COUNT] > 0);
+    for (uint32_t i = 0; i < 2 * SIDE; i++) {
+        turned[2 * i] = joints[2 * (SIDE - 1 - i % SIDE) + 1];
+        turned[2 * i + 1] = joints[2 * (SIDE - 1 - i % SIDE)];
+    }
+    options.joints = turned;
+    options.joint_count = 2 * SIDE;
+    CHECK(sedgepick_mesh_run_with(points[0], POINTS, triangles[0], TRIANGLES, &options, &again) == SEDGEPICK_FINISHED);
+    CHECK(same(&mesh, &again));
+    sedgepick_mesh_free(&mesh);
+    sedgepick_mesh_free(&again);
+}
+
+static size_t refusal_joined(const uint32_t *joints, size_t joint_count, size_t given) {
+    const uint32_t cell[] = {0, 1, 2};
+    sedgepick_options options = sedgepick_standard_options(1, 0);
+    sedgepick_mesh mesh;
+    options.joints = joints;
+    options.joint_count = joint_count;
+    size_t refusal = sedgepick_mesh_run_with(square, given, cell, 1, &options, &mesh);
+    sedgepick_mesh_free(&mesh);
+    return refusal;
+}
+
+static void test_bad_joints(void) {
+    static const uint32_t zeros[2 * SEDGEPICK_MOST_JOINTS + 2];
+    static uint32_t many[2 * SEDGEPICK_MOST_JOINTS + 2];
+    const uint32_t good[] = {0, 1, 2, 1}, far[] = {0, 1, 3, 0};
+    for (size_t i = 0; i <= SEDGEPICK_MOST_JOINTS; i++)
+        many[2 * i] = 1;
+    CHECK(refusal_joined(NULL, 0, 3) == SEDGEPICK_FINISHED);
+    CHECK(refusal_joined(good, 2, 3) == SEDGEPICK_FINISHED);
+    CHECK(refusal_joined(far, 1, 3) == SEDGEPICK_FINISHED);
+    CHECK(refusal_joined(far, 2, 3) == SEDGEPICK_BAD_JOINT);
+    CHECK(refusal_joined(zeros, 1, 3) == SEDGEPICK_BAD_JOINT);
+    CHECK(refusal_joined(many, SEDGEPICK_MOST_JOINTS, 3) == SEDGEPICK_FINISHED);
+    CHECK(refusal_joined(many, SEDGEPICK_MOST_JOINTS + 1, 3) == SEDGEPICK_BAD_JOINT);
+    CHECK(refusal_joined(zeros, 1, 4) == SEDGEPICK_FAR_POINT);
+}
+
 int main(void) {
     test_threads();
     test_growth();
     test_refusals();
     test_ranges();
     test_sets();
+    test_joints();
+    test_bad_joints();
     CHECK(!strcmp(sedgepick_version(), SEDGEPICK_VERSION));
     CHECK(strlen(sedgepick_commit()) > 0);
     printf("%s\n", failures ? "failed" : "ok");

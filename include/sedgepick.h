@@ -27,9 +27,11 @@ extern "C" {
 #define SEDGEPICK_MOST_GIVEN 4096     /* given points, and given triangles */
 #define SEDGEPICK_MOST_CAPACITY 8192  /* points that the points slice has room for */
 #define SEDGEPICK_MOST_SLOTS 16384    /* slots */
+#define SEDGEPICK_MOST_JOINTS 256     /* joints, repeats counted */
 
 /* Lengths of the slices, for so many slots and points of capacity. */
 #define SEDGEPICK_POINTS(capacity) (3 * (size_t)(capacity))
+#define SEDGEPICK_JOINTS(joint_count) (2 * (size_t)(joint_count))
 #define SEDGEPICK_QUADS(slots) (4 * (size_t)(slots))
 #define SEDGEPICK_TRIANGLES_OUT(slots) (3 * (size_t)(slots))
 #define SEDGEPICK_COMPONENTS(slots) ((size_t)(slots))
@@ -81,6 +83,7 @@ enum sedgepick_refusal {
     SEDGEPICK_UNKNOWN_NODE = 5, /* a node number not below the given points */
     SEDGEPICK_REPEATED_NODE = 6,/* a triangle with a node twice */
     SEDGEPICK_FAR_POINT = 7,    /* x or y not finite or beyond 8 in magnitude (8 passes); z may be anything */
+    SEDGEPICK_BAD_JOINT = 13,   /* a joint whose nodes are one, or one of them not below the given points; or over 256 joints */
     /* the run itself */
     SEDGEPICK_NO_POINT = 8,     /* an insertion, with the point capacity used up */
     SEDGEPICK_NO_SLOTS = 9      /* a split with fewer than two slots free, or a quad with none */
@@ -125,7 +128,7 @@ enum sedgepick_answer {
  * stop           stop rule: 0 or 1.
  * answer         13 numbers (SEDGEPICK_ANSWER), written only where 0 is returned; after a refusal all counts and lengths are zero, and the slice is as it was.
  *
- * Entries past a list's length are as they were. 1 to 7 and 14 touch no slice. 8 and 9 leave the points added and the quads written before them, clear both
+ * Entries past a list's length are as they were. 1 to 7, 13 and 14 touch no slice. 8 and 9 leave the points added and the quads written before them, clear both
  * work slices and touch nothing else; with more capacity, or more slots, the same call goes further.
  */
 size_t sedgepick_run_front(
@@ -139,7 +142,13 @@ size_t sedgepick_run_front(
     size_t given, size_t capacity, size_t count, size_t slots, double size, uint32_t stop,
     size_t *answer, size_t answer_len);
 
-/* The same with a quality set: its five numbers, the fields of struct sedgepick_quality in their order. With the standard set it is sedgepick_run_front.
+/* The same with joints and a quality set. Without joints and with the standard set it is sedgepick_run_front.
+ *
+ * joints       2 node numbers a joint, in either order; only read. A joint is locked: it is never flipped, and no quad covers it, so a joint that is an edge
+ *              of the given triangles is an edge of a quad or of a triangle left over in the finished mesh. A joint need not be an edge of the mesh; one that
+ *              a flip makes an edge is locked from then on. The order of the list and repeats in it change nothing.
+ * joint_count  joints, at most 256, repeats counted; 0 for none, and then the slice is not read.
+ * least_jacobian to pairs  the fields of struct sedgepick_quality in their order.
  *
  * Whatever the set, each quad of a finished mesh is, in exact arithmetic, convex and counterclockwise, and the cosine of each of its corners is at most
  * largest_cosine + 1e-9; its scaled Jacobian and its largest cosine, worked out in floats, pass the set.
@@ -147,12 +156,13 @@ size_t sedgepick_run_front(
 size_t sedgepick_run_front_with(
     double *points, size_t points_len,
     const uint32_t *triangles, size_t triangles_len,
+    const uint32_t *joints, size_t joints_len,
     uint32_t *quads, size_t quads_len,
     uint32_t *triangles_out, size_t triangles_out_len,
     uint32_t *components, size_t components_len,
     uint32_t *work, size_t work_len,
     double *float_work, size_t float_work_len,
-    size_t given, size_t capacity, size_t count, size_t slots, double size, uint32_t stop,
+    size_t given, size_t capacity, size_t count, size_t slots, size_t joint_count, double size, uint32_t stop,
     double least_jacobian, double largest_cosine, double side_low, double side_high, size_t pairs,
     size_t *answer, size_t answer_len);
 

@@ -31,10 +31,12 @@ typedef struct sedgepick_options {
     uint32_t stop;
     sedgepick_quality quality;
     size_t capacity, slots; /* lent at first; 0: as much as the mesh lets expect */
+    const uint32_t *joints; /* two nodes each; may be null where there are none */
+    size_t joint_count;
 } sedgepick_options;
 
 static inline sedgepick_options sedgepick_standard_options(double size, uint32_t stop) {
-    sedgepick_options options = {size, stop, SEDGEPICK_STANDARD_QUALITY, 0, 0};
+    sedgepick_options options = {size, stop, SEDGEPICK_STANDARD_QUALITY, 0, 0, 0, 0};
     return options;
 }
 
@@ -47,7 +49,7 @@ static inline sedgepick_options sedgepick_standard_options(double size, uint32_t
 size_t sedgepick_mesh_run_with(
     const double *points, size_t given, const uint32_t *triangles, size_t count, const sedgepick_options *options, sedgepick_mesh *mesh);
 
-/* The same with the standard set. */
+/* The same with the standard set and no joints. */
 size_t sedgepick_mesh_run(
     const double *points, size_t given, const uint32_t *triangles, size_t count, double size, uint32_t stop, sedgepick_mesh *mesh);
 

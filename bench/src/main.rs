@@ -1,12 +1,13 @@
 //! Times of the port, linked from its static library, and of the patched Rust on the same meshes, in one run; with the word `filing`, those of the filing
-//! order.
+//! order; with the word `joints`, those of the port with and without joints.
 
 mod filing;
+mod joints;
 
 use reference::generators::large::SHAPES;
 use reference::input::{Input, LARGEST};
 use reference::random::Random;
-use sedgepick::lent::{self, Call, Memory};
+use sedgepick::lent::{self, Call, Further, Memory, Set};
 
 /// Triangles of the meshes: a jittered grid with a hole.
 const TRIANGLES: [usize; 3] = [200, 800, 4000];
@@ -126,16 +127,41 @@ fn plate(triangles: usize, steps: f64, stop: u32) -> Input {
     }
 }
 
-/// The port's time and counts of quads and points.
-fn port(input: &Input) -> (f64, (usize, usize)) {
-    let call = Call {
+/// A call with the most that may be lent.
+fn call_of(input: &Input) -> Call {
+    Call {
         given: input.points.len(),
         capacity: LARGEST.points,
         count: input.triangles.len(),
         slots: LARGEST.slots,
         size: input.size(),
         stop: input.stop,
+    }
+}
+
+/// The port's time with joints, and counts of quads and points.
+fn port_with(input: &Input) -> (f64, (usize, usize)) {
+    let call = call_of(input);
+    let mut lent = Lent::new(&call);
+    let further = Further {
+        joints: input.joints.as_flattened(),
+        joint_count: input.joints.len(),
+        set: Set::default(),
     };
+    best(|| {
+        lent.clear(input);
+        let start = clock();
+        let triangles = input.triangles.as_flattened();
+        let answer = lent::run_front_with(triangles, lent.memory(), call, further);
+        let seconds = clock() - start;
+        let answer = answer.expect("a finished run");
+        (seconds, (answer.quads, answer.points))
+    })
+}
+
+/// The port's time and counts of quads and points.
+fn port(input: &Input) -> (f64, (usize, usize)) {
+    let call = call_of(input);
     let mut lent = Lent::new(&call);
     best(|| {
         lent.clear(input);
@@ -202,9 +228,10 @@ impl Row {
 }
 
 fn main() {
-    if std::env::args().nth(1).is_some_and(|w| w == "filing") {
-        filing::run();
-        return;
+    match std::env::args().nth(1).as_deref() {
+        Some("filing") => return filing::run(),
+        Some("joints") => return joints::run(),
+        _ => {}
     }
     let mut rows = Vec::new();
     for steps in STEPS {

@@ -1,16 +1,16 @@
-//! One generated mesh: the port against the Rust, under both rules, with document 01's quality set and with others, and with memory that does or does not
-//! suffice.
+//! One generated mesh: the port against the Rust, under both rules, with document 01's quality set and with others, with and without joints, and with memory
+//! that does or does not suffice.
 
-use reference::account::slots_used;
+use reference::account::{lost, slots_used, standing};
 use reference::generators::large::SHAPES;
 use reference::generators::shape::Room;
-use reference::generators::{of_case, sets, KINDS, TEXT};
+use reference::generators::{joints, of_case, sets, KINDS, TEXT};
 use reference::input::{Input, Lent, LARGEST};
 use reference::patched::{FrontResult, STANDARD};
 use reference::random::Random;
 use sedgepick::Refusal;
 
-use crate::memory::{self, Export, Tails};
+use crate::memory::{self, Export, Tails, SLICES};
 
 /// A large mesh comes once in so many cases.
 const LARGE_EACH: u64 = 4096;
@@ -29,9 +29,15 @@ const LARGE: (usize, usize) = (600, 4000);
 pub struct Tally {
     pub meshes: u64,
     pub runs: u64,
-    /// With another set than document 01's, not refused before a run; and those whose quads its set does not give.
+    /// With another set than document 01's and no joints, not refused before a run; and those whose quads its set does not give.
     pub sets: u64,
     pub changed: u64,
+    /// With joints, not refused before a run; those whose quads the run without them does not give; the joints that the given triangles have as edges in
+    /// those that finished, and how many of these the run without joints loses.
+    pub joined: u64,
+    pub rejoined: u64,
+    pub standing: u64,
+    pub saved: u64,
     pub finished: u64,
     pub limited: u64,
     /// Refusals by their number.
@@ -47,6 +53,10 @@ impl Tally {
         self.runs += other.runs;
         self.sets += other.sets;
         self.changed += other.changed;
+        self.joined += other.joined;
+        self.rejoined += other.rejoined;
+        self.standing += other.standing;
+        self.saved += other.saved;
         self.finished += other.finished;
         self.limited += other.limited;
         self.refused
@@ -123,7 +133,7 @@ pub struct Case<'a> {
 }
 
 impl Case<'_> {
-    /// Both rules, and the given one where it is neither: with document 01's set, then with others.
+    /// Both rules, and the given one where it is neither: with document 01's set and no joints, then with others and with joints.
     pub fn run(&mut self, input: Input) {
         self.tally.meshes += 1;
         let rules = if input.stop > 1 {
@@ -138,22 +148,56 @@ impl Case<'_> {
         let plain: Vec<Option<FrontResult>> = rules.iter().map(|i| self.run_rule(i)).collect();
         self.export = Export::With;
         for (input, plain) in rules.into_iter().zip(plain) {
-            self.run_sets(input, plain);
+            self.run_sets(input.clone(), &plain);
+            if let Some(plain) = plain {
+                self.run_joints(input, plain);
+            }
         }
     }
 
     /// Half of the meshes with another set, some with one that is refused or just not, some with document 01's handed in.
-    fn run_sets(&mut self, mut input: Input, plain: Option<FrontResult>) {
+    fn run_sets(&mut self, mut input: Input, plain: &Option<FrontResult>) {
         if self.r.once_in(8) {
             self.run_rule(&input);
         }
         if self.r.once_in(2) {
             input.quality = sets::good(&mut self.r);
-            self.run_set(&input, &plain);
+            self.run_set(&input, plain);
         }
         if self.r.once_in(8) {
             input.quality = sets::doubtful(&mut self.r);
-            self.run_set(&input, &plain);
+            self.run_set(&input, plain);
+        }
+    }
+
+    /// Half of the meshes with joints, a third of those with another set too, and some with joints that are refused or just not.
+    fn run_joints(&mut self, mut input: Input, mut plain: FrontResult) {
+        if self.r.once_in(2) {
+            if self.r.once_in(3) {
+                input.quality = sets::good(&mut self.r);
+                plain = input.run_unchecked(LARGEST);
+            }
+            input.joints = joints::good(&input, &mut self.r);
+            self.run_joined(&input, &plain);
+        }
+        if self.r.once_in(8) {
+            input.joints = joints::doubtful(&input, &mut self.r);
+            self.run_joined(&input, &plain);
+        }
+    }
+
+    fn run_joined(&mut self, input: &Input, plain: &FrontResult) {
+        let Some(full) = self.run_rule(input) else {
+            return;
+        };
+        self.tally.joined += 1;
+        self.tally.rejoined += (full.quads != plain.quads) as u64;
+        if full.refused.is_none() {
+            self.tally.standing += standing(input).len() as u64;
+            assert_eq!(lost(input, &full), 0, "a joint is lost");
+            if plain.refused.is_none() {
+                self.tally.saved += lost(input, plain) as u64;
+            }
         }
     }
 
@@ -220,7 +264,7 @@ impl Case<'_> {
 
     /// Slices a little longer than they need to be.
     fn longer(&mut self) -> Tails {
-        Tails([(); 6].map(|_| self.r.below(5) as isize))
+        Tails([(); SLICES].map(|_| self.r.below(5) as isize))
     }
 
     /// Every capacity and every number of slots of a small mesh, up to what it needs.
@@ -259,8 +303,13 @@ impl Case<'_> {
             return;
         }
         let mut tails = self.longer();
-        tails.0[self.r.below(6)] = -1;
+        tails.0[self.r.below(self.slices(input))] = -1;
         self.untouched(input, lent, tails, Refusal::TooShort);
+    }
+
+    /// The slices that can be too short: without joints theirs can not.
+    fn slices(&self, input: &Input) -> usize {
+        SLICES - input.joints.is_empty() as usize
     }
 
     /// A capacity over its limit is 1.
@@ -273,14 +322,18 @@ impl Case<'_> {
         self.refused(input, over);
     }
 
-    /// A call that is refused before a run.
+    /// A call that is refused before a run; one whose joints are bad is 4 where their slice is too short.
     fn refused(&mut self, input: &Input, lent: Lent) {
         let Some(number) = input.refusal(lent) else {
             return;
         };
         let mut tails = self.longer();
+        if number > 4 && number != 14 && self.r.once_in(4) && !input.joints.is_empty() {
+            tails.0[SLICES - 1] = -1;
+            return self.untouched(input, lent, tails, Refusal::TooShort);
+        }
         if BEFORE_SLICES.contains(&number) && self.r.once_in(2) {
-            tails.0[self.r.below(6)] = -1;
+            tails.0[self.r.below(self.slices(input))] = -1;
         }
         self.untouched(input, lent, tails, memory::refusal(number));
     }

@@ -3,13 +3,14 @@
 use reference::input::{Input, Lent};
 use reference::patched::FrontResult;
 use reference::random::Random;
-use sedgepick::lent::{self, Answer, Call, Memory, Set};
+use sedgepick::lent::{self, Answer, Call, Further, Memory, Set};
 use sedgepick::Refusal;
 
-/// The slices of a call, the floats too by their bits.
+/// The slices of a call, the floats too by their bits. Joints are only read.
 #[derive(Clone, PartialEq, Eq)]
 pub struct Slices {
     pub points: Vec<u64>,
+    pub joints: Vec<u32>,
     pub quads: Vec<u32>,
     pub triangles: Vec<u32>,
     pub components: Vec<u32>,
@@ -19,7 +20,10 @@ pub struct Slices {
 
 /// How many numbers a slice has more, or fewer, than it needs.
 #[derive(Clone, Copy, Default)]
-pub struct Tails(pub [isize; 6]);
+pub struct Tails(pub [isize; SLICES]);
+
+/// Slices whose length a call needs: points, quads, triangles out, components, work, float work, joints.
+pub const SLICES: usize = 7;
 
 /// Numbers without meaning, cheaply.
 struct Garbage(u64);
@@ -53,7 +57,7 @@ pub fn call(input: &Input, lent: Lent) -> Call {
     }
 }
 
-/// The functions of the library: `sedgepick_run_front`, for document 01's set, and `sedgepick_run_front_with`.
+/// The functions of the library: `sedgepick_run_front`, for document 01's set and no joints, and `sedgepick_run_front_with`.
 #[derive(Clone, Copy, Debug, PartialEq, Eq)]
 pub enum Export {
     Plain,
@@ -83,8 +87,9 @@ pub fn slices(input: &Input, lent: Lent, tails: Tails, r: &mut Random) -> Slices
         lent.slots,
         call.work_len(),
         call.float_work_len(),
+        2 * input.joints.len(),
     ];
-    let mut lengths = [0; 6];
+    let mut lengths = [0; SLICES];
     for (length, (need, tail)) in lengths.iter_mut().zip(needs.iter().zip(tails.0)) {
         *length = need.saturating_add_signed(tail);
     }
@@ -93,8 +98,11 @@ pub fn slices(input: &Input, lent: Lent, tails: Tails, r: &mut Random) -> Slices
         .iter_mut()
         .zip(input.points.iter().flatten())
         .for_each(|(to, from)| *to = *from);
+    let mut joints = g.words(lengths[6]);
+    onto(&mut joints, input.joints.iter().flatten().copied());
     Slices {
         points,
+        joints,
         quads: g.words(lengths[1]),
         triangles: g.words(lengths[2]),
         components: g.words(lengths[3]),
@@ -130,7 +138,14 @@ pub fn run_port(
     let (triangles, call) = (input.triangles.as_flattened(), call(input, lent));
     let answer = match export {
         Export::Plain => lent::run_front(triangles, memory, call),
-        Export::With => lent::run_front_with(triangles, memory, call, set(input)),
+        Export::With => {
+            let further = Further {
+                joints: &slices.joints,
+                joint_count: input.joints.len(),
+                set: set(input),
+            };
+            lent::run_front_with(triangles, memory, call, further)
+        }
     };
     slices.points = bits(&points);
     slices.float_work = bits(&float_work);

@@ -14,15 +14,21 @@ Quads can be held to other numbers than the standard ones, here to corners of 40
     >>> len(sedgepick.run_front([(0, 0), (1, 0), (1.9, 0.5), (0.9, 0.5)], [(0, 1, 2), (0, 2, 3)], size=1.0, quality=strict).quads)
     0
 
+Joints are edges that no run takes away, here the diagonal:
+
+    >>> mesh = sedgepick.run_front([(0, 0), (1, 0), (1, 1), (0, 1)], [(0, 1, 2), (0, 2, 3)], size=1.0, joints=[(2, 0)])
+    >>> len(mesh.quads), len(mesh.triangles)
+    (0, 2)
+
 Threads: the library keeps nothing between calls and each call here lends memory of its own, so any number of threads may call `run_front` at once. The
 interpreter's lock is free while the library runs.
 
 Lists come back as numpy arrays where numpy is there, otherwise as lists of tuples.
 """
-from .front import (EVEN_COMPONENTS, EXHAUST, FAR, LARGEST_SIZE, LEAST_SIZE, MOST_CAPACITY, MOST_GIVEN, MOST_SLOTS, RANGES, REFUSALS, Counts, Mesh, Quality,
-                    Refused, cosine_of, run_front)
+from .front import (EVEN_COMPONENTS, EXHAUST, FAR, LARGEST_SIZE, LEAST_SIZE, MOST_CAPACITY, MOST_GIVEN, MOST_JOINTS, MOST_SLOTS, RANGES, REFUSALS, Counts, Mesh,
+                    Quality, Refused, cosine_of, run_front)
 from .library import NoLibrary, VERSION, commit
 
 __version__ = VERSION
-__all__ = ['Counts', 'EVEN_COMPONENTS', 'EXHAUST', 'FAR', 'LARGEST_SIZE', 'LEAST_SIZE', 'MOST_CAPACITY', 'MOST_GIVEN', 'MOST_SLOTS', 'Mesh', 'NoLibrary',
-           'Quality', 'RANGES', 'REFUSALS', 'Refused', 'commit', 'cosine_of', 'run_front']
+__all__ = ['Counts', 'EVEN_COMPONENTS', 'EXHAUST', 'FAR', 'LARGEST_SIZE', 'LEAST_SIZE', 'MOST_CAPACITY', 'MOST_GIVEN', 'MOST_JOINTS', 'MOST_SLOTS', 'Mesh',
+           'NoLibrary', 'Quality', 'RANGES', 'REFUSALS', 'Refused', 'commit', 'cosine_of', 'run_front']

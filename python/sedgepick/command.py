@@ -6,8 +6,10 @@
 Files are read and written by meshio: Gmsh, VTK, VTU, Abaqus .inp, STL, OFF, OBJ, MED, XDMF and others, by their suffix. The triangles are paired into
 quads by the proved library; those that find no partner stay triangles. More than 4,096 triangles are cut into parts, which are run on all cores.
 
+Lines, points and borders of surfaces in the file are kept: they are edges and nodes of what is written.
+
 Exit status: 0 the mesh is written; 1 refused, nothing is written; 2 wrong options; 3 the mesh is written, and something that was a line, a point or a
-surface's border in the file is lost, or a warning was given: standard error says what."""
+surface's border in the file is lost (with --allow-loss or --free), or a warning was given: standard error says what."""
 import argparse, math, os, sys, time
 from dataclasses import dataclass, field
 
@@ -110,7 +112,8 @@ def arguments(words):
         'its own; auto, the default: the best of six runs, with 0.55 to 0.75 of the mean edge and 0 (docs/SIZE.md)')
     add('--stop', type=int, choices=(0, 1), default=0, help='0, the default: go on while an edge is open; 1: and leave only even components of triangles')
     add('--report', metavar='FILE', action='append', default=[], help='a report: .html with the picture, otherwise text; may be given twice')
-    add('--free', action='store_true', help="do not keep the file's lines, points and borders of surfaces; what is lost is listed")
+    add('--allow-loss', action='store_true', help='write the mesh also where a line, a point or a border of the file could not be kept; what is lost is listed')
+    add('--free', action='store_true', help="do not keep the file's lines, points and borders of surfaces at all; what is lost is listed")
     add('--keep-nodes', action='store_true', help='write nodes that no cell has, too')
     add('--node-map', metavar='FILE', help='a table: each node of OUT and its number in IN, both from 1 in the order of the file; none for added nodes')
     add('--flatten', action='store_true', help='set every z to 0')
@@ -178,18 +181,28 @@ def worked(options):
 def meshed(job):
     """Checks, fits, runs, verifies."""
     import numpy
-    from . import losses, parts, quality, slits, surfaces
+    from . import joints, losses, parts, quality, surfaces
     surface = surfaces.checked(job.surface, job.options.flatten)
     cells = surface.triangles.cells
     job.given_components = int(quality.components(cells).max()) + 1
-    edges, nodes = losses.hard(surface)
-    hard = slits.hard_edges(surface.points, cells, edges, nodes) if not job.options.free else []
+    hard = joints.Hard() if job.options.free else losses.hard(surface)
     job.result = parts.run(surface.points, cells, job.options.size, job.options.stop, hard, progress, job.options.jobs, job.options.quality)
     added, z = job.result.added, surface.points[cells[0, 0], 2]
     job.points = numpy.concatenate([surface.points, numpy.column_stack([added, numpy.full(len(added), z)])])
     *job.areas, job.cuts = losses.verify(surface, job.points, job.result)
     job.losses = losses.losses(surface, job.result)
+    surface.notes += job.result.notes
+    check_losses(job)
     warn(job)
+
+
+def check_losses(job):
+    """Something lost is an error unless it is allowed."""
+    from .surfaces import Fault
+    lost = [loss for loss in job.losses if len(loss.lost)]
+    if lost and not (job.options.allow_loss or job.options.free):
+        raise Fault('%s; the first is %s. Nothing is written; --allow-loss writes the mesh all the same'
+                    % ('; '.join(loss.words() for loss in lost), places(job.points, lost[0].lost[0])))
 
 
 def progress(done, count):

@@ -1,7 +1,7 @@
 """One call of `sedgepick_run_front_with`, with the memory that it needs."""
 import ctypes, math
 from array import array
-from dataclasses import dataclass
+from dataclasses import dataclass, field
 from . import library
 
 try:
@@ -14,6 +14,7 @@ MOST_GIVEN = 4096      # points, and triangles
 MOST_CAPACITY = 8192
 MOST_SLOTS = 16384
 FAR = 8.0              # x and y are within it
+MOST_JOINTS = 256      # repeats counted
 LEAST_SIZE = 1 / 64
 LARGEST_SIZE = 8.0
 EXHAUST, EVEN_COMPONENTS = 0, 1
@@ -33,6 +34,7 @@ REFUSALS = {
     7: 'x or y is not finite or is beyond 8 in magnitude',
     8: 'the run inserts a point, and the point capacity is used up',
     9: 'the run needs a slot, and none is free',
+    13: 'a joint is one node twice or names a node that is not there, or there are over 256 joints',
     14: 'a quality number is out of its range or is a NaN, or the low side factor is above the high one',
 }
 
@@ -107,9 +109,10 @@ class Call:
     size: float
     stop: int
     quality: Quality = Quality()
+    joints: array = field(default_factory=lambda: array('I'))  # two nodes each
 
 
-def run_front(points, triangles, size, stop=EXHAUST, capacity=None, slots=None, quality=Quality()):
+def run_front(points, triangles, size, stop=EXHAUST, capacity=None, slots=None, quality=Quality(), joints=()):
     """Pairs the triangles over the points into quads.
 
     points     x and y, or x, y and z, of each; x and y within 8 of zero, z is carried and never read
@@ -118,13 +121,15 @@ def run_front(points, triangles, size, stop=EXHAUST, capacity=None, slots=None, 
     stop       0: go on while an edge of the front is open; 1: and keep components even
     capacity, slots  what is lent at first; where it runs out (8, 9) the run is made again with twice as much, up to the limits
     quality    what quads are held to: a Quality; the standard set if left out
+    joints     two node numbers each, in either order, at most 256: edges that are locked. One that the triangles have is an edge of the result; the order of
+               the list and repeats change nothing
 
     The result does not depend on what is lent. Raises Refused, ValueError for lists of another shape, NoLibrary."""
     run = library.load().sedgepick_run_front_with
     given, count = len(points), len(triangles)
-    flat_points, flat_triangles = doubles(points), node_numbers(triangles)
+    flat_points, flat_triangles = doubles(points), node_numbers(triangles, 3, 'triangles')
     call = Call(given, first(capacity, given + given // 4 + 32, given, MOST_CAPACITY), count, first(slots, 2 * count + 64, count, MOST_SLOTS),
-                float(size), stop if isinstance(stop, int) and 0 <= stop < NO_NODE else NO_NODE, quality)
+                float(size), stop if isinstance(stop, int) and 0 <= stop < NO_NODE else NO_NODE, quality, node_numbers(joints, 2, 'joints'))
     while True:
         refusal, mesh = attempt(run, flat_points, flat_triangles, call)
         if refusal == NO_POINT and call.capacity < MOST_CAPACITY:
@@ -148,19 +153,25 @@ def attempt(run, points, triangles, call):
     capacity, slots = (1, 1) if over else (call.capacity, call.slots)
     xyz = (ctypes.c_double * max(3 * capacity, len(points), 1))()
     ctypes.memmove(xyz, points.buffer_info()[0], 8 * len(points))
-    given = (ctypes.c_uint32 * max(len(triangles), 1))()
-    ctypes.memmove(given, triangles.buffer_info()[0], 4 * len(triangles))
+    given, joints = lent(triangles), lent(call.joints)
     quads, left, components, work = ((ctypes.c_uint32 * n)() for n in (4 * slots, 3 * slots, slots, 64 * slots + 8 * capacity))
     float_work = (ctypes.c_double * (4 * slots))()
     answer = (ctypes.c_size_t * 13)()
     q = call.quality
-    refusal = run(xyz, len(xyz), given, len(triangles), quads, len(quads), left, len(left), components, len(components), work, len(work),
-                  float_work, len(float_work), call.given, call.capacity, call.count, call.slots, call.size, call.stop,
+    refusal = run(xyz, len(xyz), given, len(triangles), joints, len(call.joints), quads, len(quads), left, len(left), components, len(components),
+                  work, len(work), float_work, len(float_work), call.given, call.capacity, call.count, call.slots, len(call.joints) // 2, call.size, call.stop,
                   q.least_jacobian, q.largest_cosine, q.side_low, q.side_high, int(q.pairs), answer, len(answer))
     if refusal:
         return refusal, None
     lengths = answer[9:]
     return 0, Mesh(rows(xyz, lengths[2], 3), rows(quads, lengths[0], 4), rows(left, lengths[1], 3), rows(components, lengths[3], 1), Counts(*answer[:9]))
+
+
+def lent(numbers):
+    """Node numbers as the library reads them; no slice is without an address."""
+    slice = (ctypes.c_uint32 * max(len(numbers), 1))()
+    ctypes.memmove(slice, numbers.buffer_info()[0], 4 * len(numbers))
+    return slice
 
 
 def rows(numbers, count, width):
@@ -187,17 +198,17 @@ def doubles(points):
     return flat
 
 
-def node_numbers(triangles):
-    """Three numbers a triangle; one that 32 bits cannot hold becomes one that names no point."""
-    if numpy is not None and isinstance(triangles, numpy.ndarray):
-        if len(triangles) and (triangles.dtype.kind not in 'iu' or triangles.ndim != 2 or triangles.shape[1] != 3):
-            raise ValueError('triangles have three whole numbers each')
-        held = numpy.where((triangles < 0) | (triangles > NO_NODE), NO_NODE, triangles).astype(numpy.uint32)
+def node_numbers(cells, width, what):
+    """So many numbers a cell; one that 32 bits cannot hold becomes one that names no point."""
+    if numpy is not None and isinstance(cells, numpy.ndarray):
+        if len(cells) and (cells.dtype.kind not in 'iu' or cells.ndim != 2 or cells.shape[1] != width):
+            raise ValueError('%s have %d whole numbers each' % (what, width))
+        held = numpy.where((cells < 0) | (cells > NO_NODE), NO_NODE, cells).astype(numpy.uint32)
         return array('I', numpy.ascontiguousarray(held).tobytes())
     flat = array('I')
-    for cell in triangles:
-        if len(cell) != 3:
-            raise ValueError('triangles have three nodes, not %d' % len(cell))
+    for cell in cells:
+        if len(cell) != width:
+            raise ValueError('%s have %d nodes, not %d' % (what, width, len(cell)))
         for node in cell:
             if int(node) != node:
                 raise ValueError('node numbers are whole, not %r' % (node,))

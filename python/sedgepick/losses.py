@@ -2,6 +2,7 @@
 from dataclasses import dataclass
 import numpy
 from . import quality
+from .joints import Hard
 from .surfaces import Fault
 
 SLACK = 1e-9  # of the area: what the sums of areas may differ by
@@ -14,8 +15,11 @@ class Loss:
     total: int
     lost: object   # nodes, or pairs of nodes
 
+    def stand(self):
+        return '%d of %d lost' % (len(self.lost), self.total) if len(self.lost) else 'all %d stand' % self.total if self.total > 1 else 'it stands'
+
     def words(self):
-        return '%s: %d of %d lost' % (self.what, len(self.lost), self.total)
+        return '%s: %s' % (self.what, self.stand())
 
 
 def losses(surface, result):
@@ -46,10 +50,10 @@ def losses(surface, result):
 
 
 def hard(surface):
-    """(keys of edges, nodes) that should survive: lines, borders of surfaces, points."""
+    """What should survive: lines, borders of surfaces, points."""
     nodes = [surface.vertices.cells[:, 0], *surface.hard.values()]
     given = numpy.unique(surface.triangles.cells)
-    return numpy.concatenate([quality.keys(surface.lines.cells), border_edges(surface)]), numpy.intersect1d(numpy.concatenate(nodes), given)
+    return Hard(numpy.unique(numpy.concatenate([quality.keys(surface.lines.cells), border_edges(surface)])), numpy.intersect1d(numpy.concatenate(nodes), given))
 
 
 def border_edges(surface):

@@ -6,15 +6,26 @@ import os, shutil, subprocess, tempfile
 from concurrent.futures import ThreadPoolExecutor, as_completed
 from dataclasses import dataclass
 import numpy
-from . import quality
+from . import joints, quality
 from .fitting import fit
-from .front import LARGEST_SIZE, LEAST_SIZE, MOST_GIVEN, Quality
+from .front import LARGEST_SIZE, LEAST_SIZE, MOST_GIVEN, MOST_JOINTS, Quality
 from .sizes import best_run
 from .slits import opened
 from .surfaces import Fault
 
 FULL = 3600      # triangles of a part at most, where the cut is ours to make
 UNEVEN = 1.1     # METIS makes parts this much larger than the mean
+
+
+@dataclass
+class Answer:
+    """What a part's run gave."""
+    nodes: object
+    size: float
+    mesh: object
+    added: object     # x and y
+    rounded: tuple    # as in Result
+    joints: int       # edges that were locked
 
 
 @dataclass
@@ -30,6 +41,8 @@ class Result:
     of_triangles: object
     rounded: tuple    # coordinates that the fit rounded: of given points on their way in, of added ones on their way back
     cutter: str
+    joints: list = () # how many edges of each part were locked
+    notes: list = ()  # parts that are slit
     odd: int = 0      # components, as they went to the library, with an odd number of triangles
 
 
@@ -84,13 +97,16 @@ def halved(points, triangles, part):
     return numpy.unique(part, return_inverse=True)[1]
 
 
-def run(points, triangles, size, stop, hard=(), progress=None, jobs=None, quality=Quality()):
-    """Meshes the triangles, slit along the hard edges, in parts where there are too many, on all cores; each part is fitted into the library's range by
+def run(points, triangles, size, stop, hard=joints.Hard(), progress=None, jobs=None, quality=Quality()):
+    """Meshes the triangles, what is hard locked or slit, in parts where there are too many, on all cores; each part is fitted into the library's range by
     itself."""
     given = len(points)
-    origin, triangles = opened(triangles, hard)
-    points = points[origin]
     part, cutter = cut(points, triangles)
+    slit, notes = joints.to_slit(points, triangles, part, hard)
+    origin, triangles = opened(triangles, slit)
+    points = points[origin]
+    if any(len(numpy.unique(triangles[part == which])) > MOST_GIVEN for which in range(int(part.max()) + 1)):
+        part = halved(points, triangles, part)
     count = int(part.max()) + 1
     answers = [None] * count
 
@@ -98,8 +114,10 @@ def run(points, triangles, size, stop, hard=(), progress=None, jobs=None, qualit
         own = triangles[part == which]
         nodes = numpy.unique(own)
         placed = fit(points[nodes])
-        taken, mesh = best_run(placed.there(points[nodes]), numpy.searchsorted(nodes, own), scaled(size, placed), stop, quality)
-        return nodes, taken / placed.scale, mesh, placed.back(mesh.points[len(nodes):]), (placed.rounded(points[nodes]), placed.rounded_back(mesh.points[len(nodes):]))
+        locked = numpy.searchsorted(nodes, joints.of_part(points, own, origin, hard)[:MOST_JOINTS])
+        taken, mesh = best_run(placed.there(points[nodes]), numpy.searchsorted(nodes, own), scaled(size, placed), stop, quality=quality, joints=locked)
+        return Answer(nodes, taken / placed.scale, mesh, placed.back(mesh.points[len(nodes):]),
+                      (placed.rounded(points[nodes]), placed.rounded_back(mesh.points[len(nodes):])), len(locked))
 
     with ThreadPoolExecutor(jobs or os.cpu_count() or 1) as pool:
         waiting = {pool.submit(one, which): which for which in range(count)}
@@ -108,6 +126,7 @@ def run(points, triangles, size, stop, hard=(), progress=None, jobs=None, qualit
             if progress and count > 1:
                 progress(done, count)
     result = merged(len(points), answers, part, cutter)
+    result.notes = notes
     number = numpy.concatenate([origin, numpy.arange(given, given + len(result.added))])
     result.quads, result.triangles = number[result.quads], number[result.triangles]
     result.odd = sum(odd_components(triangles[part == which]) for which in range(count))
@@ -130,13 +149,13 @@ def scaled(size, placed):
 def merged(given, answers, part, cutter):
     """One mesh: a part's given points go back to their numbers, added points come behind in the order of the parts."""
     added, quads, left, following = [], [], [], given
-    for nodes, _, mesh, new, _ in answers:
-        number = numpy.concatenate([nodes, numpy.arange(following, following + len(new))])
-        following += len(new)
-        added.append(new)
-        quads.append(number[mesh.quads.astype(int)].reshape(-1, 4))
-        left.append(number[mesh.triangles.astype(int)].reshape(-1, 3))
+    for answer in answers:
+        number = numpy.concatenate([answer.nodes, numpy.arange(following, following + len(answer.added))])
+        following += len(answer.added)
+        added.append(answer.added)
+        quads.append(number[answer.mesh.quads.astype(int)].reshape(-1, 4))
+        left.append(number[answer.mesh.triangles.astype(int)].reshape(-1, 3))
     owners = [numpy.repeat(numpy.arange(len(cells)), [len(own) for own in cells]) for cells in (quads, left)]
-    sizes, counts = [answer[1] for answer in answers], [answer[2].counts for answer in answers]
+    sizes, counts = [answer.size for answer in answers], [answer.mesh.counts for answer in answers]
     return Result(numpy.concatenate(added), numpy.concatenate(quads), numpy.concatenate(left), sizes, counts, part, *owners,
-                  tuple(map(sum, zip(*(answer[4] for answer in answers)))), cutter)
+                  tuple(map(sum, zip(*(answer.rounded for answer in answers)))), cutter, [answer.joints for answer in answers])

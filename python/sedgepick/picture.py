@@ -8,7 +8,7 @@ import numpy
 QUADS = [(0.0, '#0b1238'), (0.1, '#131f57'), (0.2, '#1b3479'), (0.3, '#254f9c'), (0.4, '#2176b4'), (0.5, '#2f9ec2'), (0.6, '#5bbfc0'), (0.7, '#97d6b9'), (0.8, '#d3edb3'), (0.9, '#ffffd9')]
 # triangles: degrees; the thinner the redder
 TRIANGLES = [(0, '#b10026'), (5, '#e31a1c'), (10, '#fd8d3c'), (20, '#fdbe85'), (30, '#d9d9d9')]
-INK, GREY, LOST = '#1a1a1a', '#666666', '#9e0dd3'
+INK, GREY, LOST, KEPT = '#1a1a1a', '#666666', '#9e0dd3', '#000000'
 LONG = 6          # times as long as wide: a mesh beyond it is shown in pieces
 PLOT = 900        # the longer side of a piece
 LEFT, TOP, GAP, RIGHT, BOTTOM, LEGEND = 70, 16, 64, 24, 80, 240
@@ -89,6 +89,15 @@ def cells_of(mesh, piece, lines):
     lines.append('</g>')
 
 
+def kept_of(mesh, piece, lines):
+    """Lines, borders and points of the file that stand."""
+    path = ''.join('M%.1f %.1fL%.1f %.1f' % (piece.x(a[0]), piece.y(a[1]), piece.x(b[0]), piece.y(b[1])) for a, b in mesh.kept_edges.tolist())
+    if path:
+        lines.append('<path fill="none" stroke="%s" stroke-width="3" stroke-linecap="round" d="%s"/>' % (KEPT, path))
+    for x, y in mesh.kept_points.tolist():
+        lines.append('<circle cx="%.1f" cy="%.1f" r="4" fill="%s"/>' % (piece.x(x), piece.y(y), KEPT))
+
+
 def marks_of(mesh, piece, lines):
     """Lost edges and points, and the worst cells with their numbers in the report."""
     inside = lambda p: piece.low[0] <= p[0] <= piece.high[0] and piece.low[1] <= p[1] <= piece.high[1]
@@ -135,9 +144,12 @@ def legend(mesh, left, step, scale, lines):
         else:
             lines.append('<text x="%d" y="%d" font-weight="bold" fill="%s">%s</text>' % (left, y, INK, label))
         y += 21
-    entries = [('q, t: the worst, listed below', '<circle cx="%d" cy="%d" r="8" fill="none" stroke="%s" stroke-width="1.6"/>' % (left + 12, y + 10, INK))]
+    entries = []
+    if len(mesh.kept_edges) or len(mesh.kept_points):
+        entries.append(('line, border or point of the file', '<path d="M%d %dh20" stroke="%s" stroke-width="3"/>' % (left + 2, y + 10, KEPT)))
+    entries += [('q, t: the worst, listed below', '<circle cx="%d" cy="%d" r="8" fill="none" stroke="%s" stroke-width="1.6"/>' % (left + 12, y + 10 + 21 * len(entries), INK))]
     if len(mesh.lost_edges) or len(mesh.lost_points):
-        entries.append(('lost line, border or point', '<path d="M%d %dh20" stroke="%s" stroke-width="3"/>' % (left + 2, y + 31, LOST)))
+        entries.append(('lost line, border or point', '<path d="M%d %dh20" stroke="%s" stroke-width="3"/>' % (left + 2, y + 10 + 21 * len(entries), LOST)))
     for label, shape in entries:
         y += 21
         lines.append(shape + '<text x="%d" y="%d" font-size="12" fill="%s">%s</text>' % (left + 32, y - 6, INK, label))
@@ -148,7 +160,7 @@ def legend(mesh, left, step, scale, lines):
 
 
 def draw(mesh):
-    """The SVG of a mesh with points, quads, triangles, jacobians, angles, marks, lost_edges and lost_points."""
+    """The SVG of a mesh with points, quads, triangles, jacobians, angles, marks, lost_edges, lost_points, kept_edges and kept_points."""
     used = numpy.unique(numpy.concatenate([mesh.quads.ravel(), mesh.triangles.ravel()]))
     windows = pieces(mesh.points[used])
     step = round_step(max(70 / windows[0].scale, 1e-300))
@@ -159,6 +171,7 @@ def draw(mesh):
         lines.append('<clipPath id="window%d"><rect x="%.1f" y="%.1f" width="%.1f" height="%.1f"/></clipPath><g clip-path="url(#window%d)">'
                      % (i, *piece.at, width, height, i))
         cells_of(mesh, piece, lines)
+        kept_of(mesh, piece, lines)
         marks_of(mesh, piece, lines)
         lines.append('</g>')
         axes_of(piece, step, lines)

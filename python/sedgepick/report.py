@@ -2,7 +2,7 @@
 from dataclasses import dataclass
 from html import escape
 import meshio, numpy
-from . import library, picture, quality
+from . import library, losses, picture, quality, slits
 from .front import Quality
 
 WORST = 10   # cells that a list names
@@ -22,13 +22,17 @@ class Drawn:
     marks: list
     lost_edges: list
     lost_points: list
+    kept_edges: object   # lines and borders of the file that stand
+    kept_points: object
 
 
 def summary(job):
+    """A line on the cells, and one on the file's lines, points and borders where it has such."""
     result, given = job.result, job.surface
     left, quads = len(result.triangles), len(result.quads)
-    return ('%s: %d triangles to %d quads and %d triangles, %s nodes added, %d nodes left out, %.1f s'
-            % (given.name, len(given.triangles.cells), quads, left, len(result.added), orphans(job), job.seconds))
+    cells = ('%s: %d triangles to %d quads and %d triangles, %s nodes added, %d nodes left out, %.1f s'
+             % (given.name, len(given.triangles.cells), quads, left, len(result.added), orphans(job), job.seconds))
+    return '\n'.join([cells] + ['; '.join(loss.words() for loss in job.losses)] * bool(job.losses))
 
 
 def orphans(job):
@@ -64,7 +68,9 @@ def sections(job):
                                                % (len(result.triangles), 100 * len(result.triangles) / max(made, 1))),
                ('nodes added', len(result.added)), ('nodes in no cell', '%d, %s' % (orphans(job), 'kept in the file' if job.options.keep_nodes else 'left out')),
                ('components of triangles', '%d before, %d after%s' % (job.given_components, len(after), ', the largest of %d' % max(after) if len(after) else ''))]
-    lost = [(loss.what, '%d of %d lost' % (len(loss.lost), loss.total)) for loss in job.losses]
+    lost = [(loss.what, loss.stand()) for loss in job.losses]
+    if lost and not job.options.free:
+        lost.append(('kept by', '%d locked edges%s' % (sum(result.joints), ', and slits' if result.notes else '')))
     return [
         ('Run', [('file', surface.name), ('given', '%d triangles, %d nodes' % (len(surface.triangles.cells), len(numpy.unique(surface.triangles.cells)))),
                  ('size', ('auto: ' if job.options.size is None else '') + (sizes[0] if len(sizes) == 1 else '%s to %s, part by part' % (sizes[0], sizes[-1]))),
@@ -83,7 +89,15 @@ def sections(job):
         ('Notes', [('warning', words) for words in job.warnings] + [('note', words) for words in surface.notes] or [('none', '')]),
     ], Drawn(points[:, :2], result.quads, result.triangles, jacobians, angles, [row[:2] for row in quad_rows[:5] + triangle_rows[:5]],
              [points[nodes, :2] for loss in job.losses for nodes in loss.lost if numpy.ndim(nodes)],
-             [points[nodes, :2] for loss in job.losses for nodes in loss.lost if not numpy.ndim(nodes)])
+             [points[nodes, :2] for loss in job.losses for nodes in loss.lost if not numpy.ndim(nodes)], *kept(job))
+
+
+def kept(job):
+    """The places of the lines, borders and points of the file that stand."""
+    hard = losses.hard(job.surface)
+    edges = numpy.intersect1d(hard.edges, quality.edge_keys(job.result.quads, job.result.triangles))
+    nodes = numpy.intersect1d(job.surface.vertices.cells[:, 0], numpy.concatenate([job.result.quads.ravel(), job.result.triangles.ravel()]))
+    return job.points[slits.ends(edges), :2], job.points[nodes, :2]
 
 
 def quality_words(q):

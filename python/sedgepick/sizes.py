@@ -18,14 +18,14 @@ def worth(mesh):
     return thin, len(mesh.triangles) / max(2 * len(mesh.quads) + len(mesh.triangles), 1)
 
 
-def best_run(points, triangles, size, stop, quality):
+def best_run(points, triangles, size, stop, **more):
     """(size, mesh) of a run within the library's range: of the size that is given, or of the best candidate where it is None."""
     if size is not None:
-        return size, run_front(points, triangles, size, stop, quality=quality)
+        return size, run_front(points, triangles, size, stop, **more)
     runs, refused = [], None
     for place, trial in enumerate(candidates(points, triangles)):
         try:
-            mesh = run_front(points, triangles, trial, stop, quality=quality)
+            mesh = run_front(points, triangles, trial, stop, **more)
         except Refused as fault:
             refused = fault
             continue

@@ -1,4 +1,5 @@
-"""Lines, points and borders kept by slits: the mesh is cut open along them for the run, and closed again afterwards.
+"""Lines, points and borders kept by slits, where they are too many to be locked (joints.py): the mesh is cut open along them for the run, and closed again
+afterwards.
 
 A node on a slit gets a number of its own on each side. So each edge of the slit has one triangle on either side, and such an edge survives a run
 (parts.py says why); a point is kept by a slit along two of its edges. A line of a single edge inside the mesh has nothing to open at its ends and may be

@@ -5,7 +5,7 @@ from common import FILES, PACKAGES, ROOT, grid, make_library
 
 try:
     import meshio, numpy
-    from sedgepick import command, files, fitting, losses, parts, quality, slits, surfaces
+    from sedgepick import command, files, fitting, joints, losses, parts, quality, slits, surfaces
 except ImportError:
     meshio = None
 
@@ -232,6 +232,69 @@ class Kept(Case):
                        if block.type in ('quad', 'triangle'))
         for tag in (1, 2):
             self.assertAlmostEqual(area(mesh, tag), area(before, tag), 9)
+
+    def test_a_joint_and_a_wall(self):
+        given = os.path.join(ROOT, 'examples', 'joints.msh')
+        report = self.path('r.txt')
+        self.assertIn('line edges (joint): all 15 stand; line edges (wall): all 10 stand', self.good(given, '-o', self.out, '--report', report).stdout)
+        with open(report) as file:
+            said = file.read()
+        for words in (r'line edges \(joint\) +all 15 stand', r'line edges \(wall\) +all 10 stand', r'kept by +25 locked edges\n'):
+            self.assertRegex(said, words)
+        mesh, quads, _ = self.mesh()
+        joint = lambda y: 3.5 + y / 6
+        middles = [mesh.points[list(quad)].mean(axis=0) for quad in quads]
+        left = sum(x < joint(y) for x, y, _ in middles)
+        self.assertGreater(min(left, len(quads) - left), 50)
+        for quad in quads:  # none lies across the joint
+            sides = [float(mesh.points[node][0]) - joint(float(mesh.points[node][1])) for node in quad]
+            self.assertTrue(max(sides) < 1e-3 or min(sides) > -1e-3)
+        ran = self.good(given, '-o', self.out, '--free', status=3)
+        self.assertRegex(ran.stderr, r'line edges \(joint\): \d+ of 15 lost')
+
+    def lined(self, side, lines):
+        """A grid with a line for each pair."""
+        points, triangles = grid(side, side, 6.0 / side)
+        return self.stored(points, [('triangle', triangles), ('line', lines)])
+
+    def stand(self, lines):
+        mesh, quads, triangles = self.mesh()
+        edges = quality.edge_keys(numpy.array(quads), numpy.array(triangles).reshape(-1, 3))
+        places = {tuple(map(float, point)): node for node, point in enumerate(mesh.points)}
+        return [pair for pair in lines if pair[0] in places and pair[1] in places and quality.keys([[places[pair[0]], places[pair[1]]]])[0] in edges]
+
+    def test_a_single_edge_stands(self):
+        line = [(5 * 11 + 5, 6 * 11 + 6)]
+        path = self.lined(10, line)
+        points = [tuple(map(float, p)) for p in self.mesh(path, 'vtk')[0].points]
+        self.good(path, '-o', self.out)
+        self.assertEqual(len(self.stand([(points[a], points[b]) for a, b in line])), 1)
+
+    def test_more_than_can_be_locked(self):
+        """Rows of a grid, 18 of 18 edges each: slit, said, and none is lost."""
+        rows = [(19 * j + i, 19 * j + i + 1) for j in range(1, 18) for i in range(18)]
+        path = self.lined(18, rows)
+        points = [tuple(map(float, p)) for p in self.mesh(path, 'vtk')[0].points]
+        ran = self.good(path, '-o', self.out)
+        self.assertRegex(ran.stderr, r'note: the mesh has 306 edges .* and 256 can be locked: it is slit along them')
+        self.assertEqual(len(self.stand([(points[a], points[b]) for a, b in rows])), len(rows))
+
+    def test_loss_is_an_error_unless_allowed(self):
+        """Diagonals apart from each other, which no slit opens, more than can be locked."""
+        alone = [(43 * j + i, 43 * (j + 1) + i + 1) for j in range(1, 41, 2) for i in range(1, 41, 2)]
+        path = self.lined(42, alone)
+        self.refused(r'line edges \(no group\): \d+ of 400 lost; the first is from \(.*Nothing is written; --allow-loss', path, '-o', self.out, '--size', '0')
+        ran = self.good(path, '-o', self.out, '--size', '0', '--allow-loss', status=3)
+        self.assertRegex(ran.stderr, r'warning: line edges \(no group\): \d+ of 400 lost')
+
+    def test_the_edges_that_are_locked(self):
+        points, triangles = (numpy.array(rows) for rows in grid(4, 4))
+        every = numpy.arange(len(points))
+        hard = joints.Hard(quality.keys([(10, 11), (11, 12), (0, 1), (0, 24)]), numpy.array([12, 17, 4]))
+        locked = {tuple(sorted(map(int, pair))) for pair in joints.of_part(points, triangles, every, hard)}
+        self.assertEqual(locked & {(10, 11), (11, 12), (0, 1)}, {(10, 11), (11, 12)})  # the boundary stands anyway
+        self.assertEqual(len(locked), 3)                                              # and one edge for node 17
+        self.assertTrue(any(17 in pair for pair in locked))
 
     def test_slit_gives_each_side_its_nodes(self):
         points, triangles = (numpy.array(rows) for rows in grid(4, 4))

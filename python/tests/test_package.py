@@ -132,9 +132,49 @@ class Qualities(unittest.TestCase):
             least_jacobian, largest_cosine, side_low, side_high, pairs = 0.3, math.nan, 0.5, 2.2, 8
         for size, stop, number in ((9.0, 2, 2), (1.0, 2, 3), (1.0, 0, 14)):
             call = front.Call(4, 4, 2, 8, size, stop, Set)
-            refusal, _ = front.attempt(library.load().sedgepick_run_front_with, front.doubles(SQUARE), front.node_numbers([(0, 1, 1)]), call)
+            refusal, _ = front.attempt(library.load().sedgepick_run_front_with, front.doubles(SQUARE), front.node_numbers([(0, 1, 1)], 3, 'triangles'), call)
             self.assertEqual(refusal, number)
         self.assertIn(14, sedgepick.REFUSALS)
+
+
+def stands(mesh, joint):
+    cells = plain(mesh.quads) + plain(mesh.triangles)
+    return any({cell[i - 1], cell[i]} == set(joint) for cell in cells for i in range(len(cell)))
+
+
+class Joints(unittest.TestCase):
+    DIAGONAL = [(14 * i, 14 * (i + 1)) for i in range(12)]
+
+    def test_they_stand(self):
+        points, triangles = shaken(4)
+        for stop in (0, 1):
+            self.assertFalse(all(stands(sedgepick.run_front(points, triangles, 0.5, stop), joint) for joint in self.DIAGONAL))
+            mesh = sedgepick.run_front(points, triangles, 0.5, stop, joints=self.DIAGONAL)
+            self.assertTrue(all(stands(mesh, joint) for joint in self.DIAGONAL))
+            self.assertGreater(len(mesh.quads), 0)
+
+    def test_order_and_repeats(self):
+        points, triangles = shaken(4)
+        usual = content(sedgepick.run_front(points, triangles, 0.5, joints=self.DIAGONAL))
+        turned = [pair[::-1] for pair in self.DIAGONAL[::-1]]
+        for joints in (turned, (turned * 22)[:256]):
+            self.assertEqual(content(sedgepick.run_front(points, triangles, 0.5, joints=joints)), usual)
+        self.assertEqual(content(sedgepick.run_front(points, triangles, 0.5, joints=[])), content(sedgepick.run_front(points, triangles, 0.5)))
+
+    @unittest.skipIf(front.numpy is None, 'numpy is not installed')
+    def test_arrays(self):
+        points, triangles = shaken(4)
+        self.assertEqual(content(sedgepick.run_front(points, triangles, 0.5, joints=front.numpy.array(self.DIAGONAL))),
+                         content(sedgepick.run_front(points, triangles, 0.5, joints=self.DIAGONAL)))
+
+    def test_refused(self):
+        for joints in ([(0, 0)], [(0, 1), (4, 0)], [(0, -1)], [(2 ** 40, 1)], [(0, 1)] * 257):
+            with self.assertRaises(sedgepick.Refused) as caught:
+                sedgepick.run_front(SQUARE, HALVES, 1.0, joints=joints)
+            self.assertEqual(caught.exception.number, 13)
+        sedgepick.run_front(SQUARE, HALVES, 1.0, joints=[(0, 1)] * 256)
+        with self.assertRaises(ValueError):
+            sedgepick.run_front(SQUARE, HALVES, 1.0, joints=[(0, 1, 2)])
 
 
 class Refusals(unittest.TestCase):
@@ -207,7 +247,7 @@ class Threads(unittest.TestCase):
         ticker = threading.Thread(target=tick)
         ticker.start()
         begin = time.perf_counter()
-        front.attempt(library.load().sedgepick_run_front_with, front.doubles(points), front.node_numbers(triangles),
+        front.attempt(library.load().sedgepick_run_front_with, front.doubles(points), front.node_numbers(triangles, 3, 'triangles'),
                       front.Call(len(points), 8192, len(triangles), 16384, 0.25, 0))
         end = time.perf_counter()
         done.set()

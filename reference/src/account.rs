@@ -1,6 +1,9 @@
 //! What holds of every finished run: the account of demand 3, in floats where it
-//! speaks of exact arithmetic.
+//! speaks of exact arithmetic, and that joints are kept.
 
+use std::collections::BTreeSet;
+
+use crate::generators::joints::{edges, key, sides};
 use crate::input::{Input, Lent, UNBOUNDED};
 use crate::patched::{FrontResult, Quality, STANDARD};
 use crate::random::Random;
@@ -59,6 +62,7 @@ pub fn check(input: &Input, r: &FrontResult) {
         r.triangles.len(),
         "sizes"
     );
+    assert_eq!(lost(input, r), 0, "joints");
     let even = |sizes: &[usize]| sizes.iter().all(|n| n % 2 == 0);
     if input.even() && (!r.quads.is_empty() || even(&components(&input.tris()))) {
         assert!(even(&r.region_components), "even components");
@@ -85,6 +89,29 @@ fn check_quad(r: &FrontResult, set: &Quality, quad: &[usize; 4]) {
         let sine = (u[0] * v[1] - u[1] * v[0]) / squares.sqrt();
         assert!(sine >= set.least_jacobian - 1e-4, "a corner's Jacobian");
     }
+}
+
+/// The edges of the finished mesh.
+fn edges_left(r: &FrontResult) -> BTreeSet<[u32; 2]> {
+    let narrow = |nodes: &[usize]| nodes.iter().map(|&v| v as u32).collect::<Vec<_>>();
+    let quads = r.quads.iter().map(|q| narrow(q));
+    let cells = quads.chain(r.triangles.iter().map(|t| narrow(t)));
+    cells.flat_map(|c| sides(&c).collect::<Vec<_>>()).collect()
+}
+
+/// The joints that the given triangles have as edges, each once.
+pub fn standing(input: &Input) -> BTreeSet<[u32; 2]> {
+    let listed: BTreeSet<[u32; 2]> = input.joints.iter().map(|j| key(*j)).collect();
+    listed.intersection(&edges(input)).copied().collect()
+}
+
+/// How many of them the finished mesh has not; with the joints handed in, none.
+pub fn lost(input: &Input, r: &FrontResult) -> usize {
+    if input.joints.is_empty() {
+        return 0;
+    }
+    let left = edges_left(r);
+    standing(input).difference(&left).count()
 }
 
 /// Slots that a finished run used: its triangles, two a split, one a quad.

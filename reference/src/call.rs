@@ -1,18 +1,20 @@
 //! Calls of the library in files: the capacities, the quality set where it is not
-//! document 01's, then the program's text form without its limits. An answer also
-//! says what refusals 8 and 9 leave.
+//! document 01's, the joints where there are such, then the program's text form without
+//! its limits. An answer also says what refusals 8 and 9 leave.
 
 use std::io::Result;
 use std::path::Path;
 
-use crate::generators::{self, sets};
-use crate::input::{Input, Lent, UNBOUNDED};
+use crate::generators::{self, joints, sets};
+use crate::input::{Input, Lent, LARGEST, UNBOUNDED};
 use crate::patched::{Quality, STANDARD};
 use crate::random::Random;
 use crate::{account, text};
 
 const CAPACITIES: &str = "capacity slots";
 const QUALITY: &str = "least_jacobian largest_cosine side_low side_high pairs";
+const JOINTS: &str = "joints";
+const JOINT: &str = "u v";
 
 /// A call's text.
 pub fn write(lent: Lent, input: &Input) -> Vec<u8> {
@@ -20,6 +22,12 @@ pub fn write(lent: Lent, input: &Input) -> Vec<u8> {
     if input.quality != STANDARD {
         let floats = floats(&input.quality).map(|x| format!("{:016x}", x.to_bits()));
         head += &format!("{QUALITY}\n{} {}\n", floats.join(" "), input.quality.pairs);
+    }
+    if !input.joints.is_empty() {
+        head += &format!("{JOINTS}\n{}\n{JOINT}\n", input.joints.len());
+        for [u, v] in &input.joints {
+            head += &format!("{u} {v}\n");
+        }
     }
     [head.into_bytes(), text::write(input)].concat()
 }
@@ -34,12 +42,16 @@ fn floats(set: &Quality) -> [f64; 4] {
     ]
 }
 
+/// The values of the first line, and what follows.
+fn line(bytes: &[u8]) -> Option<(Vec<&str>, &[u8])> {
+    let end = bytes.iter().position(|&c| c == b'\n')?;
+    let line = std::str::from_utf8(&bytes[..end]).ok()?;
+    Some((line.split(' ').collect(), &bytes[end + 1..]))
+}
+
 /// The values of the line below this line of names, and what follows.
 fn below<'a>(bytes: &'a [u8], names: &str) -> Option<(Vec<&'a str>, &'a [u8])> {
-    let rest = bytes.strip_prefix(names.as_bytes())?.strip_prefix(b"\n")?;
-    let end = rest.iter().position(|&c| c == b'\n')?;
-    let line = std::str::from_utf8(&rest[..end]).ok()?;
-    Some((line.split(' ').collect(), &rest[end + 1..]))
+    line(bytes.strip_prefix(names.as_bytes())?.strip_prefix(b"\n")?)
 }
 
 /// A call of a text.
@@ -57,8 +69,28 @@ fn read(bytes: &[u8]) -> Option<(Lent, Input)> {
         quality = set(&values)?;
         rest = after;
     }
-    let input = text::read_any(rest)?;
-    Some((lent, Input { quality, ..input }))
+    let mut joints = Vec::new();
+    if let Some((values, after)) = below(rest, JOINTS) {
+        let [count] = values[..] else {
+            return None;
+        };
+        let mut lines = after.strip_prefix(JOINT.as_bytes())?.strip_prefix(b"\n")?;
+        for _ in 0..count.parse::<usize>().ok()? {
+            let (values, after) = line(lines)?;
+            let [u, v] = values[..] else {
+                return None;
+            };
+            joints.push([u.parse().ok()?, v.parse().ok()?]);
+            lines = after;
+        }
+        rest = lines;
+    }
+    let input = Input {
+        quality,
+        joints,
+        ..text::read_any(rest)?
+    };
+    Some((lent, input))
 }
 
 /// A set of its values: floats by their bits, then the pairs.
@@ -93,8 +125,43 @@ pub fn answer(input: &Input, lent: Lent) -> Vec<u8> {
     out
 }
 
-/// Small calls with sets that change the run, and with sets that are refused.
-pub fn set_calls(seed: u64, count: u64, folder: &Path) -> Result<()> {
+/// What a call is given beside its mesh, and the refusal that belongs to it.
+#[derive(Clone, Copy)]
+pub enum Further {
+    Set,
+    Joints,
+}
+
+impl Further {
+    fn name(self) -> &'static str {
+        match self {
+            Further::Set => "set",
+            Further::Joints => "joints",
+        }
+    }
+
+    fn refusal(self) -> u32 {
+        match self {
+            Further::Set => 14,
+            Further::Joints => 13,
+        }
+    }
+
+    /// The input with such, good or doubtful.
+    fn given(self, plain: &Input, doubtful: bool, r: &mut Random) -> Input {
+        let mut input = plain.clone();
+        match (self, doubtful) {
+            (Further::Set, true) => input.quality = sets::doubtful(r),
+            (Further::Set, false) => input.quality = sets::good(r),
+            (Further::Joints, true) => input.joints = joints::doubtful(plain, r),
+            (Further::Joints, false) => input.joints = joints::good(plain, r),
+        }
+        input
+    }
+}
+
+/// Small calls with sets or joints that change the run, and with such that are refused.
+pub fn further_calls(what: Further, seed: u64, count: u64, folder: &Path) -> Result<()> {
     std::fs::create_dir_all(folder)?;
     let (mut case, mut made) = (0, 0);
     while made < count {
@@ -102,30 +169,24 @@ pub fn set_calls(seed: u64, count: u64, folder: &Path) -> Result<()> {
         let kind = generators::of_case(None, case);
         case += 1;
         let plain = kind.1(&mut r, &generators::SMALL);
+        if plain.refusal(LARGEST).is_some() {
+            continue;
+        }
         let refused = made % 4 == 3;
-        let quality = if refused {
-            sets::doubtful(&mut r)
-        } else {
-            sets::good(&mut r)
-        };
-        let input = Input { quality, ..plain };
+        let input = what.given(&plain, refused, &mut r);
         let lent = Lent {
             points: input.points.len() + 32,
             slots: input.triangles.len() + 96,
         };
         let said = answer(&input, lent);
-        let plain = Input {
-            quality: STANDARD,
-            ..input.clone()
-        };
         let wanted = match input.refusal(lent) {
-            Some(number) => refused && number == 14,
+            Some(number) => refused && number == what.refusal(),
             None => !refused && said != answer(&plain, lent),
         };
         if !wanted {
             continue;
         }
-        let path = folder.join(format!("set-{made:04}.call"));
+        let path = folder.join(format!("{}-{made:04}.call", what.name()));
         std::fs::write(path.with_extension("out"), said)?;
         std::fs::write(path, write(lent, &input))?;
         made += 1;
@@ -168,7 +229,7 @@ pub fn calls(seed: u64, count: u64, folder: &Path) -> Result<()> {
 }
 
 #[test]
-fn a_call_with_a_set_is_read_as_it_was_written() {
+fn a_call_with_a_set_and_joints_is_read_as_it_was_written() {
     for case in 0..200 {
         let mut r = Random::new(5, case);
         let lent = Lent {
@@ -176,6 +237,9 @@ fn a_call_with_a_set_is_read_as_it_was_written() {
             slots: 50,
         };
         let mut input = generators::of_case(None, case).1(&mut r, &generators::SMALL);
+        if case % 3 > 0 && input.refusal(LARGEST).is_none() {
+            input.joints = joints::doubtful(&input, &mut r);
+        }
         input.quality = sets::doubtful(&mut r);
         let text = write(lent, &input);
         let (again, read) = read(&text).unwrap();
@@ -201,4 +265,27 @@ fn a_bad_set_is_refused_straight_after_the_stop_rule() {
     assert_eq!(input(1, 0).refusal(lent(0)), Some(14));
     assert_eq!(input(1, 1).refusal(lent(0)), Some(14));
     assert_eq!(input(1, 4097).refusal(lent(0)), Some(1));
+}
+
+#[test]
+fn bad_joints_are_refused_last() {
+    let lent = Lent {
+        points: 3,
+        slots: 0,
+    };
+    let refusal = |x: f64, joints: &[[u32; 2]]| {
+        let input = Input {
+            points: vec![[x.to_bits(), 0, 0]; 3],
+            joints: joints.to_vec(),
+            ..Input::default()
+        };
+        input.refusal(lent)
+    };
+    assert_eq!(refusal(0.0, &[]), None);
+    assert_eq!(refusal(0.0, &[[0, 1], [2, 1]]), None);
+    assert_eq!(refusal(0.0, &[[0, 1]; 256]), None);
+    for bad in [&[[1, 1]][..], &[[0, 1], [3, 0]], &[[0, 3]], &[[0, 1]; 257]] {
+        assert_eq!(refusal(0.0, bad), Some(13));
+        assert_eq!(refusal(9.0, bad), Some(7));
+    }
 }

@@ -4,11 +4,11 @@ use std::collections::BTreeMap;
 use std::path::Path;
 
 use crate::generators::shape::Room;
-use crate::generators::{self, sets, KINDS, TEXT};
+use crate::generators::{self, joints, sets, KINDS, TEXT};
 use crate::input::{Input, UNBOUNDED};
 use crate::random::Random;
 use crate::{account, bare, damage, patched, published, text};
-use crate::{without_cosine, without_off_front, without_quality, without_second_end};
+use crate::{without_asked, without_cosine, without_off_front, without_second_end};
 
 /// What two runs are compared by. `limit` is not of the published module.
 #[derive(PartialEq, Eq)]
@@ -165,6 +165,7 @@ struct Tally {
     by_triangles: usize,
     short: usize,
     sets: usize,
+    joints: usize,
 }
 
 #[derive(Default)]
@@ -215,6 +216,9 @@ impl Comparison {
         if r.once_in(3) {
             tally.sets += check_set(&input, &mut r);
         }
+        if r.once_in(3) {
+            tally.joints += check_joints(&input, &mut r);
+        }
         let full = ran!(patched, full);
         check_standard(&input, &full);
         let whys = partings(&input, &full);
@@ -237,8 +241,8 @@ impl Comparison {
 
     /// A line a kind, then the sums. True when nothing parts but by the patches.
     pub fn print(&self) -> bool {
-        println!("kind runs refused agree cosine off_front both other second_counts second_triangles second_quads by_attempts by_triangles short_of_memory sets");
-        let mut sums = [0; 14];
+        println!("kind runs refused agree cosine off_front both other second_counts second_triangles second_quads by_attempts by_triangles short_of_memory sets joints");
+        let mut sums = [0; 15];
         for (kind, t) in &self.kinds {
             let of = |why| t.partings.get(&why).copied().unwrap_or(0);
             let row = [
@@ -256,6 +260,7 @@ impl Comparison {
                 t.by_triangles,
                 t.short,
                 t.sets,
+                t.joints,
             ];
             println!("{kind} {}", row.map(|n| n.to_string()).join(" "));
             sums.iter_mut().zip(row).for_each(|(sum, n)| *sum += n);
@@ -296,12 +301,12 @@ fn check_text(input: &Input, r: &mut Random) {
     }
 }
 
-/// With document 01's set the module is the one without sets.
+/// With document 01's set and without joints the module is the one that knows neither.
 fn check_standard(input: &Input, full: &Ran) {
     let most = usize::MAX;
     assert!(
-        run!(without_quality, input, most, most) == *full,
-        "document 01's set"
+        run!(without_asked, input, most, most) == *full,
+        "document 01's set, no joints"
     );
 }
 
@@ -316,6 +321,34 @@ fn check_set(input: &Input, r: &mut Random) -> usize {
     }
     account::check(&input, &input.run_unchecked(UNBOUNDED));
     1
+}
+
+/// A run with joints, and mostly another set, keeps its account and the joints; their order, the order of their nodes and repeats change nothing. Says how
+/// many runs were made.
+fn check_joints(input: &Input, r: &mut Random) -> usize {
+    if input.triangles.len() > 64 {
+        return 0;
+    }
+    let mut input = Input {
+        joints: joints::good(input, r),
+        ..input.clone()
+    };
+    if r.once_in(2) {
+        input.quality = sets::good(r);
+    }
+    let full = input.run_unchecked(UNBOUNDED);
+    account::check(&input, &full);
+    let first = ran!(patched, full);
+    r.shuffle(&mut input.joints);
+    let again = input
+        .joints
+        .iter()
+        .map(|j| [j[1], j[0]])
+        .collect::<Vec<_>>();
+    input.joints.extend(again);
+    let second = ran!(patched, input.run_unchecked(UNBOUNDED));
+    assert!(first == second, "the order of joints, or a repeat");
+    2
 }
 
 /// Triangles, points and digits left out one by one while the runs still part so.

@@ -1,4 +1,4 @@
-//! A call's numbers, and the refusals 1 to 7 and 14 that they meet before a run.
+//! A call's numbers, and the refusals 1 to 7, 13 and 14 that they meet before a run.
 
 use crate::mesh::Node;
 use crate::patched::{self, FrontResult, FrontStop, Quality};
@@ -9,6 +9,7 @@ pub struct Input {
     pub size: u64,
     pub stop: u32,
     pub quality: Quality,
+    pub joints: Vec<[u32; 2]>,
     pub triangles: Vec<[u32; 3]>,
     pub points: Vec<[u64; 3]>,
 }
@@ -44,6 +45,9 @@ pub const UNBOUNDED: Lent = Lent {
     points: usize::MAX,
     slots: usize::MAX,
 };
+
+/// The most joints, repeats counted.
+pub const MOST_JOINTS: usize = 256;
 
 const MOST_GIVEN: usize = 4096;
 const MOST_POINTS: usize = 8192;
@@ -93,8 +97,14 @@ impl Input {
         self.stop == 1
     }
 
-    /// The first of the conditions of 1, 2, 3, 14, 4, 5, 6 and 7 that holds. The lent
-    /// slices are as long as `lent` states, so of 4 only the capacities are tested.
+    /// The joints as the module takes them.
+    pub fn pairs(&self) -> Vec<[usize; 2]> {
+        let wide = |j: &[u32; 2]| j.map(|v| v as usize);
+        self.joints.iter().map(wide).collect()
+    }
+
+    /// The first of the conditions of 1, 2, 3, 14, 4, 5, 6, 7 and 13 that holds. The
+    /// lent slices are as long as `lent` states, so of 4 only the capacities are tested.
     pub fn refusal(&self, lent: Lent) -> Option<u32> {
         let (tris, given) = (self.triangles.len(), self.points.len());
         let over = tris > MOST_GIVEN
@@ -105,6 +115,8 @@ impl Input {
         let mut nodes = self.triangles.iter().flatten();
         let twice = |t: &[u32; 3]| t[0] == t[1] || t[1] == t[2] || t[0] == t[2];
         let far = |p: &[u64; 3]| outside(p[0]) || outside(p[1]);
+        let bad = |j: &[u32; 2]| j[0] == j[1] || j.iter().any(|&v| v as usize >= given);
+        let joints = &self.joints;
         let conditions = [
             (1, over),
             (2, !sized),
@@ -114,6 +126,7 @@ impl Input {
             (5, nodes.any(|&v| v as usize >= given)),
             (6, self.triangles.iter().any(twice)),
             (7, self.points.iter().any(far)),
+            (13, joints.len() > MOST_JOINTS || joints.iter().any(bad)),
         ];
         conditions.iter().find(|c| c.1).map(|c| c.0)
     }
@@ -146,6 +159,7 @@ impl Input {
             lent.points,
             lent.slots,
             self.quality,
+            &self.pairs(),
         )
     }
 }

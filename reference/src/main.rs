@@ -32,9 +32,9 @@ macro_rules! variant {
     };
 }
 variant!(bare, "/bare.rs");
+variant!(without_asked, "/without_asked.rs");
 variant!(without_cosine, "/without_cosine.rs");
 variant!(without_off_front, "/without_off_front.rs");
-variant!(without_quality, "/without_quality.rs");
 variant!(without_second_end, "/without_second_end.rs");
 
 use std::io::{Error, Read, Result, Write};
@@ -46,6 +46,7 @@ const USAGE: &str = "usage:
   call                                     answer the library's call on standard input
   calls SEED COUNT DIR                     write calls of the library with their answers
   set-calls SEED COUNT DIR                 the same with quality sets
+  joint-calls SEED COUNT DIR               the same with joints
   meshes SEED TRIANGLES [DIR]              make large meshes, print their hashes
   grids                                    the hashes that the crate `replay` holds
   small                                    the hashes that the crate `acceptance` holds
@@ -114,6 +115,11 @@ fn number(word: &str) -> Result<u64> {
         .map_err(|_| Error::other(format!("not a number: {word}")))
 }
 
+/// Calls with a set or with joints.
+fn further(what: call::Further, seed: &str, count: &str, folder: &str) -> Result<()> {
+    call::further_calls(what, number(seed)?, number(count)?, Path::new(folder))
+}
+
 fn command(words: &[&str]) -> Result<()> {
     match *words {
         ["run"] => run(),
@@ -130,9 +136,8 @@ fn command(words: &[&str]) -> Result<()> {
         ["calls", seed, count, folder] => {
             call::calls(number(seed)?, number(count)?, Path::new(folder))
         }
-        ["set-calls", seed, count, folder] => {
-            call::set_calls(number(seed)?, number(count)?, Path::new(folder))
-        }
+        ["set-calls", seed, count, folder] => further(call::Further::Set, seed, count, folder),
+        ["joint-calls", seed, count, folder] => further(call::Further::Joints, seed, count, folder),
         ["meshes", seed, triangles] => {
             large::meshes(number(seed)?, number(triangles)? as usize, None)
         }

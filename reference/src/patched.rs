@@ -200,6 +200,10 @@ pub struct CellMesh {
     /// The set that the caller handed in.
     quality: Quality,
     // end patch
+    // patch: joints
+    /// The locked edges, smaller node first.
+    locked: HashSet<(usize, usize)>,
+    // end patch
 }
 
 impl CellMesh {
@@ -233,6 +237,9 @@ impl CellMesh {
             // end patch
             // patch: quality
             quality: STANDARD,
+            // end patch
+            // patch: joints
+            locked: HashSet::new(),
             // end patch
         };
         for id in 0..mesh.cells.len() {
@@ -1043,6 +1050,18 @@ impl CellMesh {
         if (area - expected).abs() > 1e-9 * expected.max(1.0) {
             return None;
         }
+        // patch: joints
+        // No locked edge goes with the region.
+        for &id in &region {
+            let cell = self.cells[id]?;
+            for i in 0..cell.n_nodes() {
+                let edge = cell.edge(i);
+                if self.locked.contains(&edge) && !sides.contains(&edge) {
+                    return None;
+                }
+            }
+        }
+        // end patch
         Some(region)
     }
 
@@ -1054,6 +1073,11 @@ impl CellMesh {
     /// the quad is not strictly convex or the edge does not have exactly two
     /// triangle owners.
     fn flip(&mut self, u: usize, v: usize) -> bool {
+        // patch: joints
+        if self.locked.contains(&(u.min(v), u.max(v))) {
+            return false;
+        }
+        // end patch
         let owners = self.edge_cells((u.min(v), u.max(v)));
         if owners.len() != 2 {
             return false;
@@ -1417,6 +1441,9 @@ pub fn run_front(
     // patch: quality
     quality: Quality,
     // end patch
+    // patch: joints
+    joints: &[[usize; 2]],
+    // end patch
 ) -> FrontResult {
     // end patch
     let mut refusals = Refusals::default();
@@ -1427,6 +1454,12 @@ pub fn run_front(
     // end patch
     // patch: quality
     mesh.quality = quality;
+    // end patch
+    // patch: joints
+    mesh.locked = joints
+        .iter()
+        .map(|j| (j[0].min(j[1]), j[0].max(j[1])))
+        .collect();
     // end patch
     let mut quads: Vec<[usize; 4]> = Vec::new();
     front_loop(&mut mesh, tris.len(), size, &mut quads, &mut refusals, stop);

@@ -11,17 +11,18 @@ fn without_its_patches_the_patched_module_is_the_published_one() {
     assert_eq!(marks::take_back(PATCHED, |_| true).unwrap(), PUBLISHED);
 }
 
-const NAMES: [&str; 6] = [
+const NAMES: [&str; 7] = [
     "cosine",
     "limit",
     "off-front",
     "lent",
     "second-end",
     "quality",
+    "joints",
 ];
 
 #[test]
-fn every_patch_is_one_of_six() {
+fn every_patch_is_one_of_seven() {
     for name in marks::names(PATCHED) {
         assert!(NAMES.contains(&name));
     }
@@ -103,6 +104,23 @@ fn the_set_stands_in_four_tests_and_nothing_else_changes() {
 }
 
 #[test]
+fn joints_stand_in_two_tests_and_replace_nothing() {
+    let new = marks::take_back(PATCHED, |_| false).unwrap();
+    let old = marks::take_back(PATCHED, |patch| patch == "joints").unwrap();
+    assert!(fresh(&old, &new).is_empty());
+    let added = fresh(&new, &old);
+    let read = |line: &&String| line.contains("self.locked");
+    let added: Vec<&String> = added.iter().filter(read).collect();
+    assert_eq!(
+        added,
+        [
+            "if self.locked.contains(&edge) && !sides.contains(&edge) {",
+            "if self.locked.contains(&(u.min(v), u.max(v))) {",
+        ]
+    );
+}
+
+#[test]
 fn a_patch_within_a_patch() {
     let text = "// patch: a\n// was: 1\n// patch: b\n// was: 2\n3\n// end patch\n// end patch\n";
     let taken = |names: &str| marks::take_back(text, |patch| names.contains(patch)).unwrap();
@@ -115,7 +133,7 @@ fn a_patch_within_a_patch() {
 #[test]
 fn the_patches_are_small() {
     let kept = marks::take_back(PATCHED, |_| false).unwrap();
-    assert!(kept.lines().count() < PUBLISHED.lines().count() + 120);
+    assert!(kept.lines().count() < PUBLISHED.lines().count() + 160);
 }
 
 #[test]

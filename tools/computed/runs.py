@@ -26,6 +26,7 @@ lent capacity slots points triangles quads d f =
     record {
       points = map f64 points ++ replicate (3 * capacity - length points) nan;
       triangles = triangles;
+      joints = [];
       quads = quads ++ replicate (4 * slots - length quads) 7;
       triangles-out = replicate (3 * slots) 7;
       components = replicate slots 7;
@@ -44,7 +45,7 @@ def call_theorem(name):
     slices = 'lent %s %s %%s %s %%s %%s' % (c['capacity'], c['slots'], numbers(c['triangles']))
     entry = slices % (numbers('0x' + w for w in c['given']), '[]', '5 nan')
     left = slices % (numbers('0x' + w for w in c['points']), numbers(c['quads']), '0 0·0')
-    asked = 'record { given = %d; capacity = %s; count = %d; slots = %s; size = f64 0x%s; stop = %s; quality = base }' % (
+    asked = 'record { given = %d; capacity = %s; count = %d; slots = %s; joints = 0; size = f64 0x%s; stop = %s; quality = base }' % (
         len(c['given']) // 3, c['capacity'], len(c['triangles']) // 3, c['slots'], c['size'], c['stop'])
     return '''
 asked-%(n)s : Asked

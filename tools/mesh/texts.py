@@ -1,4 +1,4 @@
-"""The program's text: an input, a call of the library (an input after its capacities, and its quality set if it has one), an answer or a refusal."""
+"""The program's text: an input, a call of the library (an input after its capacities, its quality set and its joints if it has such), an answer or a refusal."""
 import re, struct
 from mesh.lines import Fault
 from mesh.meshes import Mesh
@@ -6,6 +6,8 @@ from mesh.meshes import Mesh
 INPUT = 'triangles points size stop'
 CALL = 'capacity slots'
 QUALITY = 'least_jacobian largest_cosine side_low side_high pairs'
+JOINTS = 'joints'
+JOINT = 'u v'
 COUNTS = 'front_empty attempts placement invalid_quad recovery region odd_region mismatch_insertions limit'
 LENGTHS = 'quads triangles points components'
 TRIANGLE = 'n0 n1 n2'
@@ -37,6 +39,7 @@ REFUSALS = {
     8: 'the run inserts a point, and the point capacity is used up',
     9: 'the run needs a slot, and none is free',
     10: 'the text is not in its form',
+    13: 'a joint is one node twice or names a node that is not there, or there are over 256 joints',
     14: 'a quality number is out of its range or is a NaN, or the low side factor is above the high one',
 }
 
@@ -124,6 +127,7 @@ def read(source):
         form.names(CALL)
         form.numbers(CALL)
         set_of(form)
+        joints_of(form)
         return given(form)
     if first == INPUT:
         return given(form)
@@ -139,6 +143,16 @@ def set_of(form):
     if len(words) != 5 or not all(BITS.fullmatch(word) for word in floats) or not pairs.isdigit():
         form.fail('should be four floats of 16 lowercase hexadecimal digits and a count, parted by one space')
     return (*map(double, floats), int(pairs))
+
+
+def joints_of(form):
+    """The joints of a call."""
+    if form.lines[form.number:form.number + 1] != [JOINTS.encode()]:
+        return []
+    form.names(JOINTS)
+    count, = form.numbers(JOINTS)
+    form.names(JOINT)
+    return [form.numbers(JOINT) for _ in range(count)]
 
 
 def given(form):

@@ -42,6 +42,8 @@ extern "C" {
         points_len: usize,
         triangles: *const u32,
         triangles_len: usize,
+        joints: *const u32,
+        joints_len: usize,
         quads: *mut u32,
         quads_len: usize,
         triangles_out: *mut u32,
@@ -56,6 +58,7 @@ extern "C" {
         capacity: usize,
         count: usize,
         slots: usize,
+        joint_count: usize,
         size: f64,
         stop: u32,
         least_jacobian: f64,
@@ -144,6 +147,16 @@ impl Default for Set {
     }
 }
 
+/// What a call may take beside its mesh. `Default` is without joints and with the standard set.
+#[derive(Clone, Copy, Debug, Default, PartialEq)]
+pub struct Further<'a> {
+    /// Two node numbers a joint, in either order. May be longer than the call needs.
+    pub joints: &'a [u32],
+    /// Joints, at most 256.
+    pub joint_count: usize,
+    pub set: Set,
+}
+
 /// The lent slices. Each may be longer than the call needs; what it holds beforehand does not matter, but for the given points.
 #[derive(Debug)]
 pub struct Memory<'a> {
@@ -173,7 +186,7 @@ pub struct Answer {
 
 /// Meshes the first `call.count` triangles, three node numbers each, over the first `call.given` points of the memory.
 ///
-/// Refusals before a run (1 to 7, 14) touch nothing. 8 and 9 leave the points added and the quads written before them, clear both work slices and touch
+/// Refusals before a run (1 to 7, 13, 14) touch nothing. 8 and 9 leave the points added and the quads written before them, clear both work slices and touch
 /// nothing else.
 pub fn run_front(triangles: &[u32], memory: Memory<'_>, call: Call) -> Result<Answer, Refusal> {
     let mut a = [0usize; ANSWER];
@@ -207,14 +220,15 @@ pub fn run_front(triangles: &[u32], memory: Memory<'_>, call: Call) -> Result<An
     answered(number, a)
 }
 
-/// The same with a quality set; with the standard one it is `run_front`.
+/// The same with joints and a quality set; without joints and with the standard set it is `run_front`.
 pub fn run_front_with(
     triangles: &[u32],
     memory: Memory<'_>,
     call: Call,
-    set: Set,
+    further: Further<'_>,
 ) -> Result<Answer, Refusal> {
     let mut a = [0usize; ANSWER];
+    let set = further.set;
     // As above.
     let number = unsafe {
         sedgepick_run_front_with(
@@ -222,6 +236,8 @@ pub fn run_front_with(
             memory.points.len(),
             triangles.as_ptr(),
             triangles.len(),
+            further.joints.as_ptr(),
+            further.joints.len(),
             memory.quads.as_mut_ptr(),
             memory.quads.len(),
             memory.triangles.as_mut_ptr(),
@@ -236,6 +252,7 @@ pub fn run_front_with(
             call.capacity,
             call.count,
             call.slots,
+            further.joint_count,
             call.size,
             call.stop,
             set.least_jacobian,

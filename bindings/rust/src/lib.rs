@@ -33,6 +33,18 @@
 //! # Ok::<(), Refusal>(())
 //! ```
 //!
+//! A joint, here the edge between the triangles, is an edge of the finished mesh too:
+//!
+//! ```
+//! use sedgepick::{run_front_with, Options, Refusal};
+//!
+//! let points = [[0.0, 0.0, 0.0], [1.0, 0.0, 0.0], [1.0, 1.0, 0.0], [0.0, 1.0, 0.0]];
+//! let options = Options { size: 1.0, joints: &[[2, 0]], ..Options::default() };
+//! let mesh = run_front_with(&points, &[[0, 1, 2], [0, 2, 3]], &options)?;
+//! assert_eq!((mesh.quads.len(), mesh.triangles.len()), (0, 2));
+//! # Ok::<(), Refusal>(())
+//! ```
+//!
 //! Meshes have an order of their own, in which an archive can keep them:
 //!
 //! ```
@@ -58,12 +70,15 @@ pub use quality::{Quality, QualityBuilder, COSINES, JACOBIANS, PAIRS, SIDES};
 pub use refusal::Refusal;
 pub use small::small_mesh;
 
-use lent::{Call, Memory};
+use lent::{Call, Further, Memory};
 
 /// Limits on points and slots, and on the given ones.
 pub const MOST_CAPACITY: usize = 8192;
 pub const MOST_SLOTS: usize = 16384;
 pub const MOST_GIVEN: usize = 4096;
+
+/// The most joints, repeats counted.
+pub const MOST_JOINTS: usize = 256;
 
 /// When a run stops.
 #[derive(Clone, Copy, Debug, PartialEq, Eq, Hash)]
@@ -75,21 +90,25 @@ pub enum Stop {
     EvenComponents = 1,
 }
 
-/// What a run goes by beside points and triangles. `Default` has no size, stop rule 0 and the standard quality set.
+/// What a run goes by beside points and triangles. `Default` has no size, stop rule 0, the standard quality set and no joints.
 #[derive(Clone, Copy, Debug, PartialEq)]
-pub struct Options {
+pub struct Options<'a> {
     /// The target length of an edge: 0 for none, otherwise from 1/64 to 8.
     pub size: f64,
     pub stop: Stop,
     pub quality: Quality,
+    /// Edges that are locked, their nodes in either order, at most 256. One that the given triangles have is an edge of the finished mesh. The order of the
+    /// list and repeats change nothing.
+    pub joints: &'a [[u32; 2]],
 }
 
-impl Default for Options {
+impl Default for Options<'_> {
     fn default() -> Self {
         Options {
             size: 0.0,
             stop: Stop::Exhaust,
             quality: Quality::default(),
+            joints: &[],
         }
     }
 }
@@ -130,7 +149,7 @@ pub struct Mesh {
     pub counts: Counts,
 }
 
-/// Meshes the triangles over the points with the standard quality set. `size` is the target length of an edge: 0 for none, otherwise from 1/64 to 8.
+/// Meshes the triangles over the points with the standard quality set and no joints. `size` is the target length of an edge: 0 for none, otherwise from 1/64 to 8.
 ///
 /// Where points or slots run out the run is made again with more, up to the limits, so that 8 and 9 come back only from a run that needs more than them.
 /// The result does not depend on how much was lent.
@@ -153,7 +172,7 @@ pub fn run_front(
 pub fn run_front_with(
     points: &[[f64; 3]],
     triangles: &[[u32; 3]],
-    options: &Options,
+    options: &Options<'_>,
 ) -> Result<Mesh, Refusal> {
     let (given, count) = (points.len(), triangles.len());
     let mut call = Call {
@@ -182,7 +201,7 @@ fn attempt(
     points: &[[f64; 3]],
     triangles: &[[u32; 3]],
     call: Call,
-    options: &Options,
+    options: &Options<'_>,
 ) -> Result<Mesh, Refusal> {
     // A call over the limits is refused before any memory is looked at.
     let over = call.given > MOST_GIVEN || call.count > MOST_GIVEN;
@@ -208,8 +227,12 @@ fn attempt(
         work: &mut vec![0; lend.work_len()],
         float_work: &mut vec![0.0; lend.float_work_len()],
     };
-    let set = options.quality.set();
-    let answer = lent::run_front_with(triangles.as_flattened(), memory, call, set)?;
+    let further = Further {
+        joints: options.joints.as_flattened(),
+        joint_count: options.joints.len(),
+        set: options.quality.set(),
+    };
+    let answer = lent::run_front_with(triangles.as_flattened(), memory, call, further)?;
     components.truncate(answer.components);
     Ok(Mesh {
         points: xyz

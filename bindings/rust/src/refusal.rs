@@ -22,6 +22,8 @@ pub enum Refusal {
     RepeatedNode = 6,
     /// An x or y is not finite or is beyond 8 in magnitude.
     FarPoint = 7,
+    /// A joint is one node twice, a node of it is not below the given points, or there are over 256 joints.
+    BadJoint = 13,
     /// An insertion, with the point capacity used up.
     NoPoint = 8,
     /// A split with fewer than two slots free, or a quad with none.
@@ -29,7 +31,7 @@ pub enum Refusal {
 }
 
 impl Refusal {
-    const ALL: [Refusal; 10] = [
+    const ALL: [Refusal; 11] = [
         Refusal::OverLimit,
         Refusal::BadSize,
         Refusal::BadStop,
@@ -38,11 +40,12 @@ impl Refusal {
         Refusal::UnknownNode,
         Refusal::RepeatedNode,
         Refusal::FarPoint,
+        Refusal::BadJoint,
         Refusal::NoPoint,
         Refusal::NoSlots,
     ];
 
-    /// The refusal's number: 1 to 9, and 14.
+    /// The refusal's number: 1 to 9, 13 and 14.
     pub fn number(self) -> u32 {
         self as u32
     }
@@ -63,6 +66,7 @@ impl Refusal {
             Refusal::UnknownNode => "a node number is not below the given points",
             Refusal::RepeatedNode => "a triangle has a node twice",
             Refusal::FarPoint => "an x or y is not finite or is beyond 8 in magnitude",
+            Refusal::BadJoint => "a joint is one node twice, a node of it is not below the given points, or there are over 256 joints",
             Refusal::NoPoint => "an insertion, with the point capacity used up",
             Refusal::NoSlots => "a split with fewer than two slots free, or a quad with none",
         }

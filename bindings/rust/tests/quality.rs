@@ -1,6 +1,6 @@
 //! Quality sets over the linked library: the standard one, others, and those that are refused.
 
-use sedgepick::lent::{self, Call, Memory, Set};
+use sedgepick::lent::{self, Call, Further, Memory, Set};
 use sedgepick::{run_front, run_front_with, Options, Quality, QualityBuilder, Refusal, Stop};
 use sedgepick::{COSINES, JACOBIANS, PAIRS, SIDES};
 
@@ -45,7 +45,7 @@ fn corners(points: &[[f64; 3]], quads: &[[u32; 4]]) -> Vec<(f64, f64)> {
     out
 }
 
-fn with(quality: Quality) -> Options {
+fn with(quality: Quality) -> Options<'static> {
     Options {
         size: 0.25,
         quality,
@@ -122,7 +122,11 @@ fn called(set: Set, stop: u32) -> Option<Refusal> {
         work: &mut [],
         float_work: &mut [],
     };
-    lent::run_front_with(&[], nothing, call, set).err()
+    let further = Further {
+        set,
+        ..Further::default()
+    };
+    lent::run_front_with(&[], nothing, call, further).err()
 }
 
 /// Each number at the ends of its range, beside them and elsewhere: the builder refuses exactly what the library does.
@@ -236,7 +240,11 @@ fn a_bad_set_comes_before_short_memory() {
             work: &mut [],
             float_work: &mut [],
         };
-        lent::run_front_with(&[], nothing, call, set)
+        let further = Further {
+            set,
+            ..Further::default()
+        };
+        lent::run_front_with(&[], nothing, call, further)
     };
     assert_eq!(refused(Set::default()), Err(Refusal::TooShort));
     let bad = Set {

@@ -30,9 +30,9 @@ slots s = getD (48 ∷ 9 ∷ []) (s % 2) 0
 unfoldable pub size : ℕ → Float
 size s = getD (plus 0 ∷ plus 4 ∷ plus 16 ∷ plus 48 ∷ []) (s / 4 % 4) nan
 
--- the stated numbers, for so many points and triangles, with document 01's quality set
+-- the stated numbers, for so many points and triangles, with document 01's quality set and no joints
 unfoldable pub asked : ℕ → ℕ → ℕ → Asked
-asked given count s = asked-for given (capacity s) count (slots s) (size s) (s / 2 % 2) base
+asked given count s = asked-for given (capacity s) count (slots s) 0 (size s) (s / 2 % 2) base
 
 -- what a lent slice holds beforehand; no node has this number
 unfoldable pub unused : ℕ
@@ -40,7 +40,7 @@ unused = 4294967295
 
 -- the lent slices, with these points and nodes of triangles
 unfoldable pub lent : List Float → List ℕ → Lent
-lent points nodes = lent-of points nodes (replicate 192 unused) (replicate 144 unused) (replicate 48 unused) (replicate 3264 0) (replicate 192 (plus 0))
+lent points nodes = lent-of points nodes [] (replicate 192 unused) (replicate 144 unused) (replicate 48 unused) (replicate 3264 0) (replicate 192 (plus 0))
 
 -- ---- the runs
 

@@ -42,6 +42,7 @@ fn mixed_run(start: u64, given: usize, list: Triangles, s: usize) -> u64
     let mut components = [UNUSED; 48];
     let mut work = [0u32; 3264];
     let mut floats = [0.0; 192];
+    let none: [u32; 0] = [];
     let stated = standard(
         given,
         capacities[s % 2],
@@ -53,6 +54,7 @@ fn mixed_run(start: u64, given: usize, list: Triangles, s: usize) -> u64
     let a = run_front(
         &mut points,
         &triangles,
+        &none,
         &mut quads,
         &mut out,
         &mut components,

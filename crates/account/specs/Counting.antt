@@ -1,5 +1,6 @@
 -- Every attempt is counted once, and every added point: the sum of attempts, and the points of a finished run.
 use mathlib.Core.Path.{_≡_, refl, sym, ap, _∙_, subst}
+use mathlib.Core.Bool.{Bool}
 use mathlib.Core.List.{List, [], _∷_, _++_, append-assoc, append-nil}
 use Prim.{Unit, tt}
 use Prim.Native.Nat.{ℕ, _+_}
@@ -98,15 +99,15 @@ module _ (s : Settings) (ps : List Node) where
   }
 
   -- at the start nothing is counted
-  pub start-counted : (ts : List Tri) → Q (start s ts ps) []
+  pub start-counted : (lk : Edge → Bool) (ts : List Tri) → Q (start s lk ts ps) []
   unfolding start new-mesh no-counts tally
-  start-counted ts = record { added = []; points-are = sym (append-nil ps); number = refl; adds-up = refl }
+  start-counted lk ts = record { added = []; points-are = sym (append-nil ps); number = refl; adds-up = refl }
 
   -- a finished run's attempts add up, and its points are the given ones, then as many as were inserted
-  pub counted : (ts : List Tri) (r : Result) → Proper ps ts → run-front s ts ps ≡ ran r → Counted ps (r .points) (r .counts) (length (r .quads))
+  pub counted : (lk : Edge → Bool) (ts : List Tri) (r : Result) → Proper ps ts → run-front s lk ts ps ≡ ran r → Counted ps (r .points) (r .counts) (length (r .quads))
   unfolding result
-  counted ts r proper e =
-      let h = run-ok s Q P (λ st. Unit {0}) counted-rule ts ps r (start-valid s ts ps proper, start-counted ts) e in
+  counted lk ts r proper e =
+      let h = run-ok s Q P (λ st. Unit {0}) counted-rule lk ts ps r (start-valid s lk ts ps proper, start-counted lk ts) e in
       subst (λ x. Counted ps (x .points) (x .counts) (length (x .quads))) (sym (h .2)) (h .1 .1)
 
 -- the first points are the given ones

@@ -15,7 +15,7 @@ use Rattle.definition.specs.Counts.{Counts}
 use Rattle.definition.specs.Plane.{Node}
 use Rattle.definition.specs.Cells.{Tri, tri-nodes}
 use Rattle.definition.specs.Front.{Result, Outcome, ran, wanting, run-front}
-use Rattle.definition.specs.Call.{Asked, Lent, Lengths, finished, refusal, given-points, given-tris, first-points, first-tris, settings, conditions, slot-words, point-words, slot-floats, bad-size, good-quality, bad-quality, too-short, unknown-node, twice, repeated-node, outside, far-point, lengths, written, untouched, after-run, call}
+use Rattle.definition.specs.Call.{Asked, Lent, Lengths, finished, refusal, given-points, given-tris, given-locks, first-points, first-tris, settings, conditions, slot-words, point-words, slot-floats, bad-size, good-quality, bad-quality, bad-joints, too-short, unknown-node, twice, repeated-node, outside, far-point, lengths, written, untouched, after-run, call}
 use Rattle.laws.specs.Bools.{which, or-none}
 use Rattle.laws.specs.Lists.{In, none-in, known, numbers-length, table-length}
 use Rattle.account.specs.Triangles.{Distinct}
@@ -31,18 +31,18 @@ none-found p (y ∷ ys) e x i = elim (which (p y)) [
 -- the run behind a finished call
 pub record Behind (a : Asked) (l : Lent) (c : Counts) (n : Lengths) : Type 0 where
   pub run : Result
-  pub ended : run-front (settings a) (given-tris a l) (given-points a l) ≡ ran run
+  pub ended : run-front (settings a) (given-locks a l) (given-tris a l) (given-points a l) ≡ ran run
   pub counts-are : c ≡ run .counts
   pub lengths-are : n ≡ lengths run
   pub exit : call a l .lent ≡ written (run .points) (run .quads) (run .triangles) (run .sizes) l
   pub passed : find (λ c. c .1) (conditions a l) ≡ none
 
 module _ (a : Asked) (l : Lent) (c : Counts) (n : Lengths) where
-  call-runs : find (λ c. c .1) (conditions a l) ≡ none → call a l ≡ after-run l (run-front (settings a) (given-tris a l) (given-points a l))
+  call-runs : find (λ c. c .1) (conditions a l) ≡ none → call a l ≡ after-run l (run-front (settings a) (given-locks a l) (given-tris a l) (given-points a l))
   unfolding call
   call-runs f = rw (f, call) refl
 
-  by-outcome : (o : Outcome) → find (λ c. c .1) (conditions a l) ≡ none → run-front (settings a) (given-tris a l) (given-points a l) ≡ o
+  by-outcome : (o : Outcome) → find (λ c. c .1) (conditions a l) ≡ none → run-front (settings a) (given-locks a l) (given-tris a l) (given-points a l) ≡ o
       → after-run l o .answer ≡ finished c n → Behind a l c n
   unfolding after-run
   by-outcome (ran r) f e h = record { run = r; ended = e; counts-are = cc; lengths-are = cc; exit = ap (λ z. z .lent) (call-runs f ∙ ap (after-run l) e); passed = f }
@@ -52,7 +52,7 @@ module _ (a : Asked) (l : Lent) (c : Counts) (n : Lengths) where
   pub behind : call a l .answer ≡ finished c n → Behind a l c n
   unfolding call untouched
   behind h = elim (known (find (λ c. c .1) (conditions a l))) [
-    | inl f ↦ by-outcome (run-front (settings a) (given-tris a l) (given-points a l)) f refl (sym (ap (λ z. z .answer) (call-runs f)) ∙ h)
+    | inl f ↦ by-outcome (run-front (settings a) (given-locks a l) (given-tris a l) (given-points a l)) f refl (sym (ap (λ z. z .answer) (call-runs f)) ∙ h)
     | inr f ↦
         let g : refusal (f .0 .0) ≡ finished c n = rw (f .1, call) at h in
         absurd (let z : _≡_ {A = ℕ} 0 1 = cc in omega arith)
@@ -74,6 +74,11 @@ module _ (a : Asked) (l : Lent) (passed : find (λ c. c .1) (conditions a l) ≡
   unfolding conditions bad-quality
   permitted = not-false _ (holds-not 14 (bad-quality a) (inr (inr (inr (inl refl)))))
 
+  -- the joints are edges between given points, and no more than may be stated
+  pub joined : bad-joints a l ≡ false
+  unfolding conditions
+  joined = holds-not 13 (bad-joints a l) (inr (inr (inr (inr (inr (inr (inr (inr (inl refl)))))))))
+
   long-enough : too-short a l ≡ false
   unfolding conditions
   long-enough = holds-not 4 (too-short a l) (inr (inr (inr (inr (inl refl)))))
@@ -83,6 +88,7 @@ module _ (a : Asked) (l : Lent) (passed : find (λ c. c .1) (conditions a l) ≡
   short-slice =
       ltb (length (l .points)) (3 * a .capacity)
       || ltb (length (l .triangles)) (3 * a .count)
+      || ltb (length (l .joints)) (2 * a .joints)
       || ltb (length (l .quads)) (4 * a .slots)
       || ltb (length (l .triangles-out)) (3 * a .slots)
       || ltb (length (l .components)) (a .slots)

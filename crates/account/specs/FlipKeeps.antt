@@ -162,7 +162,7 @@ module _ (m : Mesh) (e : Edge) (m′ : Mesh) (ok : Valid m) (at : In e (all-edge
       ]
 
   -- a quad of the new mesh was there before
-  quads-old : (z : Live) (q : Quad) → In z (m′ .live) → z .cell ≡ quad q → In z (m .live)
+  pub quads-old : (z : Live) (q : Quad) → In z (m′ .live) → z .cell ≡ quad q → In z (m .live)
   unfolding x′ y′ new-live
   quads-old z q i c = elim (in-either z (others ++ (x′ ∷ [])) (y′ ∷ []) (subst (λ l. In z l) new-live-list i)) [
     | inl j ↦ elim (in-either z others (x′ ∷ []) j) [

@@ -3,12 +3,12 @@ use mathlib.Core.Path.{_≡_, refl, sym, ap, _∙_, subst}
 use mathlib.Core.Bool.{Bool, true, false, not, _&&_}
 use mathlib.Core.Logic.{inl, inr, _≢_}
 use mathlib.Core.List.{List, [], _∷_}
-use mathlib.Core.Option.{some}
+use mathlib.Core.Option.{none, some}
 use Prim.Native.Nat.{ℕ}
 use lib.Dec.{eqb}
 use borrow.Author.Tests.{eqb-true, eq-eqb}
 use Rattle.definition.specs.Plane.{Edge}
-use Rattle.definition.specs.Cells.{Tri, Cell, tri, quad, Live, Mesh, new-tri, owners, live-tri, is-tri, new-live, in-slot, with-live, without, set-cell}
+use Rattle.definition.specs.Cells.{Tri, Cell, tri, quad, Live, Mesh, new-tri, owners, is-locked, live-tri, is-tri, new-live, in-slot, with-live, without, set-cell}
 use Rattle.definition.specs.Flips.{third, apart, convex-pair, runs, first-turned, second-turned, set-tris, flipped, flip-tris, flip-cells, flip-owners, flip}
 use Rattle.laws.specs.Bools.{which, both, never}
 use Rattle.laws.specs.Lists.{In, in-left, in-right, filter-in, no-some}
@@ -42,6 +42,15 @@ module _ (e : Edge) (p q : ℕ) where
   second-distinct false pq x y = new-distinct (λ z. pq (sym z)) x (λ z. y (sym z))
 
 -- ---- a flip that is made
+
+-- a locked edge stays, any other flips by its owners
+pub locked-flip : (m : Mesh) (e : Edge) → is-locked m e ≡ true → flip m e ≡ none
+unfolding flip
+locked-flip m e h = rw h refl
+
+pub free-flip : (m : Mesh) (e : Edge) → is-locked m e ≡ false → flip m e ≡ flip-owners m e (owners m e)
+unfolding flip
+free-flip m e h = rw h refl
 
 -- the edge e, owned by the triangles s and t alone, gave way to the diagonal
 pub record Flipped (m : Mesh) (e : Edge) (m′ : Mesh) : Type 0 where
@@ -109,10 +118,15 @@ module _ (m : Mesh) (e : Edge) (m′ : Mesh) where
   owners-flipped (x ∷ y ∷ []) own h = cells-flipped x y (x .cell) (y .cell) own refl refl h
   owners-flipped (x ∷ y ∷ z ∷ more) own h = no-some m′ h
 
-  -- a flip that is made has two owners, both triangles
+  -- a flip that is made is of an edge that is not locked
+  pub flip-free : flip m e ≡ some m′ → is-locked m e ≡ false
+  unfolding flip
+  flip-free h = elim (which (is-locked m e)) [ inl f ↦ no-some m′ (rw f at h) | inr f ↦ f ]
+
+  -- and has two owners, both triangles
   pub flip-made : flip m e ≡ some m′ → Flipped m e m′
   unfolding flip
-  flip-made h = owners-flipped (owners m e) refl h
+  flip-made h = owners-flipped (owners m e) refl (rw (flip-free h) at h)
 
   -- the points and the slots in use stay
   pub flip-points : flip m e ≡ some m′ → m′ .points ≡ m .points

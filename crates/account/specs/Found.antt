@@ -15,7 +15,7 @@ use Rattle.definition.specs.Cells.{Tri, Quad, Cell, tri, quad, Live, Mesh, is-t
 use Rattle.definition.specs.Flips.{first-crossing}
 use Rattle.definition.specs.Candidates.{in-reach, neighbours, on-top, live-region-from, seed-stack, live-region}
 use Rattle.definition.specs.Insertion.{holds, holder}
-use Rattle.definition.specs.Region.{reach, reach-all, across, flood, fills, if-filled, region-from, region}
+use Rattle.definition.specs.Region.{reach, reach-all, across, flood, fills, spares-locked, if-filled, region-from, region}
 use Rattle.laws.specs.Bools.{which, both, never, cond-ok}
 use Rattle.laws.specs.Lists.{In, in-either, in-filter, find-in, sort-in, any-in, first-in, known, no-some, in-flat-map}
 use Rattle.account.specs.Flips.{Tri-at}
@@ -162,7 +162,25 @@ flood-tris (suc n) m sides done (x ∷ todo) cells h k e = elim (known (reach-al
 pub filled-is : (m : Mesh) (q : Quad) (o : Option (List Live)) (cells : List Live) → if-filled m q o ≡ some cells → o ≡ some cells
 unfolding if-filled
 filled-is m q none cells e = no-some cells e
-filled-is m q (some r) cells e = elim (which (fills m q r)) [ inl f ↦ rw f at e | inr f ↦ no-some cells (rw f at e) ]
+filled-is m q (some r) cells e = elim (which (fills m q r && spares-locked m q r)) [ inl f ↦ rw f at e | inr f ↦ no-some cells (rw f at e) ]
+
+-- it fills the quad, and spares the locked edges
+pub filled-so : (m : Mesh) (q : Quad) (o : Option (List Live)) (cells : List Live) → if-filled m q o ≡ some cells → (fills m q cells ≡ true) × (spares-locked m q cells ≡ true)
+unfolding if-filled
+filled-so m q none cells e = no-some cells e
+filled-so m q (some r) cells e = elim (which (fills m q r && spares-locked m q r)) [
+  | inl f ↦ let g : some r ≡ some cells = rw f at e in let h : r ≡ cells = cc in subst (λ z. (fills m q z ≡ true) × (spares-locked m q z ≡ true)) h (both (fills m q r) (spares-locked m q r) f)
+  | inr f ↦ no-some cells (rw f at e)
+]
+
+-- so of a region that is not refused
+pub region-so : (m : Mesh) (seed : ℕ) (q : Quad) (cells : List Live) → region m seed q ≡ some cells → (fills m q cells ≡ true) × (spares-locked m q cells ≡ true)
+unfolding region region-from
+region-so m seed q cells h = go (cell-of m seed) h
+  where
+    go : (o : Option Live) → region-from m q o ≡ some cells → (fills m q cells ≡ true) × (spares-locked m q cells ≡ true)
+    go none g = no-some cells g
+    go (some x) g = filled-so m q _ cells g
 
 from-seed-tris : (m : Mesh) (q : Quad) (o : Option Live) (cells : List Live) → ((x : Live) → o ≡ some x → In x (m .live) × (live-tri x ≡ true))
     → region-from m q o ≡ some cells → All-tris m cells

@@ -1,6 +1,6 @@
 -- What is asked of exact geometry, and what follows: every point of a run lies within the limit, and every quad is convex and counterclockwise, with no corner sharper than the set allows.
 use mathlib.Core.Path.{_≡_, refl, sym, ap, _∙_, subst}
-use mathlib.Core.Bool.{true, false}
+use mathlib.Core.Bool.{Bool, true, false}
 use mathlib.Core.Logic.{inl, inr}
 use mathlib.Core.List.{List, [], _∷_}
 use Prim.Native.Nat.{ℕ, zero, suc, _<_}
@@ -8,7 +8,7 @@ use lib.ListN.{length}
 use lib.Ieee.{Float, binary64, fits, le, ofBits}
 use Rattle.definition.specs.Floats.{_≼_, abs, f64, 0·0, 8·0}
 use Rattle.definition.specs.Numbers.{Quality, Settings, base, insert-shares, tiny-length}
-use Rattle.definition.specs.Plane.{Node, flat, point, point-strictly-inside, from-to, norm, dist, edge-length}
+use Rattle.definition.specs.Plane.{Edge, Node, flat, point, point-strictly-inside, from-to, norm, dist, edge-length}
 use Rattle.definition.specs.Metrics.{Corner, corners, quad-metrics, passes}
 use Rattle.definition.specs.Cells.{Tri, Quad, tri, Mesh, node-at, quad-nodes}
 use Rattle.definition.specs.Insertion.{holds, along}
@@ -94,10 +94,10 @@ module _ (geometry : Geometry) (s : Settings) (asked : Asked) (same : s .size �
   }
 
   -- the points of a finished run lie within the limit
-  pub points-within : (ts : List Tri) (ps : List Node) (r : Result) → Proper ps ts → All-within ps → run-front s ts ps ≡ ran r → All-within (r .points)
+  pub points-within : (lk : Edge → Bool) (ts : List Tri) (ps : List Node) (r : Result) → Proper ps ts → All-within ps → run-front s lk ts ps ≡ ran r → All-within (r .points)
   unfolding result start new-mesh
-  points-within ts ps r h k e =
-      let w = run-ok s _ _ _ within-rule ts ps r (start-valid s ts ps h, k) e in
+  points-within lk ts ps r h k e =
+      let w = run-ok s _ _ _ within-rule lk ts ps r (start-valid s lk ts ps h, k) e in
       subst (λ x. All-within (x .points)) (sym (w .2)) (w .1 .1)
 
 -- ---- one quad

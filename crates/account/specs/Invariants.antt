@@ -1,5 +1,6 @@
 -- What holds of every mesh and state of a run, in one record; and that the lists which come back fit their slices.
-use mathlib.Core.Path.{_≡_, sym, ap, subst}
+use mathlib.Core.Path.{_≡_, refl, sym, ap, _∙_, subst}
+use mathlib.Core.Bool.{Bool}
 use mathlib.Core.List.{List, []}
 use Prim.{absurd}
 use Prim.Native.Nat.{ℕ, _+_, _≤_}
@@ -10,7 +11,7 @@ use Rattle.definition.specs.Counts.{Counts, Want}
 use Rattle.definition.specs.Plane.{Node, Edge}
 use Rattle.definition.specs.Cells.{Tri, Quad, Mesh, triangles}
 use Rattle.definition.specs.Front.{State, counting, Result, ran, wanting, new-mesh, start, result, run-front}
-use Rattle.definition.specs.Call.{Asked, Lent, Lengths, finished, given-points, given-tris, settings, lengths, call}
+use Rattle.definition.specs.Call.{Asked, Lent, Lengths, finished, given-points, given-tris, given-locks, settings, lengths, call}
 use Rattle.account.specs.Start.{Proper, start-valid}
 use Rattle.account.specs.Parity.{triangles-good}
 use Rattle.account.specs.Rooms.{Fits, fits-rule, start-fits}
@@ -19,13 +20,16 @@ use Rattle.account.specs.Fits.{triangles-number, sizes-number, quads-rul
 use Rattle.account.specs.Tracked.{Tracked}
 use Rattle.account.specs.Records.{tracked-rule, start-tracked}
 use Rattle.account.specs.Steps.{made-weaker}
+use Rattle.account.specs.Locks.{flip-locked, split-locked, replaced-locked}
 use Rattle.account.specs.Run.{Rule, Sound, run-ok, run-stopped}
 use Rattle.account.specs.Finished.{behind, given-fit, slots-fit, points-number, tris-number, given-proper}
 
 -- of a mesh, with the quads placed so far and edges that were refused or wait
-pub record Good (s : Settings) (given : ℕ) (m : Mesh) (quads : List Quad) (es : List Edge) : Type 0 where
+pub record Good (s : Settings) (lk : Edge → Bool) (given : ℕ) (m : Mesh) (quads : List Quad) (es : List Edge) : Type 0 where
   -- no more points and slots than were lent
   pub fits : Fits s m
+  -- the same edges are locked as at the start
+  pub locked : m .locked ≡ lk
   -- every quad took a slot that no given triangle had
   pub quads-fit : given + length quads ≤ m .used
   -- every quad was rated by the points as they are
@@ -34,21 +38,21 @@ pub record Good (s : Settings) (given : ℕ) (m : Mesh) (quads : List Quad) (es 
   pub tracked : Tracked m es
 
 -- the edges fs are tracked whatever happens to them
-module _ (s : Settings) (given : ℕ) (fs : List Edge) where
+module _ (s : Settings) (lk : Edge → Bool) (given : ℕ) (fs : List Edge) where
   -- between attempts
   abbrev pub Q : State → List Edge → Type 0
-  Q st es = Good s given (st .mesh) (st .quads) fs
+  Q st es = Good s lk given (st .mesh) (st .quads) fs
 
   -- in an attempt
   abbrev pub P : State → List Edge → ℕ → Mesh → Type 0
-  P st es n m = Good s given m (st .quads) fs
+  P st es n m = Good s lk given m (st .quads) fs
 
   -- where want of lent memory ends the run
   abbrev pub R : State → Type 0
-  R st = Good s given (st .mesh) (st .quads) fs
+  R st = Good s lk given (st .mesh) (st .quads) fs
 
-  four : {m : Mesh} {qs : List Quad} → Fits s m → given + length qs ≤ m .used → All-rated (s .quality) (m .points) qs → Tracked m fs → Good s given m qs fs
-  four a b c d = record { fits = a; quads-fit = b; rated = c; tracked = d }
+  all-of : {m : Mesh} {qs : List Quad} → Fits s m → m .locked ≡ lk → given + length qs ≤ m .used → All-rated (s .quality) (m .points) qs → Tracked m fs → Good s lk given m qs fs
+  all-of a k b c d = record { fits = a; locked = k; quads-fit = b; rated = c; tracked = d }
 
   -- every state of a run is good
   pub good-rule : Rule s Q P R
@@ -61,11 +65,12 @@ module _ (s : Settings) (given : ℕ) (fs : List Edge) where
       record {
         opens = λ st es ok h o. h;
         begins = λ st es h. h;
-        flips = λ st es n m m′ e ok h i f. four (a .flips st es n m m′ e ok (h .fits) i f) (b .flips st es n m m′ e ok (h .quads-fit) i f) (c .flips st es n m m′ e ok (h .rated) i f) (d .flips st es n m m′ e ok (h .tracked) i f);
-        splits = λ st es n m x t p ok h w. four (a .splits st es n m x t p ok (h .fits) w) (b .splits st es n m x t p ok (h .quads-fit) w) (c .splits st es n m x t p ok (h .rated) w) (d .splits st es n m x t p ok (h .tracked) w);
+        flips = λ st es n m m′ e ok h i f. all-of (a .flips st es n m m′ e ok (h .fits) i f) (flip-locked m e m′ f ∙ h .locked) (b .flips st es n m m′ e ok (h .quads-fit) i f) (c .flips st es n m m′ e ok (h .rated) i f) (d .flips st es n m m′ e ok (h .tracked) i f);
+        splits = λ st es n m x t p ok h w. all-of (a .splits st es n m x t p ok (h .fits) w) (split-locked m (x .slot) t p ∙ h .locked) (b .splits st es n m x t p ok (h .quads-fit) w) (c .splits st es n m x t p ok (h .rated) w) (d .splits st es n m x t p ok (h .tracked) w);
         refuses = λ st e es why n m h ok w. w;
-        places = λ st e es n m q h w. four
+        places = λ st e es n m q h w. all-of
             (a .places st e es n m q (h .fits) (made-weaker s _ _ (λ n m k. (k .0, k .1 .fits)) (n .insertions) m q w))
+            (ap (λ k. k .locked) (w .after) ∙ replaced-locked (w .mesh) q (w .cells) ∙ w .before .1 .locked)
             (b .places st e es n m q (h .quads-fit) (made-weaker s _ _ (λ n m k. (k .0, k .1 .quads-fit)) (n .insertions) m q w))
             (c .places st e es n m q (h .rated) (made-weaker s _ _ (λ n m k. (k .0, k .1 .rated)) (n .insertions) m q w))
             (d .places st e es n m q (h .tracked) (made-weaker s _ _ (λ n m k. (k .0, k .1 .tracked)) (n .insertions) m q w));
@@ -75,11 +80,11 @@ module _ (s : Settings) (given : ℕ) (fs : List Edge) where
       }
 
 -- a run starts well
-pub start-good : (s : Settings) (ts : List Tri) (ps : List Node) → Proper ps ts → length ps ≤ s .capacity → length ts ≤ s .slots
-    → Sound (Q s (length ts) []) (start s ts ps) []
+pub start-good : (s : Settings) (lk : Edge → Bool) (ts : List Tri) (ps : List Node) → Proper ps ts → length ps ≤ s .capacity → length ts ≤ s .slots
+    → Sound (Q s lk (length ts) []) (start s lk ts ps) []
 unfolding start new-mesh
-start-good s ts ps h a b =
-    (start-valid s ts ps h, record { fits = start-fits s ts ps a b; quads-fit = omega arith; rated = λ q i. absurd i; tracked = start-tracked s ts ps })
+start-good s lk ts ps h a b =
+    (start-valid s lk ts ps h, record { fits = start-fits s lk ts ps a b; locked = refl; quads-fit = omega arith; rated = λ q i. absurd i; tracked = start-tracked s lk ts ps })
 
 -- ---- what comes back fits its slices
 
@@ -90,10 +95,10 @@ pub record Lists-fit (s : Settings) (points quads triangles sizes : ℕ) : Type 
   pub triangles-fit : triangles ≤ s .slots
   pub sizes-fit : sizes ≤ s .slots
 
-state-lists : (s : Settings) (given : ℕ) (st : State) → Sound (Q s given []) st []
+state-lists : (s : Settings) (lk : Edge → Bool) (given : ℕ) (st : State) → Sound (Q s lk given []) st []
     → Lists-fit s (length (result st .points)) (length (result st .quads)) (length (result st .triangles)) (length (result st .sizes))
 unfolding result
-state-lists s given st h =
+state-lists s lk given st h =
     let l = h .1 .fits .slots in
     let t = triangles-number (st .mesh) (h .0) in
     record {
@@ -104,18 +109,18 @@ state-lists s given st h =
     }
 
 -- the lists of a finished run fit
-pub lists-fit : (s : Settings) (ts : List Tri) (ps : List Node) (r : Result) → Proper ps ts → length ps ≤ s .capacity → length ts ≤ s .slots → run-front s ts ps ≡ ran r
+pub lists-fit : (s : Settings) (lk : Edge → Bool) (ts : List Tri) (ps : List Node) (r : Result) → Proper ps ts → length ps ≤ s .capacity → length ts ≤ s .slots → run-front s lk ts ps ≡ ran r
     → Lists-fit s (length (r .points)) (length (r .quads)) (length (r .triangles)) (length (r .sizes))
-lists-fit s ts ps r h a b e =
-    let w = run-ok s (Q s (length ts) []) (P s (length ts) []) (R s (length ts) []) (good-rule s (length ts) []) ts ps r (start-good s ts ps h a b) e in
-    subst (λ x. Lists-fit s (length (x .points)) (length (x .quads)) (length (x .triangles)) (length (x .sizes))) (sym (w .2)) (state-lists s (length ts) (w .0) (w .1))
+lists-fit s lk ts ps r h a b e =
+    let w = run-ok s (Q s lk (length ts) []) (P s lk (length ts) []) (R s lk (length ts) []) (good-rule s lk (length ts) []) lk ts ps r (start-good s lk ts ps h a b) e in
+    subst (λ x. Lists-fit s (length (x .points)) (length (x .quads)) (length (x .triangles)) (length (x .sizes))) (sym (w .2)) (state-lists s lk (length ts) (w .0) (w .1))
 
 -- the points and quads that a run leaves when want of lent memory ends it
-pub left-fit : (s : Settings) (ts : List Tri) (ps qs : List Node) (us : List Quad) (w : Want) → Proper ps ts → length ps ≤ s .capacity → length ts ≤ s .slots
-    → run-front s ts ps ≡ wanting w qs us
+pub left-fit : (s : Settings) (lk : Edge → Bool) (ts : List Tri) (ps qs : List Node) (us : List Quad) (w : Want) → Proper ps ts → length ps ≤ s .capacity → length ts ≤ s .slots
+    → run-front s lk ts ps ≡ wanting w qs us
     → (length qs ≤ s .capacity) × (length us ≤ s .slots)
-left-fit s ts ps qs us w h a b e =
-    let k = run-stopped s (Q s (length ts) []) (P s (length ts) []) (R s (length ts) []) (good-rule s (length ts) []) ts ps w qs us (start-good s ts ps h a b) e in
+left-fit s lk ts ps qs us w h a b e =
+    let k = run-stopped s (Q s lk (length ts) []) (P s lk (length ts) []) (R s lk (length ts) []) (good-rule s lk (length ts) []) lk ts ps w qs us (start-good s lk ts ps h a b) e in
     let g = k .2 in
     let p = ap length (k .3) in
     let q = ap length (k .4) in
@@ -130,6 +135,6 @@ pub answer-fits : (a : Asked) (l : Lent) (c : Counts) (n : Lengths) → call a l
 unfolding settings lengths
 answer-fits a l c n e =
     let b = behind a l c n e in
-    let w = lists-fit (settings a) (given-tris a l) (given-points a l) (b .run) (given-proper a l (b .passed))
+    let w = lists-fit (settings a) (given-locks a l) (given-tris a l) (given-points a l) (b .run) (given-proper a l (b .passed))
     (omega (arith, points-number a l (b .passed), given-fit a l (b .passed))) (omega (arith, tris-number a l (b .passed), slots-fit a l (b .passed))) (b .ended) in
     subst (λ k. Lists-fit (settings a) (k .points) (k .quads) (k .triangles) (k .components)) (sym (b .lengths-are)) w

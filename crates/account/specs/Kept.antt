@@ -1,16 +1,16 @@
 -- Every finished call keeps its account, given what is asked of exact geometry.
 use mathlib.Core.Path.{_≡_, sym, subst, refl}
-use mathlib.Core.Bool.{false}
+use mathlib.Core.Bool.{Bool, false}
 use mathlib.Core.List.{List}
 use Prim.Native.Nat.{ℕ}
 use lib.ListN.{length}
 use borrow.Author.Tests.{eq-eqb}
 use Rattle.definition.specs.Numbers.{Quality}
 use Rattle.definition.specs.Counts.{Counts}
-use Rattle.definition.specs.Plane.{Node}
+use Rattle.definition.specs.Plane.{Edge, Node}
 use Rattle.definition.specs.Cells.{Tri, Quad}
 use Rattle.definition.specs.Front.{Result, ran, run-front}
-use Rattle.definition.specs.Call.{Asked, Lent, given-points, given-tris, settings, bad-size, call}
+use Rattle.definition.specs.Call.{Asked, Lent, given-points, given-tris, given-locks, settings, bad-size, call}
 use Rattle.definition.specs.Account.{Account, Keeps-account}
 use Rattle.laws.specs.Lists.{In, all-from}
 use Rattle.exact.specs.Limits.{Limit}
@@ -24,16 +24,16 @@ use Rattle.account.specs.Finished.{behind, permitted, sized, given-prope
 
 module _ (geometry : Geometry) where
   -- the lists and counts of a run that ended
-  pub result-kept : (a : Asked) (ts : List Tri) (ps : List Node) (r : Result) → Limit (a .quality .largest-cosine) → bad-size a ≡ false → Proper ps ts → All-within ps
-      → run-front (settings a) ts ps ≡ ran r
+  pub result-kept : (a : Asked) (lk : Edge → Bool) (ts : List Tri) (ps : List Node) (r : Result) → Limit (a .quality .largest-cosine) → bad-size a ≡ false → Proper ps ts → All-within ps
+      → run-front (settings a) lk ts ps ≡ ran r
       → Account ps ts (a .stop) (a .quality) (r .counts) (r .points) (r .quads) (r .triangles) (r .sizes)
   unfolding settings
-  result-kept a ts ps r limit size proper near e =
+  result-kept a lk ts ps r limit size proper near e =
       let s = settings a in
-      let c = counted s ps ts r proper e in
-      let k = leftover s ts ps r proper e in
-      let rated = quads-rated s ts ps r proper e in
-      let within = points-within geometry s a refl size ts ps r proper near e in
+      let c = counted s ps lk ts r proper e in
+      let k = leftover s lk ts ps r proper e in
+      let rated = quads-rated s lk ts ps r proper e in
+      let within = points-within geometry s a refl size lk ts ps r proper near e in
       let sound : (q : Quad) → In q (r .quads) → Sound-quad (a .quality) (r .points) q = λ q i. sound-quad geometry (a .quality) limit (r .points) q within (rated q i) in
       record {
         points-given = points-given ps (r .points) (r .counts) (length (r .quads)) c;
@@ -57,7 +57,7 @@ module _ (geometry : Geometry) where
       let limit = geometry .limit (a .quality) (permitted a l (b .passed)) double in
       moved (sym (b .counts-are)) (sym (read-points (b .run) l exit n (b .lengths-are) (b .exit))) (sym (read-quads (b .run) l exit n (b .lengths-are) (b .exit)))
       (sym (read-triangles (b .run) l exit n (b .lengths-are) (b .exit))) (sym (read-sizes (b .run) l exit n (b .lengths-are) (b .exit)))
-      (result-kept a (given-tris a l) (given-points a l) (b .run) limit (sized a l (b .passed)) (given-proper a l (b .passed)) (given-within a l (b .passed)) (b .ended))
+      (result-kept a (given-locks a l) (given-tris a l) (given-points a l) (b .run) limit (sized a l (b .passed)) (given-proper a l (b .passed)) (given-within a l (b .passed)) (b .ended))
     where
       moved : {given : List Node} {tris : List Tri} {stop : ℕ} {y : Quality} {c d : Counts} {ps qs : List Node} {us vs : List Quad} {ks ls : List Tri} {ns os : List ℕ}
           → c ≡ d → ps ≡ qs → us ≡ vs → ks ≡ ls → ns ≡ os → Account given tris stop y c ps us ks ns → Account given tris stop y d qs vs ls os

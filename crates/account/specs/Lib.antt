@@ -17,6 +17,7 @@ pub mod Found
 pub mod Rated
 -- the walk through an attempt and through a run, for any invariant
 pub mod Steps
+pub mod Locks
 pub mod Fronts
 pub mod Run
 pub mod Start
@@ -26,11 +27,13 @@ pub mod Parity
 pub mod Rooms
 pub mod Quads
 pub mod Geometry
+pub mod Locked
 -- a finished call
 pub mod Slices
 pub mod Finished
 pub mod Kept
 pub mod Demand
+pub mod Joints
 -- edges that were refused
 pub mod Roles
 pub mod Refused

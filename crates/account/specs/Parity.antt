@@ -1,6 +1,6 @@
 -- The leftover triangles of a finished run: their components, and under the even rule, once a quad was made or where all given components were even, all even.
 use mathlib.Core.Path.{_≡_, sym, subst}
-use mathlib.Core.Bool.{true, false}
+use mathlib.Core.Bool.{Bool, true, false}
 use mathlib.Core.Logic.{_⊎_, inl, inr}
 use mathlib.Core.List.{List, []}
 use Prim.{absurd, Unit, tt}
@@ -74,9 +74,9 @@ module _ (s : Settings) (given : List Tri) where
     empties = λ st h. h;
   }
 
-  starts : (ps : List Node) → Q (start s given ps) []
+  starts : (lk : Edge → Bool) (ps : List Node) → Q (start s lk given ps) []
   unfolding start
-  starts ps must = elim (must .1) [ inl f ↦ absurd (omega arith) | inr f ↦ subst (λ l. All-even l) (sym (start-tris s given ps)) f ]
+  starts lk ps must = elim (must .1) [ inl f ↦ absurd (omega arith) | inr f ↦ subst (λ l. All-even l) (sym (start-tris s lk given ps)) f ]
 
 -- ---- a finished run
 
@@ -103,7 +103,7 @@ leftover-of s ts d st ok h =
     }
 
 -- what holds of the leftover triangles of a finished run
-pub leftover : (s : Settings) (ts : List Tri) (ps : List Node) (r : Result) → Proper ps ts → run-front s ts ps ≡ ran r → Leftover s ts r
-leftover s ts ps r h e =
-    let w = run-ok s (Q s ts) (P s ts) (λ st. Unit {0}) (rule s ts) ts ps r (start-valid s ts ps h, starts s ts ps) e in
+pub leftover : (s : Settings) (lk : Edge → Bool) (ts : List Tri) (ps : List Node) (r : Result) → Proper ps ts → run-front s lk ts ps ≡ ran r → Leftover s ts r
+leftover s lk ts ps r h e =
+    let w = run-ok s (Q s ts) (P s ts) (λ st. Unit {0}) (rule s ts) lk ts ps r (start-valid s lk ts ps h, starts s ts lk ps) e in
     subst (λ x. Leftover s ts x) (sym (w .2)) (leftover-of s ts (λ t i. h t i .distinct) (w .0) (w .1 .0) (w .1 .1))

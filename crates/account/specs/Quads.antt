@@ -1,10 +1,11 @@
 -- Every quad of a run was a rated trial: by the points of the end, as points never change, it has four different nodes of them and its metrics pass.
 use mathlib.Core.Path.{_≡_, sym, ap, _∙_, subst}
 use mathlib.Core.Logic.{inl, inr}
+use mathlib.Core.Bool.{Bool}
 use mathlib.Core.List.{List, [], _∷_, _++_}
 use Prim.{absurd}
 use Rattle.definition.specs.Numbers.{Settings, Quality}
-use Rattle.definition.specs.Plane.{Node}
+use Rattle.definition.specs.Plane.{Edge, Node}
 use Rattle.definition.specs.Cells.{Tri, Quad}
 use Rattle.definition.specs.Front.{counting, Result, ran, start, result, run-front}
 use Rattle.laws.specs.Lists.{In, in-either}
@@ -39,8 +40,8 @@ rated-rule s = record {
 }
 
 -- the quads of a finished run
-pub quads-rated : (s : Settings) (ts : List Tri) (ps : List Node) (r : Result) → Proper ps ts → run-front s ts ps ≡ ran r → All-rated (s .quality) (r .points) (r .quads)
+pub quads-rated : (s : Settings) (lk : Edge → Bool) (ts : List Tri) (ps : List Node) (r : Result) → Proper ps ts → run-front s lk ts ps ≡ ran r → All-rated (s .quality) (r .points) (r .quads)
 unfolding result start
-quads-rated s ts ps r h e =
-    let w = run-ok s _ _ _ (rated-rule s) ts ps r (start-valid s ts ps h, λ q i. absurd i) e in
+quads-rated s lk ts ps r h e =
+    let w = run-ok s _ _ _ (rated-rule s) lk ts ps r (start-valid s lk ts ps h, λ q i. absurd i) e in
     subst (λ x. All-rated (s .quality) (x .points) (x .quads)) (sym (w .2)) (w .1 .1)

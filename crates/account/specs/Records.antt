@@ -1,6 +1,7 @@
 -- Tracked edges through the run: an attempt keeps every edge of a list tracked, and candidates may join.
 use mathlib.Core.Path.{refl, sym, ap, subst}
 use mathlib.Core.Logic.{inl, inr}
+use mathlib.Core.Bool.{Bool}
 use mathlib.Core.List.{List, [], _∷_, _++_}
 use Prim.{absurd}
 use native.Mathlib.Omega.{arith}
@@ -36,6 +37,6 @@ tracked-rule s fs = record {
 }
 
 -- at the start nothing is refused
-pub start-tracked : (s : Settings) (ts : List Tri) (ps : List Node) → Tracked (start s ts ps .mesh) []
+pub start-tracked : (s : Settings) (lk : Edge → Bool) (ts : List Tri) (ps : List Node) → Tracked (start s lk ts ps .mesh) []
 unfolding start new-mesh
-start-tracked s ts ps = record { dead = []; room = omega (arith, ap length (start-tris s ts ps)); each = λ e i. absurd i }
+start-tracked s lk ts ps = record { dead = []; room = omega (arith, ap length (start-tris s lk ts ps)); each = λ e i. absurd i }

@@ -1,11 +1,12 @@
 -- Splits and quads are made only where there is room: no state has more points than the capacity, nor more slots in use than were lent.
 use mathlib.Core.Path.{_≡_, ap}
+use mathlib.Core.Bool.{Bool}
 use mathlib.Core.List.{List}
 use Prim.Native.Nat.{ℕ, _+_, _≤_}
 use native.Mathlib.Omega.{arith}
 use lib.ListN.{length}
 use Rattle.definition.specs.Numbers.{Settings}
-use Rattle.definition.specs.Plane.{Node}
+use Rattle.definition.specs.Plane.{Edge, Node}
 use Rattle.definition.specs.Cells.{Tri, Mesh, with-live, set-cell, push-cell}
 use Rattle.definition.specs.Insertion.{with-point, split-triangle}
 use Rattle.definition.specs.Front.{counting, new-mesh, start}
@@ -43,6 +44,6 @@ fits-rule s = record {
 }
 
 -- the start fits
-pub start-fits : (s : Settings) (ts : List Tri) (ps : List Node) → length ps ≤ s .capacity → length ts ≤ s .slots → Fits s (start s ts ps .mesh)
+pub start-fits : (s : Settings) (lk : Edge → Bool) (ts : List Tri) (ps : List Node) → length ps ≤ s .capacity → length ts ≤ s .slots → Fits s (start s lk ts ps .mesh)
 unfolding start new-mesh
-start-fits s ts ps a b = record { points = a; slots = b }
+start-fits s lk ts ps a b = record { points = a; slots = b }

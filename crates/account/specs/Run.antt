@@ -1,6 +1,6 @@
 -- Whatever the ends of an attempt keep, the run keeps. That every mesh is valid is part of the walk.
 use mathlib.Core.Path.{_≡_, refl, sym, subst}
-use mathlib.Core.Bool.{true}
+use mathlib.Core.Bool.{Bool, true}
 use mathlib.Core.Logic.{inl, inr}
 use mathlib.Core.List.{List, [], _∷_, _++_}
 use mathlib.Core.Option.{some}
@@ -180,11 +180,11 @@ module _ (s : Settings) (Q : State → List Edge → Type 0) (P : State → List
   outcome-ok r (stopped w st) ok e = absurd (let z : _≡_ {A = ℕ} 0 1 = cc in omega arith)
 
   -- the result of a run that finished is that of a state with Q
-  pub run-ok : (ts : List Tri) (ps : List Node) (r : Result) → Sound Q (start s ts ps) [] → run-front s ts ps ≡ ran r → (st : State) × Sound Q st [] × (r ≡ result st)
+  pub run-ok : (lk : Edge → Bool) (ts : List Tri) (ps : List Node) (r : Result) → Sound Q (start s lk ts ps) [] → run-front s lk ts ps ≡ ran r → (st : State) × Sound Q st [] × (r ≡ result st)
   unfolding run-front
-  run-ok ts ps r h e =
+  run-ok lk ts ps r h e =
       let n = s .attempts + 2 in
-      outcome-ok r (front-loop n s (length ts) (start s ts ps)) (front-loop-ok n (length ts) (start s ts ps) h) e
+      outcome-ok r (front-loop n s (length ts) (start s lk ts ps)) (front-loop-ok n (length ts) (start s lk ts ps) h) e
 
   stopped-ok : (w : Want) (ps : List Node) (qs : List Quad) (p : Progress) → Progress-ok Q R [] p → outcome p ≡ wanting w ps qs
       → (st : State) × Valid (st .mesh) × R st × (ps ≡ st .mesh .points) × (qs ≡ st .quads)
@@ -195,9 +195,9 @@ module _ (s : Settings) (Q : State → List Edge → Type 0) (P : State → List
   stopped-ok w ps qs (stopped v st) ok e = (st, ok .0, ok .1, cc, cc)
 
   -- a run that ended for want of lent memory ended in a state with R
-  pub run-stopped : (ts : List Tri) (ps : List Node) (w : Want) (qs : List Node) (us : List Quad) → Sound Q (start s ts ps) [] → run-front s ts ps ≡ wanting w qs us
+  pub run-stopped : (lk : Edge → Bool) (ts : List Tri) (ps : List Node) (w : Want) (qs : List Node) (us : List Quad) → Sound Q (start s lk ts ps) [] → run-front s lk ts ps ≡ wanting w qs us
       → (st : State) × Valid (st .mesh) × R st × (qs ≡ st .mesh .points) × (us ≡ st .quads)
   unfolding run-front
-  run-stopped ts ps w qs us h e =
+  run-stopped lk ts ps w qs us h e =
       let n = s .attempts + 2 in
-      stopped-ok w qs us (front-loop n s (length ts) (start s ts ps)) (front-loop-ok n (length ts) (start s ts ps) h) e
+      stopped-ok w qs us (front-loop n s (length ts) (start s lk ts ps)) (front-loop-ok n (length ts) (start s lk ts ps) h) e

@@ -1,5 +1,6 @@
 -- The mesh that a run starts from is valid.
 use mathlib.Core.Path.{_≡_, refl, sym, ap, _∙_, subst}
+use mathlib.Core.Bool.{Bool}
 use mathlib.Core.List.{List, [], _∷_}
 use mathlib.Core.Logic.{inl, inr}
 use Prim.{absurd, tt}
@@ -8,13 +9,14 @@ use native.Mathlib.Omega.{arith}
 use lib.ListN.{length}
 use Rattle.definition.specs.Lists.{flat-map}
 use Rattle.definition.specs.Numbers.{Settings}
-use Rattle.definition.specs.Plane.{Node}
+use Rattle.definition.specs.Plane.{Edge, Node}
 use Rattle.definition.specs.Cells.{Tri, tri, Live, new-live, tri-of, tris-of}
 use Rattle.definition.specs.Front.{in-slots, new-mesh, start}
 use Rattle.laws.specs.Lists.{In}
 use Rattle.account.specs.Valid.{Slots, Good-tri, Valid, not-both}
 
-in-slots-at : (n : ℕ) (ts : List Tri) (x : Live) → In x (in-slots n ts) → (n ≤ x .slot) × (x .slot < n + length ts) × ((t : Tri) × (x .cell ≡ tri t))
+-- a given triangle is in the slot of its place
+pub in-slots-at : (n : ℕ) (ts : List Tri) (x : Live) → In x (in-slots n ts) → (n ≤ x .slot) × (x .slot < n + length ts) × ((t : Tri) × (x .cell ≡ tri t))
 unfolding in-slots new-live
 in-slots-at n [] x i = absurd i
 in-slots-at n (t ∷ ts) x (inl e) = let f : x .slot ≡ n = ap (λ l. l .slot) e in (omega arith, omega arith, (t, ap (λ l. l .cell) e))
@@ -36,14 +38,14 @@ abbrev pub Proper : List Node → List Tri → Type 0
 Proper ps ts = (t : Tri) → In t ts → Good-tri (length ps) t
 
 -- so at the start of a run
-pub start-tris : (s : Settings) (ts : List Tri) (ps : List Node) → tris-of (start s ts ps .mesh .live) ≡ ts
+pub start-tris : (s : Settings) (lk : Edge → Bool) (ts : List Tri) (ps : List Node) → tris-of (start s lk ts ps .mesh .live) ≡ ts
 unfolding start new-mesh
-start-tris s ts ps = in-slots-tris 0 ts
+start-tris s lk ts ps = in-slots-tris 0 ts
 
 -- the mesh is valid
-pub start-valid : (s : Settings) (ts : List Tri) (ps : List Node) → Proper ps ts → Valid (start s ts ps .mesh)
+pub start-valid : (s : Settings) (lk : Edge → Bool) (ts : List Tri) (ps : List Node) → Proper ps ts → Valid (start s lk ts ps .mesh)
 unfolding start new-mesh
-start-valid s ts ps h = record {
+start-valid s lk ts ps h = record {
   slots = in-slots-apart 0 ts;
   given = λ x i. let r = in-slots-at 0 ts x i in omega arith;
   tris = λ t i. h t (subst (λ l. In t l) (in-slots-tris 0 ts) i);

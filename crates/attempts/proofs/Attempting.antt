@@ -24,6 +24,7 @@ use Rattle.laws.specs.Lists.{In, all-from, in-right, none-in}
 use Rattle.laws.specs.Cells.{same-self}
 use Rattle.laws.specs.Frames.{Under}
 use Rattle.account.specs.Counting.{added-refused}
+use Rattle.joints.specs.Table.{Locks}
 use Rattle.rules.specs.declared.Rules.{Rules}
 use Rattle.rules.specs.Settings.{settings-of}
 use Rattle.account.specs.Run.{Progress-ok}
@@ -120,7 +121,7 @@ few-from g c e n h l1 l2 l3 l4 l5 l6 l7 l8 =
     }
 
 module _ (x : Setup) (st : State) (old es : List Edge) (f : Fixed x) (small : x .rules .capacity ≤ 8192) (reach : Gets x f st old es) where
-  sd : Reached-state (settings-of (x .rules)) (x .begun .ts) (x .begun .ps) st old es
+  sd : Reached-state (settings-of (x .rules)) (x .begun .locked) (x .begun .ts) (x .begun .ps) st old es
   sd = sound x f st old es reach
 
   -- attempts and insertions are few
@@ -173,8 +174,11 @@ module _ (x : Setup) (w : List ℕ) (q : List Float) (quads : List ℕ) (g : Sta
   before : Gets x fx st (k .reaches .old) ((u, v) ∷ es)
   before = k .reaches .reach
 
-  sb : Reached-state (settings-of (x .rules)) (x .begun .ts) (x .begun .ps) st (k .reaches .old) ((u, v) ∷ es)
+  sb : Reached-state (settings-of (x .rules)) (x .begun .locked) (x .begun .ts) (x .begun .ps) st (k .reaches .old) ((u, v) ∷ es)
   sb = sound x fx st (k .reaches .old) ((u, v) ∷ es) before
+
+  pub locks : {j : List ℕ} → Locks j (x .begun .locked) → Locks j (st .mesh .locked)
+  locks {j} l = subst (Locks j) (sym (sb .good .locked)) l
 
   pub up : u < v
   up = sb .ordered (u, v) (inl refl)
@@ -268,7 +272,7 @@ module _ (x : Setup) (w : List ℕ) (q : List Float) (quads : List ℕ) (g : Sta
     refused-room : m .used ≤ x .rules .slots → length (with-edge (u, v) (k .ever)) ≤ 3 * x .rules .slots
     unfolding settings-of
     refused-room l =
-        let b = records-fit (settings-of (x .rules)) (x .begun .ts) (x .begun .ps) (fx .proper) (fx .points) (fx .slots) refused-state ((u, v) ∷ k .reaches .old) es (with-edge (u, v) (k .ever)) refused-reach
+        let b = records-fit (settings-of (x .rules)) (x .begun .locked) (x .begun .ts) (x .begun .ps) (fx .proper) (fx .points) (fx .slots) refused-state ((u, v) ∷ k .reaches .old) es (with-edge (u, v) (k .ever)) refused-reach
         (pairwise-of (x .rules .capacity) (with-edge (u, v) (k .ever)) (with-distinct (x .rules .capacity) (u, v) (k .ever) is-edge (blocks-before .lists .distinct)))
         (λ f i. in-right f es ((u, v) ∷ k .reaches .old) (deeper f (with-in (u, v) (k .ever) f i))) in
         omega (arith, b, l)

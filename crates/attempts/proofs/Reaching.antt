@@ -31,7 +31,7 @@ use Rattle.attempts.specs.Runs.{Setup, Sized, Fixed}
 
 -- a call that asks for them
 abbrev asked-of : Setup → Asked
-asked-of x = record { given = 0; capacity = x .rules .capacity; count = 0; slots = x .rules .slots; size = x .rules .size; stop = cond (x .rules .even) 1 0; quality = settings-of (x .rules) .quality }
+asked-of x = record { given = 0; capacity = x .rules .capacity; count = 0; slots = x .rules .slots; joints = 0; size = x .rules .size; stop = cond (x .rules .even) 1 0; quality = settings-of (x .rules) .quality }
 
 same-size : (x : Setup) → settings-of (x .rules) .size ≡ asked-of x .size
 unfolding settings-of
@@ -113,7 +113,7 @@ module _ (x : Setup) (sized : Sized (x .rules .size)) (from : List Node) (n₀ :
 
 -- what an attempt leaves, from the state before it
 pub attempt-fine : (x : Setup) → Sized (x .rules .size) → (old : List Edge) (st : State) (e : Edge) (es : List Edge)
-    → Reached-state (settings-of (x .rules)) (x .begun .ts) (x .begun .ps) st old (e ∷ es) → All-within (st .mesh .points)
+    → Reached-state (settings-of (x .rules)) (x .begun .locked) (x .begun .ts) (x .begun .ps) st old (e ∷ es) → All-within (st .mesh .points)
     → Progress-ok (Q (st .mesh .points) (st .counts .mismatch-insertions)) (R (st .mesh .points) (st .counts .mismatch-insertions)) es (attempt (settings-of (x .rules)) (length (x .begun .ts)) st e)
 attempt-fine x sized old st e es w h =
     attempt-ok (settings-of (x .rules)) (Q (st .mesh .points) (st .counts .mismatch-insertions)) (P (st .mesh .points) (st .counts .mismatch-insertions)) (R (st .mesh .points) (st .counts .mismatch-insertions))
@@ -151,11 +151,11 @@ attempt-never s given st e h =
 
 module _ (x : Setup) (f : Fixed x) where
   abbrev pub Gets : State → List Edge → List Edge → Type 0
-  Gets st old es = Reach (settings-of (x .rules)) (x .begun .ts) (x .begun .ps) st old es
+  Gets st old es = Reach (settings-of (x .rules)) (x .begun .locked) (x .begun .ts) (x .begun .ps) st old es
 
-  pub sound : (st : State) (old es : List Edge) → Gets st old es → Reached-state (settings-of (x .rules)) (x .begun .ts) (x .begun .ps) st old es
+  pub sound : (st : State) (old es : List Edge) → Gets st old es → Reached-state (settings-of (x .rules)) (x .begun .locked) (x .begun .ts) (x .begun .ps) st old es
   unfolding settings-of
-  sound st old es r = reach-sound (settings-of (x .rules)) (x .begun .ts) (x .begun .ps) (f .proper) (f .points) (f .slots) st old es r
+  sound st old es r = reach-sound (settings-of (x .rules)) (x .begun .locked) (x .begun .ts) (x .begun .ps) (f .proper) (f .points) (f .slots) st old es r
 
   fine-in : (Z : Progress → Type 0) (p q : Progress) → p ≡ q → Z p → Z q
   fine-in Z p q e z = subst Z e z

@@ -1,6 +1,6 @@
 -- The lent memory and the standing stand for a state of a run.
 use mathlib.Core.Path.{_≡_}
-use mathlib.Core.Bool.{false, not, _&&_, _||_}
+use mathlib.Core.Bool.{Bool, false, not, _&&_, _||_}
 use mathlib.Core.List.{List, [], _∷_}
 use Prim.Native.Nat.{ℕ, _*_, _≤_}
 use lib.ListN.{length}
@@ -29,8 +29,9 @@ use Rattle.settling.specs.declared.standing.Going.the-variants as goings
 use Rattle.settling.specs.Standings.{counts-of}
 use Rattle.settling.specs.Settles.{Kept-so-far, want-kind}
 
--- what a run was given, beside the numbers: triangles, points, and the slices of points and quads as they were
+-- what a run was given, beside the numbers: the locked edges, triangles, points, and the slices of points and quads as they were
 pub record Begun : Type 0 where
+  pub locked : Edge → Bool
   pub ts : List Tri
   pub ps : List Node
   pub floats : List Float
@@ -80,7 +81,7 @@ pub record Holds (w : List ℕ) (q : List Float) (quads : List ℕ) (x : Setup) 
 pub record Reaches (x : Setup) (st : State) (ever es : List Edge) : Type 0 where
   pub fixed : Fixed x
   pub old : List Edge
-  pub reach : Reach (settings-of (x .rules)) (x .begun .ts) (x .begun .ps) st old es
+  pub reach : Reach (settings-of (x .rules)) (x .begun .locked) (x .begun .ts) (x .begun .ps) st old es
   pub sub : (e : Edge) → In e ever → In e old
 
 -- the run goes on from the state that the memory stands for

@@ -19,6 +19,7 @@ ghost use lib.Dec.{ltb};
 ghost use Rattle.definition.specs.Numbers.{max-triangles};
 ghost use Rattle.definition.specs.Plane.{Edge};
 ghost use Rattle.definition.specs.Front.{State, attempt};
+ghost use Rattle.joints.specs.Table.{Locks};
 ghost use Rattle.rules.specs.Settings.{settings-of};
 ghost use Rattle.attempts.specs.Runs.{Begun, setup, Goes, Makes, StepTo};
 
@@ -42,21 +43,22 @@ fn past_limit(most: usize, given: usize, c: Counters) -> bool
 fn make_attempt(
     w: &mut [u32],
     q: &mut [f64],
+    j: &[u32],
     quads: &mut [u32],
     rules: Rules,
     g: Standing,
     u: usize,
     v: usize,
 ) -> Step
-    requires { ⌜ ((k : Begun) × (st : State) × (es : List Edge) × Makes (now w) (now q) (now quads) (setup rules k) g st (u, v) es) ⌝ }
-    ensures { λ r. ⌜ ((k : Begun) (st : State) (es : List Edge) → Makes (now (w .entry)) (now (q .entry)) (now (quads .entry)) (setup rules k) g st (u, v) es → StepTo (now (w .entry)) (now (w .exit)) (now (q .exit)) (now (quads .exit)) (setup rules k) es (attempt (settings-of rules) (rules .given) st (u, v)) r) ⌝ }
+    requires { ⌜ ((k : Begun) × (st : State) × (es : List Edge) × Makes (now w) (now q) (now quads) (setup rules k) g st (u, v) es × Locks (now j) (k .locked)) ⌝ }
+    ensures { λ r. ⌜ ((k : Begun) (st : State) (es : List Edge) → Makes (now (w .entry)) (now (q .entry)) (now (quads .entry)) (setup rules k) g st (u, v) es → Locks (now (j .entry)) (k .locked) → StepTo (now (w .entry)) (now (w .exit)) (now (q .exit)) (now (quads .exit)) (setup rules k) es (attempt (settings-of rules) (rules .given) st (u, v)) r) ⌝ }
 {
     let c = g.counters;
     if !is_front(w, rules.slots, rules.capacity, u, v) {
         let off = without_quad(End::Placement, c, 0);
         return settle(w, quads, rules.slots, rules.capacity, g, off, u, v);
     }
-    let t = try_quad(w, q, rules, c, u, v);
+    let t = try_quad(w, q, j, rules, c, u, v);
     settle(w, quads, rules.slots, rules.capacity, g, t, u, v)
 }
 
@@ -64,14 +66,15 @@ fn make_attempt(
 pub fn attempt_one(
     w: &mut [u32],
     q: &mut [f64],
+    j: &[u32],
     quads: &mut [u32],
     rules: Rules,
     before: Standing,
     u: usize,
     v: usize,
 ) -> Step
-    requires { ⌜ ((k : Begun) × (st : State) × (es : List Edge) × Goes (now w) (now q) (now quads) (setup rules k) before st ((u, v) ∷ es)) ⌝ }
-    ensures { λ r. ⌜ ((k : Begun) (st : State) (es : List Edge) → Goes (now (w .entry)) (now (q .entry)) (now (quads .entry)) (setup rules k) before st ((u, v) ∷ es) → StepTo (now (w .entry)) (now (w .exit)) (now (q .exit)) (now (quads .exit)) (setup rules k) es (attempt (settings-of rules) (rules .given) st (u, v)) r) ⌝ }
+    requires { ⌜ ((k : Begun) × (st : State) × (es : List Edge) × Goes (now w) (now q) (now quads) (setup rules k) before st ((u, v) ∷ es) × Locks (now j) (k .locked)) ⌝ }
+    ensures { λ r. ⌜ ((k : Begun) (st : State) (es : List Edge) → Goes (now (w .entry)) (now (q .entry)) (now (quads .entry)) (setup rules k) before st ((u, v) ∷ es) → Locks (now (j .entry)) (k .locked) → StepTo (now (w .entry)) (now (w .exit)) (now (q .exit)) (now (quads .exit)) (setup rules k) es (attempt (settings-of rules) (rules .given) st (u, v)) r) ⌝ }
 {
     let g = counted(before);
     let c = g.counters;
@@ -82,5 +85,5 @@ pub fn attempt_one(
             standing: h,
         };
     }
-    make_attempt(w, q, quads, rules, g, u, v)
+    make_attempt(w, q, j, quads, rules, g, u, v)
 }

@@ -13,6 +13,7 @@ use Rattle.definition.specs.Cells.{Mesh, node-at}
 use Rattle.definition.specs.Call.{point-at, first-points}
 use Rattle.definition.specs.Insertion.{with-point}
 use Rattle.laws.specs.Lists.{getD-any, table-at, numbers-snoc}
+use Rattle.laws.specs.Tables.{table-ext}
 use Rattle.cells.specs.Rep.{Pts}
 
 -- point v as it is read
@@ -42,13 +43,6 @@ pub table-snoc : {B : Type 0} (f : ℕ → B) (l : List ℕ) (x : ℕ) → table
 unfolding table
 table-snoc f [] x = refl
 table-snoc {B} f (y ∷ l) x = ap (λ (k : List B). f y ∷ k) (table-snoc f l x)
-
-table-ext : {B : Type 0} (f g : ℕ → B) (a n : ℕ) → ((v : ℕ) → a ≤ v → v < a + n → f v ≡ g v) → table f (numbers a n) ≡ table g (numbers a n)
-unfolding table numbers
-table-ext f g a zero h = refl
-table-ext {B} f g a (suc n) h =
-    let e : f a ≡ g a = h a (omega arith) (omega arith) in
-    rw e (ap (λ (l : List B). g a ∷ l) (table-ext f g (suc a) n (λ v x y. h v (omega arith) (omega arith))))
 
 at-read : (q : List Float) (v : ℕ) → 3 * v + 3 ≤ length q → point-at q v ≡ read-point q v
 unfolding point-at

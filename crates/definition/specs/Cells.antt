@@ -32,13 +32,14 @@ pub record Live : Type 0 where
   pub slot : ℕ
   pub cell : Cell
 
--- The points; how many slots were given out so far; the live cells; and the bucket's side. All else that the Rust's `CellMesh` holds follows from these.
--- A removed cell's slot is never used again.
+-- The points; how many slots were given out so far; the live cells; the bucket's side; and which edges are locked. All else that the Rust's `CellMesh` holds follows
+-- from these. A removed cell's slot is never used again.
 pub record Mesh : Type 0 where
   pub points : List Node
   pub used : ℕ
   pub live : List Live
   pub bucket : Float
+  pub locked : Edge → Bool
 
 -- the triangle of three nodes
 unfoldable pub new-tri : ℕ → ℕ → ℕ → Tri
@@ -160,6 +161,10 @@ is-front m e = front-owners (owners m e)
 unfoldable pub has-edge : Mesh → ℕ → ℕ → Bool
 has-edge m u v = any (owns (key u v)) (m .live)
 
+-- the edge is locked: it is not flipped, and no quad covers it
+unfoldable pub is-locked : Mesh → Edge → Bool
+is-locked m e = m .locked e
+
 -- ---- the whole mesh
 
 -- how many live triangles there are
@@ -213,7 +218,7 @@ front m = flat-map (front-at m) (below (length (m .points)))
 
 -- the mesh with other live cells
 unfoldable pub with-live : Mesh → ℕ → List Live → Mesh
-with-live m n xs = record { points = m .points; used = n; live = xs; bucket = m .bucket }
+with-live m n xs = record { points = m .points; used = n; live = xs; bucket = m .bucket; locked = m .locked }
 
 -- the cells in other slots
 unfoldable pub without : ℕ → List Live → List Live

@@ -9,7 +9,7 @@ use Rattle.definition.specs.Lists.{filter, first, sort}
 use Rattle.definition.specs.Floats.{_⊗_, _⊘_, _≼_, lesser, greater, 0·0}
 use Rattle.definition.specs.Root.{floor}
 use Rattle.definition.specs.Plane.{Node, Edge, side, segments-cross}
-use Rattle.definition.specs.Cells.{Tri, Cell, tri, quad, Live, Mesh, new-tri, edge-before, touches, node-at, owners, has-edge, all-edges, set-cell}
+use Rattle.definition.specs.Cells.{Tri, Cell, tri, quad, Live, Mesh, new-tri, edge-before, touches, node-at, owners, has-edge, is-locked, all-edges, set-cell}
 
 -- ---- flip
 
@@ -76,9 +76,9 @@ flip-owners m e (x ∷ []) = none
 flip-owners m e (x ∷ y ∷ []) = flip-cells m e (x .slot) (x .cell) (y .slot) (y .cell)
 flip-owners m e (x ∷ y ∷ z ∷ more) = none
 
--- the mesh with the edge flipped; none unless it has exactly two owners, both triangles, that form a strictly convex quad
+-- the mesh with the edge flipped; none where it is locked, and unless it has exactly two owners, both triangles, that form a strictly convex quad
 unfoldable pub flip : Mesh → Edge → Option Mesh
-flip m e = flip-owners m e (owners m e)
+flip m e = let free = flip-owners m e (owners m e) in cond (is-locked m e) none free
 
 -- ---- first_crossing
 

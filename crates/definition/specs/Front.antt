@@ -140,15 +140,15 @@ unfoldable pub in-slots : ℕ → List Tri → List Live
 in-slots n [] = []
 in-slots n (t ∷ ts) = new-live n (tri t) ∷ in-slots (suc n) ts
 
--- `CellMesh::new`: every given triangle live; without a size the bucket is 1.0
-unfoldable pub new-mesh : Settings → List Tri → List Node → Mesh
-new-mesh s ts ps = record { points = ps; used = length ts; live = in-slots 0 ts; bucket = cond (tiny-size ≺ s .size) (s .size) 1·0 }
+-- `CellMesh::new`: every given triangle live; without a size the bucket is 1.0; these edges are locked
+unfoldable pub new-mesh : Settings → (Edge → Bool) → List Tri → List Node → Mesh
+new-mesh s locked ts ps = record { points = ps; used = length ts; live = in-slots 0 ts; bucket = cond (tiny-size ≺ s .size) (s .size) 1·0; locked = locked }
 
 -- the given mesh, nothing made, blocked or counted
-unfoldable pub start : Settings → List Tri → List Node → State
-start s ts ps =
+unfoldable pub start : Settings → (Edge → Bool) → List Tri → List Node → State
+start s locked ts ps =
     record {
-      mesh = new-mesh s ts ps;
+      mesh = new-mesh s locked ts ps;
       quads = [];
       blocked = [];
       counts = no-counts;
@@ -168,5 +168,5 @@ outcome (limited st) = ran (result st)
 outcome (stopped w st) = wanting w (st .mesh .points) (st .quads)
 
 -- rounds enough: each that places a quad makes an attempt, and at most `attempts` are made
-unfoldable pub run-front : Settings → List Tri → List Node → Outcome
-run-front s ts ps = outcome (front-loop (s .attempts + 2) s (length ts) (start s ts ps))
+unfoldable pub run-front : Settings → (Edge → Bool) → List Tri → List Node → Outcome
+run-front s locked ts ps = outcome (front-loop (s .attempts + 2) s (length ts) (start s locked ts ps))

@@ -44,7 +44,7 @@ holder m seed p = find (λ x. holds m p (x .cell)) (live-region m seed p (insert
 
 -- a point added after the others
 unfoldable pub with-point : Mesh → Node → Mesh
-with-point m p = record { points = m .points ++ (p ∷ []); used = m .used; live = m .live; bucket = m .bucket }
+with-point m p = record { points = m .points ++ (p ∷ []); used = m .used; live = m .live; bucket = m .bucket; locked = m .locked }
 
 -- the first third keeps the slot; the other two take new ones
 unfoldable pub split-triangle : Mesh → ℕ → Tri → Node → Mesh

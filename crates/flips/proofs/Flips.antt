@@ -12,10 +12,10 @@ use lib.Ieee.{Float}
 use borrow.Author.Tests.{eq-eqb, ne-eqb}
 use Rattle.definition.specs.Floats.{_⊗_, _≼_, 0·0}
 use Rattle.definition.specs.Plane.{Edge, side}
-use Rattle.definition.specs.Cells.{Tri, Cell, tri, quad, Live, Mesh, nodes, tri-nodes, quad-nodes, new-tri, new-live, key, tri-has, has-side, owns, owners, set-cell, with-live}
+use Rattle.definition.specs.Cells.{Tri, Cell, tri, quad, Live, Mesh, nodes, tri-nodes, quad-nodes, new-tri, new-live, key, tri-has, has-side, owns, owners, is-locked, set-cell, with-live}
 use Rattle.definition.specs.Call.{point-at}
 use Rattle.definition.specs.Flips.{off-edge, third, is-step, runs, first-turned, second-turned, set-tris, flipped, convex-pair, flip-tris, flip-cells, flip-owners, flip, apart}
-use Rattle.laws.specs.Bools.{and-left, and-right}
+use Rattle.laws.specs.Bools.{and-left, and-right, cond-ok}
 use Rattle.plane.specs.Points.{Within, node-of}
 use Rattle.cells.specs.Rep.{Shape, CellAt, Has, here, there, Rep, Pts}
 use Rattle.cells.specs.Walk.{At, Next}
@@ -55,10 +55,33 @@ live-path x i t p q = λ k. record { slot = sym p k; cell = q k }
 pair-path : (o : List Live) (x y x' y' : Live) → o ≡ x ∷ y ∷ [] → x ≡ x' → y ≡ y' → o ≡ x' ∷ y' ∷ []
 pair-path o x y x' y' h p q = cc
 
+-- ---- the lock
+
+module _ (m : Mesh) (e : Edge) where
+  pub flip-locked : is-locked m e ≡ true → flip m e ≡ none
+  unfolding flip
+  flip-locked h = rw h
+
+  flip-free : is-locked m e ≡ false → flip m e ≡ flip-owners m e (owners m e)
+  unfolding flip
+  flip-free h = rw h
+
+  -- what its owners do not allow is no flip, locked or not
+  unturned : flip-owners m e (owners m e) ≡ none → flip m e ≡ none
+  unfolding flip
+  unturned h = cond-ok (λ o. o ≡ none) (is-locked m e) none (flip-owners m e (owners m e)) (λ z. refl) (λ z. h)
+
+-- the edge u-v is locked as the joints say
+pub lock-is : (m : Mesh) (u v : ℕ) (r : Bool) → u < v → r ≡ m .locked (u, v) → is-locked m (key u v) ≡ r
+unfolding is-locked
+lock-is m u v r up e = ap (m .locked) (key-up u v up) ∙ sym e
+
+-- ---- the owners of an edge, one after the other
+
 module _ (w : List ℕ) (s p u v : ℕ) (m : Mesh) (c1 : ℕ) (a1 : At w s p u v c1 (owners m (key u v))) where
   pub no-owner : 4 * s ≤ c1 → flip m (key u v) ≡ none
-  unfolding flip flip-owners
-  no-owner h = rw (at-end w s p u v c1 (owners m (key u v)) a1 h)
+  unfolding flip-owners
+  no-owner h = unturned m (key u v) (rw (at-end w s p u v c1 (owners m (key u v)) a1 h))
 
   module _ (h1 : c1 < 4 * s) (c2 : ℕ) (n1 : Next w s p u v c1 c2) where
     pub here1 : Here w s p c1 (owners m (key u v))
@@ -68,8 +91,8 @@ module _ (w : List ℕ) (s p u v : ℕ) (m : Mesh) (c1 : ℕ) (a1 : At w s p u v
     at2 = n1 .at (here1 .x) (here1 .more) (subst (λ (l : List Live). At w s p u v c1 l) (here1 .is) a1)
 
     pub one-owner : 4 * s ≤ c2 → flip m (key u v) ≡ none
-    unfolding flip flip-owners
-    one-owner h = rw (here1 .is, at-end w s p u v c2 (here1 .more) at2 h)
+    unfolding flip-owners
+    one-owner h = unturned m (key u v) (rw (here1 .is, at-end w s p u v c2 (here1 .more) at2 h))
 
     module _ (h2 : c2 < 4 * s) (c3 : ℕ) (n2 : Next w s p u v c2 c3) where
       here2 : Here w s p c2 (here1 .more)
@@ -79,17 +102,17 @@ module _ (w : List ℕ) (s p u v : ℕ) (m : Mesh) (c1 : ℕ) (a1 : At w s p u v
       at3 = n2 .at (here2 .x) (here2 .more) (subst (λ (l : List Live). At w s p u v c2 l) (here2 .is) at2)
 
       pub three-owners : c3 < 4 * s → flip m (key u v) ≡ none
-      unfolding flip flip-owners
-      three-owners h = rw (here1 .is, here2 .is, at-here w s p u v c3 (here2 .more) at3 h .is)
+      unfolding flip-owners
+      three-owners h = unturned m (key u v) (rw (here1 .is, here2 .is, at-here w s p u v c3 (here2 .more) at3 h .is))
 
       two : 4 * s ≤ c3 → owners m (key u v) ≡ here1 .x ∷ here2 .x ∷ []
       two h = here1 .is ∙ ap (λ (l : List Live). here1 .x ∷ l) (here2 .is ∙ ap (λ (l : List Live). here2 .x ∷ l) (at-end w s p u v c3 (here2 .more) at3 h))
 
       pub other-kinds : 4 * s ≤ c3 → (Kinds w (c1 / 4) (c2 / 4) → ⊥) → flip m (key u v) ≡ none
-      unfolding flip flip-owners
+      unfolding flip-owners
       other-kinds h k =
-          rw (two h) (kinds-none w s (here1 .x .slot) (here2 .x .slot) m (key u v) (here1 .x .cell) (here2 .x .cell) (here1 .held .at) (here2 .held .at)
-          (λ z. k (record { first = rw (here1 .slot) (z .first); second = rw (here2 .slot) (z .second) })))
+          unturned m (key u v) (rw (two h) (kinds-none w s (here1 .x .slot) (here2 .x .slot) m (key u v) (here1 .x .cell) (here2 .x .cell) (here1 .held .at) (here2 .held .at)
+          (λ z. k (record { first = rw (here1 .slot) (z .first); second = rw (here2 .slot) (z .second) }))))
 
       pub both-tris : 4 * s ≤ c3 → Kinds w (c1 / 4) (c2 / 4) → TwinsAt m u v (c1 / 4) (c2 / 4)
       both-tris h k =
@@ -199,18 +222,18 @@ module _ (w : List ℕ) (s p : ℕ) (m : Mesh) (u v i j x y : ℕ) (t : Tri) whe
 -- ---- the flip
 
 module _ (m : Mesh) (u v i j : ℕ) (up : u < v) (t : TwinsAt m u v i j) where
-  flip-two : flip m (key u v) ≡ flip-tris m (u, v) i (t .s) j (t .t)
-  unfolding flip flip-owners flip-cells new-live
+  flip-two : flip-owners m (key u v) (owners m (key u v)) ≡ flip-tris m (u, v) i (t .s) j (t .t)
+  unfolding flip-owners flip-cells new-live
   flip-two = (rw (t .own)) ∙ ap (λ (e : Edge). flip-tris m e i (t .s) j (t .t)) (key-up u v up)
 
   module _ (x y : ℕ) (ex : x ≡ third (t .s) (u, v)) (ey : y ≡ third (t .t) (u, v)) (r : Bool) (e : r ≡ convex-pair m u v x y) where
     pub flip-flat : r ≡ false → flip m (key u v) ≡ none
     unfolding flip-tris
-    flip-flat h = rw (flip-two, ← ex, ← ey, ← e, h)
+    flip-flat h = unturned m (key u v) (rw (flip-two, ← ex, ← ey, ← e, h))
 
-    pub flip-turned : r ≡ true → (o : Tri) → o ≡ t .s → flip m (key u v) ≡ some (flipped m (u, v) i o j x y)
+    pub flip-turned : is-locked m (key u v) ≡ false → r ≡ true → (o : Tri) → o ≡ t .s → flip m (key u v) ≡ some (flipped m (u, v) i o j x y)
     unfolding flip-tris
-    flip-turned h o q = rw (flip-two, ← ex, ← ey, ← e, h) (ap (λ (z : Tri). some (flipped m (u, v) i z j x y)) (sym q))
+    flip-turned l h o q = rw (flip-free m (key u v) l, flip-two, ← ex, ← ey, ← e, h) (ap (λ (z : Tri). some (flipped m (u, v) i z j x y)) (sym q))
 
 pub flip-none : (w : List ℕ) (s p : ℕ) (m : Mesh) (u v : ℕ) → flip m (key u v) ≡ none → Rep w s p m → FlipTo w s p m (flip m (key u v)) false
 flip-none w s p m u v h r = rw h ((refl, r))

@@ -8,8 +8,9 @@ use native.Mathlib.Omega.{arith}
 use lib.ListN.{length}
 use lib.Ieee.{Float}
 use Rattle.definition.specs.Plane.{Edge}
-use Rattle.definition.specs.Cells.{Tri, Cell, tri, quad, Live, Mesh, key, owners, has-edge, set-cell, with-live}
+use Rattle.definition.specs.Cells.{Tri, Cell, tri, quad, Live, Mesh, key, owners, has-edge, is-locked, set-cell, with-live}
 use Rattle.definition.specs.Flips.{third, convex-pair, set-tris, flipped, flip-tris, flip-cells, flip-owners, flip, first-crossing, flip-first, Recovered, recover-in, recover}
+use Rattle.laws.specs.Bools.{cond-ok}
 use Rattle.cells.specs.Rep.{Rep}
 use Rattle.cells.specs.Walk.{IsEdge}
 use Rattle.cells.proofs.Edges.{key-up}
@@ -19,12 +20,13 @@ use Rattle.flips.specs.Nodes.{Up}
 use Rattle.crossings.specs.Cross.{Known, Segment, FirstAt}
 use Rattle.flips.specs.Recover.{RecoverTo}
 
--- ---- points, slots and bucket stay
+-- ---- points, slots, bucket and locked edges stay
 
 pub record Kept (m m' : Mesh) : Type 0 where
   pub points : m' .points ≡ m .points
   pub used : m' .used ≡ m .used
   pub bucket : m' .bucket ≡ m .bucket
+  pub locked : m' .locked ≡ m .locked
 
 abbrev pub KeptBy : Mesh → Option Mesh → Type 0
 KeptBy m none = Unit {0}
@@ -33,7 +35,7 @@ KeptBy m (some m') = Kept m m'
 module _ (m : Mesh) (e : Edge) where
   turned-kept : (i j : ℕ) (s : Tri) (x y : ℕ) → Kept m (flipped m e i s j x y)
   unfolding flipped set-tris set-cell with-live
-  turned-kept i j s x y = record { points = refl; used = refl; bucket = refl }
+  turned-kept i j s x y = record { points = refl; used = refl; bucket = refl; locked = refl }
 
   tris-kept : (i j : ℕ) (s t : Tri) → KeptBy m (flip-tris m e i s j t)
   unfolding flip-tris
@@ -58,7 +60,7 @@ module _ (m : Mesh) (e : Edge) where
 
   pub flip-kept : KeptBy m (flip m e)
   unfolding flip
-  flip-kept = owners-kept (owners m e)
+  flip-kept = cond-ok (KeptBy m) (is-locked m e) none (flip-owners m e (owners m e)) (λ z. tt) (λ z. owners-kept (owners m e))
 
 pub known-kept : (w w' : List ℕ) (q : List Float) (s p n : ℕ) (bucket : Float) (m m' : Mesh) → Known w q s p n bucket m → Kept m m' → Rep w' s p m' → Known w' q s p n bucket m'
 known-kept w w' q s p n bucket m m' k e r =
@@ -128,17 +130,18 @@ pub record Going (w : List ℕ) (q : List Float) (s p n used : ℕ) (bucket : Fl
   pub mesh : Mesh
   pub known : Known w q s p n bucket mesh
   pub given : mesh .used ≡ used
+  pub locks : mesh .locked ≡ m₀ .locked
   pub same : recover-in used m₀ u v ≡ recover-in (used - k) mesh u v
 
 pub going-start : (w : List ℕ) (q : List Float) (s p n used : ℕ) (bucket : Float) (u v : ℕ) (m : Mesh) → Known w q s p n bucket m → m .used ≡ used → Going w q s p n used bucket u v 0 m
 going-start w q s p n used bucket u v m k e =
     let z : used ≡ used - 0 = omega arith in
-    record { mesh = m; known = k; given = e; same = ap (λ (i : ℕ). recover-in i m u v) z }
+    record { mesh = m; known = k; given = e; locks = refl; same = ap (λ (i : ℕ). recover-in i m u v) z }
 
 -- other memory that stands for the same mesh
 abbrev pub going-as : (w w' : List ℕ) (q : List Float) (s p n used : ℕ) (bucket : Float) (u v k : ℕ) (m : Mesh) (g : Going w q s p n used bucket u v k m) → Known w' q s p n bucket (g .mesh)
     → Going w' q s p n used bucket u v k m
-going-as w w' q s p n used bucket u v k m g h = record { mesh = g .mesh; known = h; given = g .given; same = g .same }
+going-as w w' q s p n used bucket u v k m g h = record { mesh = g .mesh; known = h; given = g .given; locks = g .locks; same = g .same }
 
 one-less : (n k : ℕ) → k < n → n - k ≡ suc (n - (k + 1))
 one-less n k h = omega arith
@@ -176,7 +179,7 @@ module _ (w : List ℕ) (q : List Float) (s p n used : ℕ) (bucket : Float) (u 
             let o = flip-no w' s p (g .mesh) (flip (g .mesh) (key a b)) t f y in
             to-recover w' (record { there = false; mesh = g .mesh }) false
             (more h ∙ in-stuck u v (g .mesh) (used - (k + 1)) (sym e ∙ z) (first-some u v (g .mesh) a b (c .up) (c .is) ∙ o .is)) refl
-            (known-kept w w' q s p n bucket (g .mesh) (g .mesh) (g .known) (record { points = refl; used = refl; bucket = refl }) (o .rep)) (g .given)
+            (known-kept w w' q s p n bucket (g .mesh) (g .mesh) (g .known) (record { points = refl; used = refl; bucket = refl; locked = refl }) (o .rep)) (g .given)
 
         pub going-on : t ≡ true → Going w' q s p n used bucket u v (k + 1) m₀
         going-on y =
@@ -185,5 +188,6 @@ module _ (w : List ℕ) (q : List Float) (s p n used : ℕ) (bucket : Float) (u 
               mesh = o .mesh;
               known = known-kept w w' q s p n bucket (g .mesh) (o .mesh) (g .known) (o .kept) (o .rep);
               given = o .kept .used ∙ g .given;
+              locks = o .kept .locked ∙ g .locks;
               same = g .same ∙ (more h ∙ in-more u v (g .mesh) (used - (k + 1)) (o .mesh) (sym e ∙ z) (first-some u v (g .mesh) a b (c .up) (c .is) ∙ o .is));
             }

@@ -11,6 +11,7 @@ use Rattle.definition.specs.Flips.{flip, flipped}
 use Rattle.laws.specs.Frames.{Keeps}
 use Rattle.cells.specs.Layout.{mesh-end}
 use Rattle.cells.specs.Rep.{Rep, Pts}
+use Rattle.joints.specs.Table.{Locks}
 use Rattle.flips.specs.Nodes.{tri-read}
 
 -- both slots hold triangles
@@ -49,7 +50,7 @@ abbrev pub FlipTo : List ℕ → ℕ → ℕ → Mesh → Option Mesh → Bool �
 FlipTo w s p m none r = (r ≡ false) × Rep w s p m
 FlipTo w s p m (some m') r = (r ≡ true) × Rep w s p m'
 
--- the edge u-v was flipped as the definition says, for each mesh that the memory stood for; beyond the mesh's own areas nothing changed
-pub record Flips (w w' : List ℕ) (q : List Float) (s p u v : ℕ) (r : Bool) : Type 0 where
-  pub is : (m : Mesh) → Rep w s p m → Pts q p m → FlipTo w' s p m (flip m (key u v)) r
+-- the edge u-v was flipped as the definition says, for each mesh that the memory stood for and whose locked edges are the joints; beyond the mesh's own areas nothing changed
+pub record Flips (w w' : List ℕ) (q : List Float) (j : List ℕ) (s p u v : ℕ) (r : Bool) : Type 0 where
+  pub is : (m : Mesh) → Rep w s p m → Pts q p m → Locks j (m .locked) → FlipTo w' s p m (flip m (key u v)) r
   pub keeps : Keeps w w' (mesh-end s p)

@@ -6,6 +6,7 @@ use cells::find::next_owner;
 use cells::find::node;
 use cells::layout::CORNERS;
 use crossings::cross::off_edge;
+use joints::locked;
 use meshes::store::set_tri;
 use plane::sides::apart;
 ghost use mathlib.Core.Path.{_≡_};
@@ -14,6 +15,7 @@ ghost use Rattle.definition.specs.Flips.{is-step, third, runs, convex-pair, fli
 ghost use Rattle.plane.specs.Points.{Within};
 ghost use Rattle.cells.specs.Rep.{Rep, Pts};
 ghost use Rattle.cells.specs.Walk.{CanSee, IsEdge};
+ghost use Rattle.joints.specs.Table.{Locks};
 ghost use Rattle.crossings.specs.Nodes.{Four};
 ghost use Rattle.meshes.specs.Changes.{Turns};
 ghost use Rattle.flips.specs.Nodes.{tri-read, Up};
@@ -164,21 +166,24 @@ fn turn_evenly(
     note_even(w, s, p);
 }
 
-// The edge u-v becomes the other diagonal of its two triangles; not where its owners are others, or the four points form no strictly convex quad.
-pub fn flip(w: &mut [u32], q: &[f64], s: usize, p: usize, u: usize, v: usize) -> bool
-    requires { ⌜ ((m : Mesh) × Rep (now w) s p m × Pts (now q) p m) ⌝ }
+// The edge u-v becomes the other diagonal of its two triangles; not where it is locked, its owners are others, or the four points form no strictly convex quad.
+pub fn flip(w: &mut [u32], q: &[f64], j: &[u32], s: usize, p: usize, u: usize, v: usize) -> bool
+    requires { ⌜ ((m : Mesh) × Rep (now w) s p m × Pts (now q) p m × Locks (now j) (m .locked)) ⌝ }
     requires { ⌜ Up p u v ⌝ }
-    ensures { λ r. ⌜ Flips (now (w .entry)) (now (w .exit)) (now (q .entry)) s p u v r ⌝ }
+    ensures { λ r. ⌜ Flips (now (w .entry)) (now (w .exit)) (now (q .entry)) (now (j .entry)) s p u v r ⌝ }
 {
+    if locked(j, u, v) {
+        return false;
+    }
     let t = two_tris(w, s, p, u, v);
-    let Twins::Two(i, j) = t else {
+    let Twins::Two(a, b) = t else {
         return false;
     };
-    let x = third(w, s, i, u, v);
-    let y = third(w, s, j, u, v);
+    let x = third(w, s, a, u, v);
+    let y = third(w, s, b, u, v);
     if !convex_pair(q, u, v, x, y) {
         return false;
     }
-    turn_evenly(w, s, p, u, v, i, j, x, y);
+    turn_evenly(w, s, p, u, v, a, b, x, y);
     true
 }

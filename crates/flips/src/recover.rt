@@ -5,6 +5,7 @@ use crossings::cross::Crossing;
 use crossings::cross::first_crossing;
 ghost use mathlib.Core.Path.{_≡_};
 ghost use Rattle.definition.specs.Cells.{Mesh};
+ghost use Rattle.joints.specs.Table.{Locks};
 ghost use Rattle.crossings.specs.Cross.{Known, Segment};
 ghost use Rattle.flips.specs.Recover.{Recovers};
 
@@ -12,6 +13,7 @@ ghost use Rattle.flips.specs.Recover.{Recovers};
 pub fn recover(
     w: &mut [u32],
     q: &[f64],
+    j: &[u32],
     s: usize,
     p: usize,
     n: usize,
@@ -20,9 +22,9 @@ pub fn recover(
     u: usize,
     v: usize,
 ) -> bool
-    requires { ⌜ ((m : Mesh) × Known (now w) (now q) s p n bucket m × (m .used ≡ used)) ⌝ }
+    requires { ⌜ ((m : Mesh) × Known (now w) (now q) s p n bucket m × (m .used ≡ used) × Locks (now j) (m .locked)) ⌝ }
     requires { ⌜ Segment n u v ⌝ }
-    ensures { λ r. ⌜ Recovers (now (w .entry)) (now (w .exit)) (now (q .entry)) s p n used bucket u v r ⌝ }
+    ensures { λ r. ⌜ Recovers (now (w .entry)) (now (w .exit)) (now (q .entry)) (now (j .entry)) s p n used bucket u v r ⌝ }
 {
     let mut k = 0;
     while k < used {
@@ -33,7 +35,7 @@ pub fn recover(
         let Crossing::At(a, b) = e else {
             return false;
         };
-        if !flip(w, q, s, p, a, b) {
+        if !flip(w, q, j, s, p, a, b) {
             return false;
         }
         k += 1;

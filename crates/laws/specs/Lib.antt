@@ -1,6 +1,7 @@
 pub mod Bools
 pub mod Numbers
 pub mod Lists
+pub mod Tables
 pub mod Sorts
 pub mod Frames
 pub mod Cells

@@ -10,7 +10,7 @@ use Rattle.definition.specs.Numbers.{Quality}
 use Rattle.definition.specs.Call.{Asked, Lent, call, onto}
 use Rattle.refusals.specs.Refusals.{first-refusal}
 use Rattle.mesher.specs.declared.Answer.{Answer}
-use Rattle.mesher.specs.Promise.{Returns, Kept-account}
+use Rattle.mesher.specs.Promise.{Returns, Kept-account, Kept-joints}
 
 -- the numbers of a finished run in their order
 abbrev pub numbers : Answer → List ℕ
@@ -47,6 +47,7 @@ up-to-4 k = cond (eqb k 1) 1 (cond (eqb k 2) 2 (cond (eqb k 3) 3 (cond (eqb k 14
 pub record Roomy (a : Asked) (l : Lent) (old : List ℕ) (k : ℕ) (new : List ℕ) (exit : Lent) (r : Answer) : Type 0 where
   pub returns : Returns (call a l) r exit
   pub keeps : Kept-account a l r exit
+  pub joints : Kept-joints a l r exit
   pub number : k ≡ r .refusal
   pub answer : new ≡ handed r old
 

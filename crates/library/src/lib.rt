@@ -10,6 +10,7 @@ use refusals::refusal;
 use refusals::standard;
 use rules::Quality;
 ghost use mathlib.Core.Path.{_≡_};
+ghost use mathlib.Core.List.{[]};
 ghost use Prim.Native.Nat.{_≤_};
 ghost use lib.ListN.{length};
 ghost use Rattle.definition.specs.Call.{Lent, onto};
@@ -43,10 +44,10 @@ fn write_answer(answer: &mut [usize], a: Answer)
 }
 
 // The number of a call whose answer is too short: 1 to 3 and 14 come before it, and it is 4.
-fn short_answer(points: &[f64], triangles: &[u32], a: Stated, n: Room) -> usize
-    ensures { λ r. ⌜ ((l : Lent) → Lends l (now (points .entry)) (now (triangles .entry)) n → r ≡ up-to-4 (first-refusal (asked a) l)) ⌝ }
+fn short_answer(points: &[f64], triangles: &[u32], joints: &[u32], a: Stated, n: Room) -> usize
+    ensures { λ r. ⌜ ((l : Lent) → Lends l (now (points .entry)) (now (triangles .entry)) (now (joints .entry)) n → r ≡ up-to-4 (first-refusal (asked a) l)) ⌝ }
 {
-    let k = refusal(points, triangles, a, n);
+    let k = refusal(points, triangles, joints, a, n);
     if k == 1 {
         return 1;
     }
@@ -66,6 +67,7 @@ fn short_answer(points: &[f64], triangles: &[u32], a: Stated, n: Room) -> usize
 fn answered(
     points: &mut [f64],
     triangles: &[u32],
+    joints: &[u32],
     quads: &mut [u32],
     triangles_out: &mut [u32],
     components: &mut [u32],
@@ -76,11 +78,11 @@ fn answered(
 ) -> usize
     ensures { λ r. ⌜ Exported
         (asked stated)
-        (lent-of (now (points .entry)) (now (triangles .entry)) (now (quads .entry)) (now («triangles_out» .entry)) (now (components .entry)) (now (work .entry)) (now («float_work» .entry)))
+        (lent-of (now (points .entry)) (now (triangles .entry)) (now (joints .entry)) (now (quads .entry)) (now («triangles_out» .entry)) (now (components .entry)) (now (work .entry)) (now («float_work» .entry)))
         (now (answer .entry))
         r
         (now (answer .exit))
-        (lent-of (now (points .exit)) (now (triangles .entry)) (now (quads .exit)) (now («triangles_out» .exit)) (now (components .exit)) (now (work .exit)) (now («float_work» .exit))) ⌝ }
+        (lent-of (now (points .exit)) (now (triangles .entry)) (now (joints .entry)) (now (quads .exit)) (now («triangles_out» .exit)) (now (components .exit)) (now (work .exit)) (now («float_work» .exit))) ⌝ }
 {
     if answer.len() < ANSWER {
         let room = Room {
@@ -90,11 +92,12 @@ fn answered(
             work: work.len(),
             floats: float_work.len(),
         };
-        return short_answer(points, triangles, stated, room);
+        return short_answer(points, triangles, joints, stated, room);
     }
     let a = run_front(
         points,
         triangles,
+        joints,
         quads,
         triangles_out,
         components,
@@ -110,7 +113,7 @@ fn answered(
     0
 }
 
-// run_front, with document 01's quality set.
+// run_front, with document 01's quality set and no joints.
 #[no_mangle]
 pub extern "C" fn sedgepick_run_front(
     points: &mut [f64],
@@ -129,17 +132,19 @@ pub extern "C" fn sedgepick_run_front(
     answer: &mut [usize],
 ) -> usize
     ensures { λ r. ⌜ Exported
-        (asked-for given capacity count slots size stop base)
-        (lent-of (now (points .entry)) (now (triangles .entry)) (now (quads .entry)) (now («triangles_out» .entry)) (now (components .entry)) (now (work .entry)) (now («float_work» .entry)))
+        (asked-for given capacity count slots 0 size stop base)
+        (lent-of (now (points .entry)) (now (triangles .entry)) [] (now (quads .entry)) (now («triangles_out» .entry)) (now (components .entry)) (now (work .entry)) (now («float_work» .entry)))
         (now (answer .entry))
         r
         (now (answer .exit))
-        (lent-of (now (points .exit)) (now (triangles .entry)) (now (quads .exit)) (now («triangles_out» .exit)) (now (components .exit)) (now (work .exit)) (now («float_work» .exit))) ⌝ }
+        (lent-of (now (points .exit)) (now (triangles .entry)) [] (now (quads .exit)) (now («triangles_out» .exit)) (now (components .exit)) (now (work .exit)) (now («float_work» .exit))) ⌝ }
 {
+    let none: [u32; 0] = [];
     let stated = standard(given, capacity, count, slots, size, stop);
     answered(
         points,
         triangles,
+        &none,
         quads,
         triangles_out,
         components,
@@ -150,11 +155,12 @@ pub extern "C" fn sedgepick_run_front(
     )
 }
 
-// run_front, with a quality set by its five numbers.
+// run_front, with joints and a quality set by its five numbers.
 #[no_mangle]
 pub extern "C" fn sedgepick_run_front_with(
     points: &mut [f64],
     triangles: &[u32],
+    joints: &[u32],
     quads: &mut [u32],
     triangles_out: &mut [u32],
     components: &mut [u32],
@@ -164,6 +170,7 @@ pub extern "C" fn sedgepick_run_front_with(
     capacity: usize,
     count: usize,
     slots: usize,
+    joint_count: usize,
     size: f64,
     stop: u32,
     least_jacobian: f64,
@@ -174,12 +181,12 @@ pub extern "C" fn sedgepick_run_front_with(
     answer: &mut [usize],
 ) -> usize
     ensures { λ r. ⌜ Exported
-        (asked-for given capacity count slots size stop (set-of «least_jacobian» «largest_cosine» «side_low» «side_high» pairs))
-        (lent-of (now (points .entry)) (now (triangles .entry)) (now (quads .entry)) (now («triangles_out» .entry)) (now (components .entry)) (now (work .entry)) (now («float_work» .entry)))
+        (asked-for given capacity count slots «joint_count» size stop (set-of «least_jacobian» «largest_cosine» «side_low» «side_high» pairs))
+        (lent-of (now (points .entry)) (now (triangles .entry)) (now (joints .entry)) (now (quads .entry)) (now («triangles_out» .entry)) (now (components .entry)) (now (work .entry)) (now («float_work» .entry)))
         (now (answer .entry))
         r
         (now (answer .exit))
-        (lent-of (now (points .exit)) (now (triangles .entry)) (now (quads .exit)) (now («triangles_out» .exit)) (now (components .exit)) (now (work .exit)) (now («float_work» .exit))) ⌝ }
+        (lent-of (now (points .exit)) (now (triangles .entry)) (now (joints .entry)) (now (quads .exit)) (now («triangles_out» .exit)) (now (components .exit)) (now (work .exit)) (now («float_work» .exit))) ⌝ }
 {
     let quality = Quality {
         least_jacobian,
@@ -193,6 +200,7 @@ pub extern "C" fn sedgepick_run_front_with(
         capacity,
         count,
         slots,
+        joints: joint_count,
         size,
         stop,
         quality,
@@ -200,6 +208,7 @@ pub extern "C" fn sedgepick_run_front_with(
     answered(
         points,
         triangles,
+        joints,
         quads,
         triangles_out,
         components,

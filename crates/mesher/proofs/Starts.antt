@@ -1,19 +1,20 @@
 -- A call that is not refused before its run has all that its run asks.
 use mathlib.Core.Path.{_≡_, refl, ap, sym, _∙_, subst}
 use mathlib.Core.List.{List, [], _∷_}
-use Prim.Native.Nat.{ℕ, suc, _+_, _*_, _<_}
+use Prim.Native.Nat.{ℕ, suc, _+_, _*_, _≤_, _<_}
 use native.Mathlib.Omega.{arith}
 use lib.ListN.{length, getD}
 use lib.Ieee.{Float}
-use Rattle.definition.specs.Lists.{filter}
+use Rattle.definition.specs.Lists.{filter, table, below}
 use Rattle.definition.specs.Numbers.{max-attempts}
 use Rattle.definition.specs.Cells.{Tri, tri, Mesh, new-live, nodes, tri-nodes, new-tri, live-tri, is-tri, live-tris}
 use Rattle.definition.specs.Front.{State, Progress, stuck, progressed, limited, stopped, in-slots, new-mesh, start, front-loop}
-use Rattle.definition.specs.Call.{Asked, Lent, tri-at, first-points, given-points, given-tris, bad-size, settings}
+use Rattle.definition.specs.Call.{Asked, Lent, tri-at, joint-at, first-points, given-points, given-tris, given-joints, given-locks, bad-size, settings}
 use Rattle.laws.specs.Lists.{all-from}
 use Rattle.rules.specs.declared.Rules.{Rules}
 use Rattle.rules.specs.Settings.{settings-of}
 use Rattle.account.specs.Finished.{sized, given-proper, given-within, points-number, tris-number}
+use Rattle.joints.specs.Table.{Kept, Locks, locks-of}
 use Rattle.cells.specs.Rep.{Shape, Rep, Pts}
 use Rattle.cells.specs.declared.counters.Counters.{Counters}
 use Rattle.meshes.specs.Build.{Given, IsNew, Builds, CanBuild}
@@ -63,7 +64,7 @@ module _ (a : Asked) (l : Lent) (h : first-refusal a l ≡ 0) where
 
   -- the mesh that the run starts from
   abbrev pub first-mesh : Mesh
-  first-mesh = start (settings-of (rules-of a)) (given-tris a l) (given-points a l) .mesh
+  first-mesh = start (settings-of (rules-of a)) (given-locks a l) (given-tris a l) (given-points a l) .mesh
 
   pub is-new : IsNew first-mesh (l .triangles) (a .count) (a .given)
   unfolding start new-mesh given-tris
@@ -92,7 +93,7 @@ module _ (a : Asked) (l : Lent) (h : first-refusal a l ≡ 0) where
   -- what `front_loop` asks
   pub can-run : (w' : List ℕ) (c : Counters) → Rep w' (a .slots) (a .capacity) first-mesh
       → (c .live ≡ a .count) × (c .used ≡ a .count) × (c .points ≡ a .given) × (c .attempts ≡ 0)
-      → CanRun w' (l .points) (l .float-work) (l .quads) (rules-of a) c (given-tris a l) (given-points a l)
+      → CanRun w' (l .points) (l .float-work) (l .quads) (rules-of a) c (given-locks a l) (given-tris a l) (given-points a l)
   unfolding bad-size
   can-run w' c r n =
       let p = passed a l h in
@@ -138,19 +139,30 @@ run-from w₁ w w' q q' f f' quads quads' rules (progressed st) r e h = (h .0, l
 run-from w₁ w w' q q' f f' quads quads' rules (limited st) r e h = (h .0, left-from w₁ w w' q q' f f' quads quads' rules st r e (h .1))
 run-from w₁ w w' q q' f f' quads quads' rules (stopped wt st) r e h = (h .0, left-from w₁ w w' q q' f f' quads quads' rules st r e (h .1))
 
-module _ (q : List Float) (ts qs w : List ℕ) (f : List Float) (a : Asked) (l : Lent) (h : CanMesh q ts qs w f a l) where
+module _ (q : List Float) (ts js qs w : List ℕ) (f : List Float) (a : Asked) (l : Lent) (h : CanMesh q ts js qs w f a l) where
   pub mesh-build : CanBuild w (a .slots) (a .capacity) ts (a .count) (a .given)
   mesh-build =
       subst (λ (z : List ℕ). CanBuild z (a .slots) (a .capacity) ts (a .count) (a .given)) (h .work)
       (subst (λ (z : List ℕ). CanBuild (l .work) (a .slots) (a .capacity) z (a .count) (a .given)) (h .triangles) (can-build a l (h .passed)))
 
+  -- the table of the joints has room, and it locks what is listed
+  pub mesh-few : a .joints ≤ 256
+  mesh-few = passed a l (h .passed) .joints
+
+  pub mesh-long : 2 * a .joints ≤ length js
+  mesh-long = subst (λ (z : List ℕ). 2 * a .joints ≤ length z) (h .joints) (passed a l (h .passed) .roomy .joints)
+
+  pub mesh-locks : (j : List ℕ) → Kept j (table (joint-at js) (below (a .joints))) → Locks j (given-locks a l)
+  unfolding given-locks given-joints
+  mesh-locks j k = locks-of j _ (subst (λ (z : List ℕ). Kept j (table (joint-at z) (below (a .joints)))) (sym (h .joints)) k)
+
   module _ (b : Float) (e : b ≡ bucket-of (a .size)) where
     pub mesh-run : (w' : List ℕ) (c : Counters) → Builds w w' (a .slots) (a .capacity) ts (a .count) (a .given)
         → (c .live ≡ a .count) × (c .used ≡ a .count) × (c .points ≡ a .given) × (c .attempts ≡ 0)
-        → CanRun w' q f qs (rules-with a b) c (given-tris a l) (given-points a l)
+        → CanRun w' q f qs (rules-with a b) c (given-locks a l) (given-tris a l) (given-points a l)
     mesh-run w' c k n =
         let can : (q f : List Float) (qs : List ℕ) (b : Float) → Type 0 =
-        λ q f qs b. CanRun w' q f qs (rules-with a b) c (given-tris a l) (given-points a l) in
+        λ q f qs b. CanRun w' q f qs (rules-with a b) c (given-locks a l) (given-tris a l) (given-points a l) in
         let new : IsNew (first-mesh a l (h .passed)) ts (a .count) (a .given) =
         subst (λ (z : List ℕ). IsNew (first-mesh a l (h .passed)) z (a .count) (a .given)) (h .triangles) (is-new a l (h .passed)) in
         subst (λ (z : Float). can q f qs z) (sym e)
@@ -163,7 +175,7 @@ module _ (q : List Float) (ts qs w : List ℕ) (f : List Float) (a : Asked) (l :
     pub mesh-ran : (w₁ w' : List ℕ) (q' f' : List Float) (quads' : List ℕ) (r : Run) → length w₁ ≡ length w
         → RunTo w₁ w' q q' f f' qs quads' (rules-with a b)
         (front-loop (max-attempts (a .count) + 2) (settings-of (rules-with a b)) (length (given-tris a l))
-        (start (settings-of (rules-with a b)) (given-tris a l) (given-points a l))) r
+        (start (settings-of (rules-with a b)) (given-locks a l) (given-tris a l) (given-points a l))) r
         → RunTo w w' q q' f f' qs quads' (rules-of a) (progress-of a l) r
     unfolding settings settings-of
     mesh-ran w₁ w' q' f' quads' r d k =

@@ -13,7 +13,7 @@ use Rattle.definition.specs.Counts.{no-counts}
 use Rattle.definition.specs.Cells.{Mesh, tri-nodes, triangles}
 use Rattle.definition.specs.Components.{component-sizes}
 use Rattle.definition.specs.Front.{Progress, front-loop, start}
-use Rattle.definition.specs.Call.{Asked, Lent, given-points, given-tris, onto, settings}
+use Rattle.definition.specs.Call.{Asked, Lent, given-points, given-tris, given-locks, onto, settings}
 use Rattle.rules.specs.declared.Rules.{Rules}
 use Rattle.rules.specs.Settings.{quality-in}
 use Rattle.cells.specs.Rep.{Rep}
@@ -54,13 +54,14 @@ rules-of a = rules-with a (bucket-of (a .size))
 -- how the run of a call ends
 abbrev pub progress-of : Asked → Lent → Progress
 progress-of a l =
-    front-loop (max-attempts (a .count) + 2) (settings a) (length (given-tris a l)) (start (settings a) (given-tris a l) (given-points a l))
+    front-loop (max-attempts (a .count) + 2) (settings a) (length (given-tris a l)) (start (settings a) (given-locks a l) (given-tris a l) (given-points a l))
 
 -- a call that is not refused before its run, and the slices that its run reads and writes
-pub record CanMesh (q : List Float) (ts qs w : List ℕ) (f : List Float) (a : Asked) (l : Lent) : Type 0 where
+pub record CanMesh (q : List Float) (ts js qs w : List ℕ) (f : List Float) (a : Asked) (l : Lent) : Type 0 where
   pub passed : first-refusal a l ≡ 0
   pub points : l .points ≡ q
   pub triangles : l .triangles ≡ ts
+  pub joints : l .joints ≡ js
   pub quads : l .quads ≡ qs
   pub work : l .work ≡ w
   pub floats : l .float-work ≡ f

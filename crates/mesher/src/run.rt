@@ -4,6 +4,7 @@ use cells::clear::clear_floats;
 use cells::clear::clear_words;
 use cells::counters::Counters;
 use components::sizes::component_sizes;
+use joints::put_joints;
 use leftovers::write_triangles;
 use meshes::build::build;
 use refusals::Stated;
@@ -78,17 +79,18 @@ fn bucket_of(size: f64) -> f64
     NO_SIZE
 }
 
-// The mesh of the given triangles, and the rounds over its front.
+// The mesh of the given triangles, the table of the joints, and the rounds over the front.
 fn mesh(
     points: &mut [f64],
     triangles: &[u32],
+    joints: &[u32],
     quads: &mut [u32],
     work: &mut [u32],
     float_work: &mut [f64],
     stated: Stated,
 ) -> Run
-    requires { ⌜ ((l : Lent) × CanMesh (now points) (now triangles) (now quads) (now work) (now «float_work») (asked stated) l) ⌝ }
-    ensures { λ r. ⌜ ((l : Lent) → CanMesh (now (points .entry)) (now (triangles .entry)) (now (quads .entry)) (now (work .entry)) (now («float_work» .entry)) (asked stated) l → RunTo (now (work .entry)) (now (work .exit)) (now (points .entry)) (now (points .exit)) (now («float_work» .entry)) (now («float_work» .exit)) (now (quads .entry)) (now (quads .exit)) (rules-of (asked stated)) (progress-of (asked stated) l) r) ⌝ }
+    requires { ⌜ ((l : Lent) × CanMesh (now points) (now triangles) (now joints) (now quads) (now work) (now «float_work») (asked stated) l) ⌝ }
+    ensures { λ r. ⌜ ((l : Lent) → CanMesh (now (points .entry)) (now (triangles .entry)) (now (joints .entry)) (now (quads .entry)) (now (work .entry)) (now («float_work» .entry)) (asked stated) l → RunTo (now (work .entry)) (now (work .exit)) (now (points .entry)) (now (points .exit)) (now («float_work» .entry)) (now («float_work» .exit)) (now (quads .entry)) (now (quads .exit)) (rules-of (asked stated)) (progress-of (asked stated) l) r) ⌝ }
 {
     build(
         work,
@@ -113,7 +115,9 @@ fn mesh(
         attempts,
         quality,
     };
-    front_loop(work, points, float_work, quads, rules, counters)
+    let mut table = [0u32; 1537];
+    put_joints(&mut table, joints, stated.joints);
+    front_loop(work, points, float_work, quads, &table, rules, counters)
 }
 
 // The triangles that are left and the sizes of their components come to the front of their slices; the answer of the finished run.
@@ -154,6 +158,7 @@ fn finish(
 pub fn run(
     points: &mut [f64],
     triangles: &[u32],
+    joints: &[u32],
     quads: &mut [u32],
     triangles_out: &mut [u32],
     components: &mut [u32],
@@ -161,15 +166,15 @@ pub fn run(
     float_work: &mut [f64],
     stated: Stated,
 ) -> Answer
-    requires { ⌜ first-refusal (asked stated) (lent-of (now points) (now triangles) (now quads) (now «triangles_out») (now components) (now work) (now «float_work»)) ≡ 0 ⌝ }
+    requires { ⌜ first-refusal (asked stated) (lent-of (now points) (now triangles) (now joints) (now quads) (now «triangles_out») (now components) (now work) (now «float_work»)) ≡ 0 ⌝ }
     ensures { λ r. ⌜ Returns
         (call
         (asked stated)
-        (lent-of (now (points .entry)) (now (triangles .entry)) (now (quads .entry)) (now («triangles_out» .entry)) (now (components .entry)) (now (work .entry)) (now («float_work» .entry))))
+        (lent-of (now (points .entry)) (now (triangles .entry)) (now (joints .entry)) (now (quads .entry)) (now («triangles_out» .entry)) (now (components .entry)) (now (work .entry)) (now («float_work» .entry))))
         r
-        (lent-of (now (points .exit)) (now (triangles .entry)) (now (quads .exit)) (now («triangles_out» .exit)) (now (components .exit)) (now (work .exit)) (now («float_work» .exit))) ⌝ }
+        (lent-of (now (points .exit)) (now (triangles .entry)) (now (joints .entry)) (now (quads .exit)) (now («triangles_out» .exit)) (now (components .exit)) (now (work .exit)) (now («float_work» .exit))) ⌝ }
 {
-    let end = mesh(points, triangles, quads, work, float_work, stated);
+    let end = mesh(points, triangles, joints, quads, work, float_work, stated);
     let how = end.finish;
     let number = number_of(how);
     if number != 0 {

@@ -1,5 +1,6 @@
 -- The mesh of the given triangles: empty rings, then triangle after triangle.
 use mathlib.Core.Path.{_≡_, refl, ap, sym, _∙_}
+use mathlib.Core.Bool.{Bool, false}
 use mathlib.Core.List.{List, [], _∷_, _++_}
 use Prim.Native.Nat.{ℕ, zero, suc, _+_, _*_, _<_}
 use native.Mathlib.Numerals.{add-one}
@@ -11,6 +12,7 @@ use Rattle.rings.proofs.Families.{opened}
 use Rattle.definition.specs.Floats.{0·0}
 use Rattle.definition.specs.Lists.{table, numbers, below}
 use Rattle.definition.specs.Numbers.{Settings}
+use Rattle.definition.specs.Plane.{Edge}
 use Rattle.definition.specs.Cells.{Tri, Cell, tri, Live, Mesh, new-live, with-live, push-cell}
 use Rattle.definition.specs.Call.{tri-at, first-tris, first-points}
 use Rattle.definition.specs.Front.{in-slots, new-mesh}
@@ -76,7 +78,7 @@ live-snoc n xs =
 
 -- some mesh of the first n triangles over g points
 abbrev pub sample : List ℕ → ℕ → ℕ → Mesh
-sample xs n g = record { points = first-points g []; used = n; live = in-slots 0 (first-tris n xs); bucket = 0·0 }
+sample xs n g = record { points = first-points g []; used = n; live = in-slots 0 (first-tris n xs); bucket = 0·0; locked = λ e. false }
 
 pub sample-new : (xs : List ℕ) (n g : ℕ) → IsNew (sample xs n g) xs n g
 sample-new xs n g = record { points = points-length g []; used = refl; live = refl }
@@ -111,9 +113,9 @@ module _ (w : List ℕ) (s p : ℕ) (xs : List ℕ) (n g i a b c : ℕ) (can : C
       rep-as w2 s p (push-cell (before m xs i) (tri-of-nodes a b c)) m r (omega arith) (omega (arith, can .slots)) (grown-same (push-cell (before m xs i) (tri-of-nodes a b c)) m refl) (omega (arith, can .points, k .points)) e
 
 -- the given mesh of the definition is such a mesh
-pub new-is : (st : Settings) (xs : List ℕ) (q : List Float) (n g : ℕ) → IsNew (new-mesh st (first-tris n xs) (first-points g q)) xs n g
+pub new-is : (st : Settings) (locked : Edge → Bool) (xs : List ℕ) (q : List Float) (n g : ℕ) → IsNew (new-mesh st locked (first-tris n xs) (first-points g q)) xs n g
 unfolding new-mesh
-new-is st xs q n g = record { points = points-length g q; used = tris-length n xs; live = refl }
+new-is st locked xs q n g = record { points = points-length g q; used = tris-length n xs; live = refl }
 
 -- with no triangle there is no live cell
 pub new-none : (m : Mesh) (xs : List ℕ) (g : ℕ) → IsNew m xs 0 g → m .live ≡ []

@@ -14,9 +14,10 @@ use borrow.Author.Tests.{eqb-true, eqb-false, eq-eqb, ne-eqb, leb-true, leb-fals
 use Rattle.definition.specs.Floats.{_≼_, abs, 0·0, 0·1, 0·5, 0·99, 1·0, 4·0}
 use Rattle.definition.specs.Lists.{any}
 use Rattle.definition.specs.Cells.{Tri, new-tri, tri-nodes}
-use Rattle.definition.specs.Call.{Asked, Lent, point-at, tri-at, first-points, first-tris, given-points, given-tris, most-given, most-capacity, most-slots, most-coordinate, slot-words, point-words, slot-floats, over-limit, bad-size, bad-stop, ranges, most-pairs, good-quality, bad-quality, too-short, unknown-node, twice, repeated-node, outside, far-point}
+use Rattle.definition.specs.Call.{Asked, Lent, point-at, tri-at, first-points, first-tris, joint-at, given-points, given-tris, given-joints, most-given, most-capacity, most-slots, most-joints, most-coordinate, slot-words, point-words, slot-floats, over-limit, bad-size, bad-stop, ranges, most-pairs, good-quality, bad-quality, too-short, unknown-node, twice, repeated-node, outside, far-point, bad-joint, bad-joints}
 use Rattle.laws.specs.Bools.{which, and-right, both, or-none}
-use Rattle.refusals.specs.Tests.{none-below, below-none, by-thirds}
+use Rattle.laws.specs.Tables.{none-below, below-none}
+use Rattle.refusals.specs.Tests.{by-thirds}
 
 -- ---- 1
 
@@ -79,6 +80,7 @@ module _ (a : Asked) where
 pub record Roomy (a : Asked) (l : Lent) : Type 0 where
   pub points : 3 * a .capacity ≤ length (l .points)
   pub triangles : 3 * a .count ≤ length (l .triangles)
+  pub joints : 2 * a .joints ≤ length (l .joints)
   pub quads : 4 * a .slots ≤ length (l .quads)
   pub triangles-out : 3 * a .slots ≤ length (l .triangles-out)
   pub components : a .slots ≤ length (l .components)
@@ -91,24 +93,26 @@ module _ (a : Asked) (l : Lent) where
   pub roomy : too-short a l ≡ false → Roomy a l
   unfolding too-short slot-words point-words slot-floats
   roomy e =
-      let h8 = or-none _ (ltb (a .slots) (a .count)) e in
-      let h7 = or-none _ (ltb (a .capacity) (a .given)) (h8 .0) in
-      let h6 = or-none _ (ltb (length (l .float-work)) (4 * a .slots)) (h7 .0) in
-      let h5 = or-none _ (ltb (length (l .work)) (64 * a .slots + 8 * a .capacity)) (h6 .0) in
-      let h4 = or-none _ (ltb (length (l .components)) (a .slots)) (h5 .0) in
-      let h3 = or-none _ (ltb (length (l .triangles-out)) (3 * a .slots)) (h4 .0) in
-      let h2 = or-none _ (ltb (length (l .quads)) (4 * a .slots)) (h3 .0) in
+      let h9 = or-none _ (ltb (a .slots) (a .count)) e in
+      let h8 = or-none _ (ltb (a .capacity) (a .given)) (h9 .0) in
+      let h7 = or-none _ (ltb (length (l .float-work)) (4 * a .slots)) (h8 .0) in
+      let h6 = or-none _ (ltb (length (l .work)) (64 * a .slots + 8 * a .capacity)) (h7 .0) in
+      let h5 = or-none _ (ltb (length (l .components)) (a .slots)) (h6 .0) in
+      let h4 = or-none _ (ltb (length (l .triangles-out)) (3 * a .slots)) (h5 .0) in
+      let h3 = or-none _ (ltb (length (l .quads)) (4 * a .slots)) (h4 .0) in
+      let h2 = or-none _ (ltb (length (l .joints)) (2 * a .joints)) (h3 .0) in
       let h1 = or-none (ltb (length (l .points)) (3 * a .capacity)) (ltb (length (l .triangles)) (3 * a .count)) (h2 .0) in
       record {
         points = ltb-false _ _ (h1 .0);
         triangles = ltb-false _ _ (h1 .1);
-        quads = ltb-false _ _ (h2 .1);
-        triangles-out = ltb-false _ _ (h3 .1);
-        components = ltb-false _ _ (h4 .1);
-        work = ltb-false _ _ (h5 .1);
-        float-work = ltb-false _ _ (h6 .1);
-        given = ltb-false _ _ (h7 .1);
-        count = ltb-false _ _ (h8 .1);
+        joints = ltb-false _ _ (h2 .1);
+        quads = ltb-false _ _ (h3 .1);
+        triangles-out = ltb-false _ _ (h4 .1);
+        components = ltb-false _ _ (h5 .1);
+        work = ltb-false _ _ (h6 .1);
+        float-work = ltb-false _ _ (h7 .1);
+        given = ltb-false _ _ (h8 .1);
+        count = ltb-false _ _ (h9 .1);
       }
 
   pub room-passes : Roomy a l → too-short a l ≡ false
@@ -117,6 +121,7 @@ module _ (a : Asked) (l : Lent) where
       rw (
         le-ltb _ _ (h .points),
         le-ltb _ _ (h .triangles),
+        le-ltb _ _ (h .joints),
         le-ltb _ _ (h .quads),
         le-ltb _ _ (h .triangles-out),
         le-ltb _ _ (h .components),
@@ -209,6 +214,23 @@ module _ (a : Asked) (l : Lent) where
       let h = both (abs (getD (l .points) (3 * i) 0·0) ≼ most-coordinate) (abs (getD (l .points) (3 * i + 1) 0·0) ≼ most-coordinate) (not-false _ (near-each e i k)) in
       record { x = h .0; y = h .1 }
 
+-- ---- 13
+
+module _ (a : Asked) (l : Lent) where
+  -- no more joints than the table holds
+  pub few-joints : bad-joints a l ≡ false → a .joints ≤ 256
+  unfolding bad-joints most-joints
+  few-joints e = ltb-false 256 (a .joints) (or-none (ltb 256 (a .joints)) _ e .0)
+
+  -- no joint is bad
+  pub joints-pass : a .joints ≤ 256 → ((i : ℕ) → i < a .joints → bad-joint (a .given) (joint-at (l .joints) i) ≡ false) → bad-joints a l ≡ false
+  unfolding bad-joints most-joints given-joints
+  joints-pass h f = rw (le-ltb 256 (a .joints) h) (none-below (bad-joint (a .given)) (joint-at (l .joints)) (a .joints) f)
+
+  pub joints-each : bad-joints a l ≡ false → (i : ℕ) → i < a .joints → bad-joint (a .given) (joint-at (l .joints) i) ≡ false
+  unfolding bad-joints given-joints
+  joints-each e = below-none (bad-joint (a .given)) (joint-at (l .joints)) (a .joints) (or-none (ltb most-joints (a .joints)) _ e .1)
+
 -- ---- all of them
 
 -- what a call that none of them refuses has
@@ -221,3 +243,4 @@ pub record Passed (a : Asked) (l : Lent) : Type 0 where
   pub known : Known (a .given) (a .count) (l .triangles)
   pub apart : (i : ℕ) → i < a .count → Apart (l .triangles) i
   pub near : (i : ℕ) → i < a .given → Near (l .points) i
+  pub joints : a .joints ≤ 256

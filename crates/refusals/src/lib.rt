@@ -1,12 +1,12 @@
-// The refusals that open a call of run_front: they read the points and the triangles, and touch nothing.
+// The refusals that open a call of run_front: they read the points, the triangles and the joints, and touch nothing.
 use rules::Quality;
 use rules::standard_quality;
 ghost use mathlib.Core.Path.{_≡_};
 ghost use Prim.Native.Nat.{_*_, _≤_};
 ghost use lib.Ieee.{Float};
 ghost use lib.ListN.{length};
-ghost use Rattle.definition.specs.Call.{Lent, over-limit, bad-size, bad-stop, ranges, good-quality, bad-quality, too-short, unknown-node, twice, repeated-node, outside, far-point, most-coordinate};
-ghost use Rattle.definition.specs.Cells.{new-tri};
+ghost use Rattle.definition.specs.Call.{Lent, over-limit, bad-size, bad-stop, ranges, good-quality, bad-quality, too-short, unknown-node, twice, repeated-node, outside, far-point, bad-joint, bad-joints, most-coordinate};
+ghost use Rattle.definition.specs.Cells.{new-tri, key};
 ghost use Rattle.definition.specs.Floats.{_≼_, abs};
 ghost use Rattle.definition.specs.Numbers.{base};
 ghost use Rattle.rules.specs.Settings.{quality-of};
@@ -47,6 +47,9 @@ const MOST_PAIRS: usize = 64;
 // The greatest magnitude of an x or y.
 const MOST_COORDINATE: f64 = 8.0;
 
+// Joints that a call may state.
+const MOST_JOINTS: usize = 256;
+
 // u32 of work for a slot and for a point of capacity, and f64 of work for a slot.
 const SLOT_WORDS: usize = 64;
 
@@ -60,12 +63,13 @@ pub struct Stated {
     pub capacity: usize,
     pub count: usize,
     pub slots: usize,
+    pub joints: usize,
     pub size: f64,
     pub stop: u32,
     pub quality: Quality,
 }
 
-// With document 01's quality set.
+// With document 01's quality set and no joints.
 pub fn standard(
     given: usize,
     capacity: usize,
@@ -74,7 +78,7 @@ pub fn standard(
     size: f64,
     stop: u32,
 ) -> Stated
-    ensures { λ r. ⌜ asked r ≡ asked-for given capacity count slots size stop base ⌝ }
+    ensures { λ r. ⌜ asked r ≡ asked-for given capacity count slots 0 size stop base ⌝ }
 {
     let quality = standard_quality();
     Stated {
@@ -82,6 +86,7 @@ pub fn standard(
         capacity,
         count,
         slots,
+        joints: 0,
         size,
         stop,
         quality,
@@ -187,10 +192,10 @@ fn bad_quality(a: Stated) -> bool
 
 // ---- the lender's slices
 
-// 4: a slice shorter than the stated numbers need, less capacity than given points, or fewer slots than triangles.
-fn too_short(points: &[f64], triangles: &[u32], a: Stated, n: Room) -> bool
+// 4: a slice shorter than the stated numbers need, less capacity than given points, or fewer slots than triangles. The joints stated have no limit here: half the length is compared.
+fn too_short(points: &[f64], triangles: &[u32], joints: &[u32], a: Stated, n: Room) -> bool
     requires { ⌜ Limited (asked a) ⌝ }
-    ensures { λ r. ⌜ ((l : Lent) → Lends l (now (points .entry)) (now (triangles .entry)) n → r ≡ too-short (asked a) l) ⌝ }
+    ensures { λ r. ⌜ ((l : Lent) → Lends l (now (points .entry)) (now (triangles .entry)) (now (joints .entry)) n → r ≡ too-short (asked a) l) ⌝ }
 {
     let capacity = a.capacity;
     let count = a.count;
@@ -199,6 +204,9 @@ fn too_short(points: &[f64], triangles: &[u32], a: Stated, n: Room) -> bool
         return true;
     }
     if triangles.len() < 3 * count {
+        return true;
+    }
+    if joints.len() / 2 < a.joints {
         return true;
     }
     if n.quads < 4 * slots {
@@ -316,11 +324,44 @@ pub fn far_point(points: &[f64], a: Stated) -> bool
     false
 }
 
+// The two nodes are one, or one of them is not among the given points.
+fn bad_joint(u: u32, v: u32, given: usize) -> bool
+    ensures { λ r. ⌜ r ≡ bad-joint given (key u v) ⌝ }
+{
+    if u == v {
+        return true;
+    }
+    if wide(u) >= given {
+        return true;
+    }
+    wide(v) >= given
+}
+
+// 13: too many joints, or one of them is bad.
+pub fn bad_joints(joints: &[u32], a: Stated) -> bool
+    requires { ⌜ 2 * a .joints ≤ length (now joints) ⌝ }
+    ensures { λ r. ⌜ ((l : Lent) → l .joints ≡ now (joints .entry) → r ≡ bad-joints (asked a) l) ⌝ }
+{
+    let n = a.joints;
+    let given = a.given;
+    if n > MOST_JOINTS {
+        return true;
+    }
+    let mut i = 0;
+    while i < n {
+        if bad_joint(joints[2 * i], joints[2 * i + 1], given) {
+            return true;
+        }
+        i += 1;
+    }
+    false
+}
+
 // ---- the answer
 
 // The number of the first refusal whose condition holds; 0: none does.
-pub fn refusal(points: &[f64], triangles: &[u32], a: Stated, n: Room) -> u32
-    ensures { λ r. ⌜ ((l : Lent) → Lends l (now (points .entry)) (now (triangles .entry)) n → r ≡ first-refusal (asked a) l) ⌝ }
+pub fn refusal(points: &[f64], triangles: &[u32], joints: &[u32], a: Stated, n: Room) -> u32
+    ensures { λ r. ⌜ ((l : Lent) → Lends l (now (points .entry)) (now (triangles .entry)) (now (joints .entry)) n → r ≡ first-refusal (asked a) l) ⌝ }
 {
     if over_limit(a) {
         return 1;
@@ -334,7 +375,7 @@ pub fn refusal(points: &[f64], triangles: &[u32], a: Stated, n: Room) -> u32
     if bad_quality(a) {
         return 14;
     }
-    if too_short(points, triangles, a, n) {
+    if too_short(points, triangles, joints, a, n) {
         return 4;
     }
     if unknown_node(triangles, a) {
@@ -345,6 +386,9 @@ pub fn refusal(points: &[f64], triangles: &[u32], a: Stated, n: Room) -> u32
     }
     if far_point(points, a) {
         return 7;
+    }
+    if bad_joints(joints, a) {
+        return 13;
     }
     0
 }

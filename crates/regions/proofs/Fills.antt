@@ -14,7 +14,7 @@ use Rattle.definition.specs.Numbers.{area-slack}
 use Rattle.definition.specs.Plane.{cross, inside-quad, quad-area}
 use Rattle.definition.specs.Cells.{Tri, tri, Live, Mesh, nodes, tri-nodes, node-at, new-live, new-quad, quad-edges}
 use Rattle.definition.specs.Call.{point-at}
-use Rattle.definition.specs.Region.{area-of, region-area, cell-inside, area-agrees, fills, if-filled, region-from, region, flood}
+use Rattle.definition.specs.Region.{area-of, region-area, cell-inside, area-agrees, fills, spares-locked, if-filled, region-from, region, flood}
 use Rattle.cells.specs.Layout.{list-at}
 use Rattle.cells.specs.Rep.{Shape, Rep, TriIn, Pts}
 use Rattle.cells.specs.Walk.{node-in}
@@ -230,31 +230,44 @@ module _ (w w' : List ℕ) (s p n seed : ℕ) (m : Mesh) (a b c d : ℕ) (r : Re
         go none e h = absurd (z (h .zero'))
         go (some xs) e h = record { xs = xs; is = e; grown = h }
 
-    module _ (k : Cells) where
-      filled-is : region m seed (new-quad a b c d) ≡ cond (fills m (new-quad a b c d) (k .xs)) (some (k .xs)) none
-      unfolding if-filled
-      filled-is = region-is ∙ ap (if-filled m (new-quad a b c d)) (k .is)
+module _ {w w' : List ℕ} {s p n seed : ℕ} {m : Mesh} {a b c d : ℕ} {r : Rep w s p m} {t : TriIn m seed} {f : Reached w w' s p m [] (flooded w w' s p n seed m a b c d r t) n}
+    (k : Cells w w' s p n seed m a b c d r t f) where
+  spares : Bool
+  spares = spares-locked m (new-quad a b c d) (k .xs)
 
-      fills-is : fills m (new-quad a b c d) (k .xs) ≡ (all (cell-inside m (new-quad a b c d)) (k .xs) && area-agrees m (new-quad a b c d) (k .xs))
-      unfolding fills
-      fills-is = refl
+  by-test : (v : Bool) → (fills m (new-quad a b c d) (k .xs) && spares) ≡ v → region m seed (new-quad a b c d) ≡ cond v (some (k .xs)) none
+  unfolding if-filled spares
+  by-test v e =
+      region-is w w' s p n seed m a b c d r t ∙ ap (if-filled m (new-quad a b c d)) (k .is) ∙ ap (λ (u : Bool). cond u (some (k .xs)) none) e
 
-      by-test : (b' : Bool) → fills m (new-quad a b c d) (k .xs) ≡ b' → region m seed (new-quad a b c d) ≡ cond b' (some (k .xs)) none
-      by-test b' e = filled-is ∙ ap (λ (v : Bool). cond v (some (k .xs)) none) e
+  fills-is : fills m (new-quad a b c d) (k .xs) ≡ (all (cell-inside m (new-quad a b c d)) (k .xs) && area-agrees m (new-quad a b c d) (k .xs))
+  unfolding fills
+  fills-is = refl
 
-      refused : region m seed (new-quad a b c d) ≡ none → Reached w w' s p m [] (region m seed (new-quad a b c d)) 0
-      refused e = subst (λ (o : Option (List Live)). Reached w w' s p m [] o 0) (sym e) (record { zero' = refl; aside = k .grown .aside })
+  refused : (fills m (new-quad a b c d) (k .xs) && spares) ≡ false → Reached w w' s p m [] (region m seed (new-quad a b c d)) 0
+  refused e = subst (λ (o : Option (List Live)). Reached w w' s p m [] o 0) (sym (by-test false e)) (record { zero' = refl; aside = k .grown .aside })
 
-      module _ (x : Bool) (ex : x ≡ all (cell-inside m (new-quad a b c d)) (k .xs)) where
-        pub region-outside : x ≡ false → Reached w w' s p m [] (region m seed (new-quad a b c d)) 0
-        region-outside z = refused (by-test false (fills-is ∙ ap (λ (v : Bool). v && area-agrees m (new-quad a b c d) (k .xs)) (sym ex ∙ z)))
+  unfilled : fills m (new-quad a b c d) (k .xs) ≡ false → Reached w w' s p m [] (region m seed (new-quad a b c d)) 0
+  unfilled e = refused (ap (λ (v : Bool). v && spares) e)
 
-        module _ (y : Bool) (ey : y ≡ area-agrees m (new-quad a b c d) (k .xs)) (h : x ≡ true) where
-          both : (v : Bool) → y ≡ v → fills m (new-quad a b c d) (k .xs) ≡ v
-          both v e = fills-is ∙ ap (λ (u : Bool). u && area-agrees m (new-quad a b c d) (k .xs)) (sym ex ∙ h) ∙ sym ey ∙ e
+  module _ (x : Bool) (ex : x ≡ all (cell-inside m (new-quad a b c d)) (k .xs)) where
+    pub region-outside : x ≡ false → Reached w w' s p m [] (region m seed (new-quad a b c d)) 0
+    region-outside z = unfilled (fills-is ∙ ap (λ (v : Bool). v && area-agrees m (new-quad a b c d) (k .xs)) (sym ex ∙ z))
 
-          pub region-off : y ≡ false → Reached w w' s p m [] (region m seed (new-quad a b c d)) 0
-          region-off z = refused (by-test false (both false z))
+    module _ (h : x ≡ true) (y : Bool) (ey : y ≡ area-agrees m (new-quad a b c d) (k .xs)) where
+      both : (v : Bool) → y ≡ v → fills m (new-quad a b c d) (k .xs) ≡ v
+      both v e = fills-is ∙ ap (λ (u : Bool). u && area-agrees m (new-quad a b c d) (k .xs)) (sym ex ∙ h) ∙ sym ey ∙ e
 
-          pub region-found : y ≡ true → Reached w w' s p m [] (region m seed (new-quad a b c d)) n
-          region-found z = subst (λ (o : Option (List Live)). Reached w w' s p m [] o n) (sym (by-test true (both true z))) (k .grown)
+      pub region-off : y ≡ false → Reached w w' s p m [] (region m seed (new-quad a b c d)) 0
+      region-off z = unfilled (both false z)
+
+      module _ (g : y ≡ true) (l : Bool) (el : l ≡ spares-locked m (new-quad a b c d) (k .xs)) where
+        free : (v : Bool) → l ≡ v → (fills m (new-quad a b c d) (k .xs) && spares) ≡ v
+        unfolding spares
+        free v e = ap (λ (u : Bool). u && spares) (both true g) ∙ sym el ∙ e
+
+        pub region-locked : l ≡ false → Reached w w' s p m [] (region m seed (new-quad a b c d)) 0
+        region-locked z = refused (free false z)
+
+        pub region-found : l ≡ true → Reached w w' s p m [] (region m seed (new-quad a b c d)) n
+        region-found z = subst (λ (o : Option (List Live)). Reached w w' s p m [] o n) (sym (by-test true (free true z))) (k .grown)

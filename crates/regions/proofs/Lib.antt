@@ -4,5 +4,6 @@ pub mod Visits
 pub mod Sides
 pub mod Seeds
 pub mod Floods
+pub mod Locked
 pub mod Fills
 pub mod Places

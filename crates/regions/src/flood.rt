@@ -74,7 +74,7 @@ fn same_edge(u: usize, v: usize, a: usize, b: usize) -> bool
 }
 
 // The edge u-v is a side of the quad a b c d.
-fn is_side(u: usize, v: usize, a: usize, b: usize, c: usize, d: usize) -> bool
+pub fn is_side(u: usize, v: usize, a: usize, b: usize, c: usize, d: usize) -> bool
     ensures { λ r. ⌜ r ≡ has-edge-in (quad-edges (new-quad a b c d)) (key u v) ⌝ }
 {
     if same_edge(u, v, a, b) {

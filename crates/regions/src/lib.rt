@@ -3,3 +3,4 @@ pub mod flood;
 pub mod lists;
 pub mod place;
 pub mod region;
+pub mod spares;

@@ -1,6 +1,7 @@
-// The region of a quad: the triangles that the flood reaches, if they fill the quad.
+// The region of a quad: the triangles that the flood reaches, if they fill the quad and spare the locked edges.
 use crate::flood::flood;
 use crate::lists::listed;
+use crate::spares::spares;
 use cells::find::node;
 use plane::area::quad_area;
 use plane::area::tri_area;
@@ -12,6 +13,7 @@ ghost use mathlib.Core.List.{List, []};
 ghost use Rattle.definition.specs.Lists.{all};
 ghost use Rattle.definition.specs.Cells.{Live, Mesh, tri, new-quad};
 ghost use Rattle.definition.specs.Region.{area-of, region-area, cell-inside, area-agrees, region};
+ghost use Rattle.joints.specs.Table.{Locks};
 ghost use Rattle.regions.specs.Listing.{Reached};
 ghost use Rattle.regions.specs.Flood.{tri-live};
 ghost use Rattle.regions.specs.Fill.{Known, Shown, Drawn};
@@ -117,6 +119,7 @@ fn area_agrees(
 pub fn region(
     w: &mut [u32],
     q: &[f64],
+    j: &[u32],
     s: usize,
     p: usize,
     seed: usize,
@@ -125,8 +128,8 @@ pub fn region(
     c: usize,
     d: usize,
 ) -> usize
-    requires { ⌜ ((m : Mesh) × Drawn (now w) (now q) s p seed m × Known m a b c d) ⌝ }
-    ensures { λ r. ⌜ ((m : Mesh) → Drawn (now (w .entry)) (now (q .entry)) s p seed m → Known m a b c d → Reached (now (w .entry)) (now (w .exit)) s p m [] (region m seed (new-quad a b c d)) r) ⌝ }
+    requires { ⌜ ((m : Mesh) × Drawn (now w) (now q) s p seed m × Known m a b c d × Locks (now j) (m .locked)) ⌝ }
+    ensures { λ r. ⌜ ((m : Mesh) → Drawn (now (w .entry)) (now (q .entry)) s p seed m → Known m a b c d → Locks (now (j .entry)) (m .locked) → Reached (now (w .entry)) (now (w .exit)) s p m [] (region m seed (new-quad a b c d)) r) ⌝ }
 {
     let n = flood(w, s, p, seed, a, b, c, d);
     if n == 0 {
@@ -136,6 +139,9 @@ pub fn region(
         return 0;
     }
     if !area_agrees(w, q, s, p, n, a, b, c, d) {
+        return 0;
+    }
+    if !spares(w, j, s, p, n, a, b, c, d) {
         return 0;
     }
     n

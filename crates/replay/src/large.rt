@@ -149,9 +149,11 @@ fn answer_hash(size: f64, stop: u32) -> u64 {
     let mut floats = [0.0; 4096];
     put_points(&mut points);
     put_triangles(&mut triangles);
+    let none: [u32; 0] = [];
     let a = run_front(
         &mut points,
         &triangles,
+        &none,
         &mut quads,
         &mut out,
         &mut components,

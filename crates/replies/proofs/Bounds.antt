@@ -10,7 +10,7 @@ use Rattle.definition.specs.Lists.{find}
 use Rattle.definition.specs.Numbers.{max-attempts}
 use Rattle.definition.specs.Counts.{Counts, tally, no-counts, Want, of-points, of-slots, number}
 use Rattle.definition.specs.Front.{Outcome, ran, wanting, run-front}
-use Rattle.definition.specs.Call.{Asked, Lent, Lengths, finished, refusal, given-points, given-tris, settings, conditions, untouched, after-run, call}
+use Rattle.definition.specs.Call.{Asked, Lent, Lengths, finished, refusal, given-points, given-tris, given-locks, settings, conditions, untouched, after-run, call}
 use Rattle.definition.specs.Call as call
 use Rattle.laws.specs.Lists.{In, find-in, known}
 use Rattle.laws.specs.Cells.{points-length}
@@ -37,7 +37,8 @@ module _ (a : Asked) (l : Lent) (k : ℕ) where
     | inr (inr (inr (inr (inr (inl e))))) ↦ let f = ap (λ z. z .0) e in (omega arith, omega arith)
     | inr (inr (inr (inr (inr (inr (inl e)))))) ↦ let f = ap (λ z. z .0) e in (omega arith, omega arith)
     | inr (inr (inr (inr (inr (inr (inr (inl e))))))) ↦ let f = ap (λ z. z .0) e in (omega arith, omega arith)
-    | inr (inr (inr (inr (inr (inr (inr (inr e))))))) ↦ absurd e
+    | inr (inr (inr (inr (inr (inr (inr (inr (inl e)))))))) ↦ let f = ap (λ z. z .0) e in (omega arith, omega arith)
+    | inr (inr (inr (inr (inr (inr (inr (inr (inr e)))))))) ↦ absurd e
   ]
 
   of-want : (w : Want) → (0 < number w) × (number w ≤ 16)
@@ -54,7 +55,7 @@ module _ (a : Asked) (l : Lent) (k : ℕ) where
   pub refused-number : call a l .answer ≡ refusal k → (0 < k) × (k ≤ 16)
   unfolding call untouched
   refused-number h = elim (known (find (λ c. c .1) (conditions a l))) [
-    | inl f ↦ of-outcome (run-front (settings a) (given-tris a l) (given-points a l)) (rw (f, call) at h)
+    | inl f ↦ of-outcome (run-front (settings a) (given-locks a l) (given-tris a l) (given-points a l)) (rw (f, call) at h)
     | inr f ↦
         let g : refusal (f .0 .0) ≡ refusal k = rw (f .1, call) at h in
         let e : f .0 .0 ≡ k = cc in
@@ -86,9 +87,9 @@ module _ (a : Asked) (l : Lent) (double : fits binary64 (a .quality .largest-cos
       let f = answer-fits a l c n e in
       let exit = call a l .lent in
       record {
-        front-empty = subst (λ z. z .front-empty ≤ 1) (sym (b .counts-are)) (front-empty-bound (settings a) (given-tris a l) (given-points a l) (b .run) (b .ended));
+        front-empty = subst (λ z. z .front-empty ≤ 1) (sym (b .counts-are)) (front-empty-bound (settings a) (given-locks a l) (given-tris a l) (given-points a l) (b .run) (b .ended));
         attempts =
-            let h = attempts-bound (settings a) (given-tris a l) (given-points a l) (b .run) (b .ended) in
+            let h = attempts-bound (settings a) (given-locks a l) (given-tris a l) (given-points a l) (b .run) (b .ended) in
             let g : b .run .counts .attempts ≤ 22801 = omega arith in
             subst (λ z. z .attempts ≤ 22801) (sym (b .counts-are)) g;
         adds-up = let s = k .attempts-sum in omega arith;

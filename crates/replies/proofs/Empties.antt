@@ -1,5 +1,6 @@
 -- The front is found empty at most once in a run.
 use mathlib.Core.Path.{_≡_, refl, sym, subst}
+use mathlib.Core.Bool.{Bool}
 use mathlib.Core.List.{List, [], _∷_}
 use Prim.{absurd, tt}
 use Prim.Native.Nat.{ℕ, zero, suc, _+_, _≤_}
@@ -108,6 +109,6 @@ outcome-found r (limited st) h e = let f : r ≡ result st = cc in let g : resul
 outcome-found r (stopped w st) h e = absurd (let z : _≡_ {A = ℕ} 0 1 = cc in omega arith)
 
 -- a finished run has found its front empty at most once
-pub front-empty-bound : (s : Settings) (ts : List Tri) (ps : List Node) (r : Result) → run-front s ts ps ≡ ran r → r .counts .front-empty ≤ 1
+pub front-empty-bound : (s : Settings) (lk : Edge → Bool) (ts : List Tri) (ps : List Node) (r : Result) → run-front s lk ts ps ≡ ran r → r .counts .front-empty ≤ 1
 unfolding run-front start no-counts tally
-front-empty-bound s ts ps r e = outcome-found r _ (front-loop-found s (length ts) (s .attempts + 2) (start s ts ps) (omega arith)) e
+front-empty-bound s lk ts ps r e = outcome-found r _ (front-loop-found s (length ts) (s .attempts + 2) (start s lk ts ps) (omega arith)) e

@@ -1,6 +1,6 @@
 -- Rounds, until one places no quad: fuel enough is left, since each that does makes an attempt.
 use mathlib.Core.Path.{_≡_, refl, ap, sym, _∙_, subst}
-use mathlib.Core.Bool.{true, false}
+use mathlib.Core.Bool.{Bool, true, false}
 use mathlib.Core.List.{List, []}
 use Prim.{absurd}
 use Prim.Native.Nat.{ℕ, zero, suc, _+_, _-_, _*_, _<_, _≤_}
@@ -9,7 +9,7 @@ use lib.Ieee.{Float}
 use lib.ListN.{length}
 use Rattle.definition.specs.Lists.{flat-map}
 use Rattle.definition.specs.Counts.{tally, no-counts, Want, of-points, of-slots}
-use Rattle.definition.specs.Plane.{Node}
+use Rattle.definition.specs.Plane.{Node, Edge}
 use Rattle.definition.specs.Cells.{Tri, front}
 use Rattle.definition.specs.Front.{State, Progress, stuck, progressed, limited, stopped, round, front-loop, start}
 use Rattle.definition.specs.Call.{onto}
@@ -128,12 +128,12 @@ module _ (w : List ℕ) (q : List Float) (quads : List ℕ) (x : Setup) (g : Sta
 
 -- ---- the start
 
-module _ (w : List ℕ) (q f : List Float) (quads : List ℕ) (rules : Rules) (c : Counters) (ts : List Tri) (ps : List Node) (k : CanRun w q f quads rules c ts ps) where
+module _ (w : List ℕ) (q f : List Float) (quads : List ℕ) (rules : Rules) (c : Counters) (lk : Edge → Bool) (ts : List Tri) (ps : List Node) (k : CanRun w q f quads rules c lk ts ps) where
   abbrev pub begun-with : Begun
-  begun-with = record { ts = ts; ps = ps; floats = q; old = quads }
+  begun-with = record { locked = lk; ts = ts; ps = ps; floats = q; old = quads }
 
   abbrev x : Setup
-  x = setup rules (record { ts = ts; ps = ps; floats = q; old = quads })
+  x = setup rules (record { locked = lk; ts = ts; ps = ps; floats = q; old = quads })
 
   fixed : Fixed x
   fixed = record { proper = k .proper; given = k .is-given; few = k .few; attempts = k .attempts; points = k .points; slots = k .slots; within = k .within; sized = k .sized; room = k .room }
@@ -146,19 +146,19 @@ module _ (w : List ℕ) (q f : List Float) (quads : List ℕ) (rules : Rules) (c
       record { fits = omega arith; few-records = omega arith; few-nodes = omega arith }
 
   module _ (w₁ : List ℕ) (to : OpenTo w w₁ (refused-at (rules .slots) (rules .capacity)) (3 * rules .slots) (rules .capacity)) (g : Standing) (b : Begins c g) where
-    begin-counts : counts-of g ≡ start (settings-of rules) ts ps .counts
+    begin-counts : counts-of g ≡ start (settings-of rules) lk ts ps .counts
     unfolding start no-counts tally
     begin-counts = same-counts (counts-of g) no-counts (b .front) (ap (λ z. z .attempts) (b .counters) ∙ k .fresh) (b .placement) (b .invalid) (b .recovery) (b .region) (b .odd) (b .insertions) (b .limit)
 
-    pub starts : Goes w₁ q quads x g (start (settings-of rules) ts ps) []
+    pub starts : Goes w₁ q quads x g (start (settings-of rules) lk ts ps) []
     unfolding start onto flat-map
     starts =
         let kept = to .kept in
         record {
           ever = [];
           holds = record {
-            ready = subst (λ (z : Counters). Ready w₁ q rules z (start (settings-of rules) ts ps .mesh)) (sym (b .counters))
-                (ready-under w w₁ q rules c (start (settings-of rules) ts ps .mesh) (record { len = kept .len; low = λ i l. kept .low i (omega arith) }) (k .ready));
+            ready = subst (λ (z : Counters). Ready w₁ q rules z (start (settings-of rules) lk ts ps .mesh)) (sym (b .counters))
+                (ready-under w w₁ q rules c (start (settings-of rules) lk ts ps .mesh) (record { len = kept .len; low = λ i l. kept .low i (omega arith) }) (k .ready));
             counts = begin-counts;
             behind = record { len = refl; rest = refl };
             so-far = record { blocks = to .blocks; records = b .records; number = b .quads; text = refl };
@@ -166,7 +166,7 @@ module _ (w : List ℕ) (q f : List Float) (quads : List ℕ) (rules : Rules) (c
           reaches = record { fixed = fixed; old = []; reach = begun; sub = λ e i. i };
         }
 
-    pub fuel-enough : rules .attempts < rules .attempts + 2 + start (settings-of rules) ts ps .counts .attempts
+    pub fuel-enough : rules .attempts < rules .attempts + 2 + start (settings-of rules) lk ts ps .counts .attempts
     fuel-enough = omega arith
 
     left : (w' : List ℕ) (q' f' : List Float) (quads' : List ℕ) (st : State) (r : Run) → length w' ≡ length w → length f' ≡ length f → Leaves w' q' quads' x (r .standing) st → LeftRun w w' q q' f f' quads quads' rules st r
@@ -179,8 +179,8 @@ module _ (w : List ℕ) (q f : List Float) (quads : List ℕ) (rules : Rules) (c
     run-case w' q' f' quads' (stopped wt st) r l m h = (h .0, left w' q' f' quads' st r l m (h .1))
 
     pub runs-to : (w' : List ℕ) (q' f' : List Float) (quads' : List ℕ) (r : Run) → length w' ≡ length w → length f' ≡ length f
-        → Finished w' q' quads' x (front-loop (rules .attempts + 2) (settings-of rules) (rules .given) (start (settings-of rules) ts ps)) r
-        → RunTo w w' q q' f f' quads quads' rules (front-loop (rules .attempts + 2) (settings-of rules) (length ts) (start (settings-of rules) ts ps)) r
+        → Finished w' q' quads' x (front-loop (rules .attempts + 2) (settings-of rules) (rules .given) (start (settings-of rules) lk ts ps)) r
+        → RunTo w w' q q' f f' quads quads' rules (front-loop (rules .attempts + 2) (settings-of rules) (length ts) (start (settings-of rules) lk ts ps)) r
     runs-to w' q' f' quads' r l m h =
-        run-case w' q' f' quads' (front-loop (rules .attempts + 2) (settings-of rules) (length ts) (start (settings-of rules) ts ps)) r l m
-        (subst (λ (n : ℕ). Finished w' q' quads' x (front-loop (rules .attempts + 2) (settings-of rules) n (start (settings-of rules) ts ps)) r) (k .is-given) h)
+        run-case w' q' f' quads' (front-loop (rules .attempts + 2) (settings-of rules) (length ts) (start (settings-of rules) lk ts ps)) r l m
+        (subst (λ (n : ℕ). Finished w' q' quads' x (front-loop (rules .attempts + 2) (settings-of rules) n (start (settings-of rules) lk ts ps)) r) (k .is-given) h)

@@ -8,7 +8,7 @@ use lib.Ieee.{Float}
 use Rattle.definition.specs.Lists.{flat-map}
 use Rattle.definition.specs.Numbers.{max-attempts}
 use Rattle.definition.specs.Counts.{Want, of-points, of-slots}
-use Rattle.definition.specs.Plane.{Node}
+use Rattle.definition.specs.Plane.{Node, Edge}
 use Rattle.definition.specs.Cells.{Tri, quad-nodes}
 use Rattle.definition.specs.Front.{State, Progress, stuck, progressed, limited, stopped, start}
 use Rattle.definition.specs.Call.{onto}
@@ -74,9 +74,9 @@ pub record Begins (c : Counters) (g : Standing) : Type 0 where
   pub quads : g .quads ≡ 0
   pub records : g .records ≡ 0
 
--- the slices stand for the given triangles ts and points ps, and have the room that document 01 says; refusals 1 to 7 were tested
-pub record CanRun (w : List ℕ) (q f : List Float) (quads : List ℕ) (rules : Rules) (c : Counters) (ts : List Tri) (ps : List Node) : Type 0 where
-  pub ready : Ready w q rules c (start (settings-of rules) ts ps .mesh)
+-- the slices stand for the given triangles ts and points ps, with the locked edges lk, and have the room that document 01 says; refusals 1 to 7 were tested
+pub record CanRun (w : List ℕ) (q f : List Float) (quads : List ℕ) (rules : Rules) (c : Counters) (lk : Edge → Bool) (ts : List Tri) (ps : List Node) : Type 0 where
+  pub ready : Ready w q rules c (start (settings-of rules) lk ts ps .mesh)
   pub proper : Proper ps ts
   pub is-given : rules .given ≡ length ts
   pub few : rules .given ≤ 4096

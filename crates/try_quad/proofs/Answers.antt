@@ -16,6 +16,7 @@ use Rattle.definition.specs.Trials.{Trial, trials}
 use Rattle.definition.specs.Attempt.{Attempt, placed, refused, ended, Stance, Sides, found, missing, overfull, side-nodes, try-trials, try-both, try-first}
 use Rattle.laws.specs.Numbers.{clash}
 use Rattle.laws.specs.Frames.{stays-trans}
+use Rattle.joints.specs.Table.{Locks}
 use Rattle.rules.specs.declared.Rules.{Rules}
 use Rattle.rules.specs.Settings.{quality-of, settings-of}
 use Rattle.cells.specs.Layout.{Sizes, near-at, far-at, refused-at}
@@ -34,7 +35,7 @@ use Rattle.side_nodes.specs.Sides.{CanSeek, ListedAt, LeftAt, SidesAre, SidesTo
 use Rattle.side_nodes.specs.declared.side.Found.the-variants as founds
 use Rattle.side_nodes.specs.declared.side.Side.{Side}
 use Rattle.pairs.specs.Pair.{CanPair, PairsTo}
-use Rattle.try_quad.specs.Tries.{TriedTo, Ends, Both, First}
+use Rattle.try_quad.specs.Tries.{TriedTo, Ends, Both, First, LocksIn}
 use Rattle.try_quad.proofs.Points.{AttemptOn, trials-on}
 
 -- ---- lists
@@ -152,6 +153,9 @@ module _ {w : List ℕ} {q₀ q : List Float} {rules : Rules} {c₀ : Counters} 
   abbrev pub both-found : IsFound w q₀ q rules (far-at (rules .slots) (rules .capacity)) c₀ far x
   both-found = at-found w q₀ q rules (far-at (rules .slots) (rules .capacity)) c₀ far x (h .is) e
 
+  pub both-lock : {j : List ℕ} → LocksIn j x → Locks j (both-found .m .locked)
+  both-lock l = rw (both-found .is) at l
+
   pub both-sizes : Sizes (rules .slots) (rules .capacity)
   both-sizes = sizes w (rules .slots) (rules .capacity) (both-found .left .ready .rep .room)
 
@@ -242,6 +246,9 @@ module _ (w : List ℕ) (q₀ q : List Float) (rules : Rules) (c₀ : Counters) 
     (h : First w q₀ q rules c₀ u v a b seed near x) (e : near .found ≡ founds.Found) where
   abbrev pub first-found : IsFound w q₀ q rules (near-at (rules .slots) (rules .capacity)) c₀ near x
   first-found = at-found w q₀ q rules (near-at (rules .slots) (rules .capacity)) c₀ near x (h .is) e
+
+  pub first-lock : {j : List ℕ} → LocksIn j x → Locks j (first-found .m .locked)
+  first-lock l = rw (first-found .is) at l
 
   pub first-sizes : Sizes (rules .slots) (rules .capacity)
   first-sizes = sizes w (rules .slots) (rules .capacity) (first-found .left .ready .rep .room)

@@ -6,7 +6,8 @@ use Prim.Native.Nat.{ℕ, _≤_, _<_}
 use lib.Ieee.{Float}
 use Rattle.definition.specs.Plane.{Vec}
 use Rattle.definition.specs.Cells.{Mesh}
-use Rattle.definition.specs.Attempt.{Attempt, Stance, Sides}
+use Rattle.definition.specs.Attempt.{Attempt, Stance, Sides, found, missing, overfull}
+use Rattle.joints.specs.Table.{Locks}
 use Rattle.rules.specs.declared.Rules.{Rules}
 use Rattle.cells.specs.Layout.{near-at, far-at}
 use Rattle.cells.specs.declared.counters.Counters.{Counters}
@@ -58,3 +59,9 @@ pub record First (w : List ℕ) (q₀ q : List Float) (rules : Rules) (c₀ : Co
   pub seeded : seed < rules .slots
   pub few : near .inserted < 2
   pub pairs : rules .quality .pairs ≤ room
+
+-- the locked edges of the mesh that the side nodes leave are those of the table
+abbrev pub LocksIn : List ℕ → Sides → Type 0
+LocksIn j (found cs n m) = Locks j (m .locked)
+LocksIn j (missing n m) = Locks j (m .locked)
+LocksIn j (overfull w n m) = Locks j (m .locked)

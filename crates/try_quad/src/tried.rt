@@ -32,14 +32,16 @@ ghost use Rattle.definition.specs.Cells.{Mesh};
 ghost use Rattle.definition.specs.Attempt as attempt;
 ghost use Rattle.definition.specs.Attempt.{Sides, try-both, try-first, try-along, try-quad};
 ghost use Rattle.cells.specs.declared.counters.Counters.{Counters};
+ghost use Rattle.joints.specs.Table.{Locks};
 ghost use Rattle.plane.specs.Vectors.{vec};
 ghost use Rattle.rules.specs.Settings.{settings-of};
-ghost use Rattle.try_quad.specs.Tries.{CanAttempt, TriedTo, Ends, Stands, Both, First};
+ghost use Rattle.try_quad.specs.Tries.{CanAttempt, TriedTo, Ends, Stands, Both, First, LocksIn};
 
 // With the side nodes at a and what was found at b: the pairs.
 fn with_both(
     w: &mut [u32],
     q: &[f64],
+    j: &[u32],
     rules: Rules,
     u: usize,
     v: usize,
@@ -48,8 +50,8 @@ fn with_both(
     nears: usize,
     far: Side,
 ) -> Tried
-    requires { ⌜ ((q₀ : List Float) × (c₀ : Counters) × (cs : List ℕ) × (x : Sides) × Both (now w) q₀ (now q) rules c₀ u v a b nears far cs x) ⌝ }
-    ensures { λ r. ⌜ ((q₀ : List Float) (c₀ : Counters) (cs : List ℕ) (x : Sides) (f : attempt.Stance) → Both (now (w .entry)) q₀ (now (q .entry)) rules c₀ u v a b nears far cs x → f .edge ≡ (u, v) → f .a ≡ a → f .b ≡ b → TriedTo (now (w .entry)) (now (w .exit)) q₀ (now (q .entry)) rules c₀ (try-both (settings-of rules) f cs x) r) ⌝ }
+    requires { ⌜ ((q₀ : List Float) × (c₀ : Counters) × (cs : List ℕ) × (x : Sides) × Both (now w) q₀ (now q) rules c₀ u v a b nears far cs x × LocksIn (now j) x) ⌝ }
+    ensures { λ r. ⌜ ((q₀ : List Float) (c₀ : Counters) (cs : List ℕ) (x : Sides) (f : attempt.Stance) → Both (now (w .entry)) q₀ (now (q .entry)) rules c₀ u v a b nears far cs x → LocksIn (now (j .entry)) x → f .edge ≡ (u, v) → f .a ≡ a → f .b ≡ b → TriedTo (now (w .entry)) (now (w .exit)) q₀ (now (q .entry)) rules c₀ (try-both (settings-of rules) f cs x) r) ⌝ }
 {
     let found = far.found;
     let c = far.counters;
@@ -74,7 +76,7 @@ fn with_both(
                 a,
                 b,
             );
-            try_pairs(w, q, rules, c, inserted, u, v, &nodes, count)
+            try_pairs(w, q, j, rules, c, inserted, u, v, &nodes, count)
         }
     }
 }
@@ -83,6 +85,7 @@ fn with_both(
 fn with_first(
     w: &mut [u32],
     q: &mut [f64],
+    j: &[u32],
     rules: Rules,
     stance: Stance,
     u: usize,
@@ -91,8 +94,8 @@ fn with_first(
     b: usize,
     near: Side,
 ) -> Tried
-    requires { ⌜ ((q₀ : List Float) × (c₀ : Counters) × (x : Sides) × First (now w) q₀ (now q) rules c₀ u v a b (stance .seed) near x) ⌝ }
-    ensures { λ r. ⌜ ((q₀ : List Float) (c₀ : Counters) (x : Sides) (f : attempt.Stance) → First (now (w .entry)) q₀ (now (q .entry)) rules c₀ u v a b (stance .seed) near x → Stands f u v a b (stance .seed) (vec (stance .normal)) (stance .target) (stance .mismatch) → TriedTo (now (w .entry)) (now (w .exit)) q₀ (now (q .exit)) rules c₀ (try-first (settings-of rules) f x) r) ⌝ }
+    requires { ⌜ ((q₀ : List Float) × (c₀ : Counters) × (x : Sides) × First (now w) q₀ (now q) rules c₀ u v a b (stance .seed) near x × LocksIn (now j) x) ⌝ }
+    ensures { λ r. ⌜ ((q₀ : List Float) (c₀ : Counters) (x : Sides) (f : attempt.Stance) → First (now (w .entry)) q₀ (now (q .entry)) rules c₀ u v a b (stance .seed) near x → LocksIn (now (j .entry)) x → Stands f u v a b (stance .seed) (vec (stance .normal)) (stance .target) (stance .mismatch) → TriedTo (now (w .entry)) (now (w .exit)) q₀ (now (q .exit)) rules c₀ (try-first (settings-of rules) f x) r) ⌝ }
 {
     let found = near.found;
     let c = near.counters;
@@ -114,7 +117,7 @@ fn with_first(
                 a,
                 inserted,
             );
-            with_both(w, q, rules, u, v, a, b, near.count, far)
+            with_both(w, q, j, rules, u, v, a, b, near.count, far)
         }
     }
 }
@@ -123,6 +126,7 @@ fn with_first(
 fn try_along(
     w: &mut [u32],
     q: &mut [f64],
+    j: &[u32],
     rules: Rules,
     c: Counters,
     u: usize,
@@ -131,9 +135,9 @@ fn try_along(
     a: usize,
     b: usize,
 ) -> Tried
-    requires { ⌜ ((m : Mesh) × CanAttempt (now w) (now q) rules c u v m) ⌝ }
+    requires { ⌜ ((m : Mesh) × CanAttempt (now w) (now q) rules c u v m × Locks (now j) (m .locked)) ⌝ }
     requires { ⌜ Ends (c .points) u v a b × (seed < rules .slots) ⌝ }
-    ensures { λ r. ⌜ ((m : Mesh) → CanAttempt (now (w .entry)) (now (q .entry)) rules c u v m → TriedTo (now (w .entry)) (now (w .exit)) (now (q .entry)) (now (q .exit)) rules c (try-along (settings-of rules) m (u, v) seed a b) r) ⌝ }
+    ensures { λ r. ⌜ ((m : Mesh) → CanAttempt (now (w .entry)) (now (q .entry)) rules c u v m → Locks (now (j .entry)) (m .locked) → TriedTo (now (w .entry)) (now (w .exit)) (now (q .entry)) (now (q .exit)) rules c (try-along (settings-of rules) m (u, v) seed a b) r) ⌝ }
 {
     let span = length(q, a, b);
     let tangent = from_to(q, a, b);
@@ -165,20 +169,21 @@ fn try_along(
         b,
         0,
     );
-    with_first(w, q, rules, stance, u, v, a, b, near)
+    with_first(w, q, j, rules, stance, u, v, a, b, near)
 }
 
 // An attempt on the edge u-v: its seed is the first triangle that owns it.
 pub fn try_quad(
     w: &mut [u32],
     q: &mut [f64],
+    j: &[u32],
     rules: Rules,
     c: Counters,
     u: usize,
     v: usize,
 ) -> Tried
-    requires { ⌜ ((m : Mesh) × CanAttempt (now w) (now q) rules c u v m) ⌝ }
-    ensures { λ r. ⌜ ((m : Mesh) → CanAttempt (now (w .entry)) (now (q .entry)) rules c u v m → TriedTo (now (w .entry)) (now (w .exit)) (now (q .entry)) (now (q .exit)) rules c (try-quad (settings-of rules) m (u, v)) r) ⌝ }
+    requires { ⌜ ((m : Mesh) × CanAttempt (now w) (now q) rules c u v m × Locks (now j) (m .locked)) ⌝ }
+    ensures { λ r. ⌜ ((m : Mesh) → CanAttempt (now (w .entry)) (now (q .entry)) rules c u v m → Locks (now (j .entry)) (m .locked) → TriedTo (now (w .entry)) (now (w .exit)) (now (q .entry)) (now (q .exit)) rules c (try-quad (settings-of rules) m (u, v)) r) ⌝ }
 {
     let seed = tri_owner(w, rules.slots, rules.capacity, u, v);
     if seed >= rules.slots {
@@ -186,7 +191,7 @@ pub fn try_quad(
     }
     let apex = third(w, rules.slots, seed, u, v);
     if cross(q, u, v, apex) > 0.0 {
-        return try_along(w, q, rules, c, u, v, seed, u, v);
+        return try_along(w, q, j, rules, c, u, v, seed, u, v);
     }
-    try_along(w, q, rules, c, u, v, seed, v, u)
+    try_along(w, q, j, rules, c, u, v, seed, v, u)
 }

@@ -37,7 +37,7 @@ lengths-listed n = n .quads ∷ n .triangles ∷ n .points ∷ n .components ∷
 -- the slices that are shown
 unfoldable pub shown : List Float → List ℕ → List ℕ → List ℕ → Lent
 shown points quads triangles components =
-    record { points = points; triangles = []; quads = quads; triangles-out = triangles; components = components; work = []; float-work = [] }
+    record { points = points; triangles = []; joints = []; quads = quads; triangles-out = triangles; components = components; work = []; float-work = [] }
 
 -- the others are never looked at
 pub only-shown : (given : List (List ℕ)) (c : def.Counts) (n : call.Lengths) (l : Lent)

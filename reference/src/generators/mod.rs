@@ -2,6 +2,7 @@
 
 mod extremes;
 mod grids;
+pub mod joints;
 pub mod large;
 pub mod sets;
 pub mod shape;

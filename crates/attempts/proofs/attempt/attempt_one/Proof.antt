@@ -11,7 +11,7 @@ limited-requires c κs =
     let at-past-limit = at-if1 .before in
     let at-c = at-past-limit .before in
     let at-counted = at-c .before in
-    let t = at-counted .before .before .before .before in
+    let t = at-counted .before .before .before .before .before in
     let a = t .args in
     let m = t .pre in
     few-now (setup (a .rules) (t .pre .0)) (a .w .now) (a .q .now) (a .quads .now) (a .before) (m .1) (a .u, a .v) (m .2) (m .3) (at-counted .counted .result) (at-counted .counted .ensures)
@@ -23,9 +23,9 @@ returns c =
     let at-past-limit = at-if1 .before in
     let at-c = at-past-limit .before in
     let at-counted = at-c .before in
-    let t = at-counted .before .before .before .before in
+    let t = at-counted .before .before .before .before .before in
     let a = t .args in
-    λ k st es m. limited-step (setup (a .rules) k) (a .w .now) (a .q .now) (a .quads .now) (a .before) st (a .u, a .v) es m (at-counted .counted .result) (at-counted .counted .ensures)
+    λ k st es m l. limited-step (setup (a .rules) k) (a .w .now) (a .q .now) (a .quads .now) (a .before) st (a .u, a .v) es m (at-counted .counted .result) (at-counted .counted .ensures)
     (past-is (setup (a .rules) k) (a .w .now) (a .q .now) (a .quads .now) (a .before) st (a .u, a .v) es m (at-counted .counted .result) (at-counted .counted .ensures) (at-past-limit .past-limit .result) (at-past-limit .past-limit .ensures) ∙ at-if1 .if1 .taken) (at-limited .limited .result) (at-limited .limited .ensures)
 
 make-attempt-requires : tie.Need-make-attempt-requires
@@ -34,7 +34,7 @@ make-attempt-requires c κs =
     let at-past-limit = at-if1 .before in
     let at-c = at-past-limit .before in
     let at-counted = at-c .before in
-    let t = at-counted .before .before .before .before in
+    let t = at-counted .before .before .before .before .before in
     let a = t .args in
     let m = t .pre in (
       m .0,
@@ -42,6 +42,7 @@ make-attempt-requires c κs =
       m .2,
       makes (setup (a .rules) (t .pre .0)) (a .w .now) (a .q .now) (a .quads .now) (a .before) (m .1) (a .u, a .v) (m .2) (m .3) (at-counted .counted .result) (at-counted .counted .ensures)
           (past-is (setup (a .rules) (t .pre .0)) (a .w .now) (a .q .now) (a .quads .now) (a .before) (m .1) (a .u, a .v) (m .2) (m .3) (at-counted .counted .result) (at-counted .counted .ensures) (at-past-limit .past-limit .result) (at-past-limit .past-limit .ensures) ∙ at-if1 .if1 .left),
+      m .4,
     )
 
 returns-2 : tie.Need-returns-2
@@ -54,10 +55,10 @@ returns-2 c =
     let at-past-limit = at-if1 .before in
     let at-c = at-past-limit .before in
     let at-counted = at-c .before in
-    let t = at-counted .before .before .before .before in
+    let t = at-counted .before .before .before .before .before in
     let a = t .args in
-    λ k st es m. at-make-attempt .make-attempt .ensures k st es (makes (setup (a .rules) k) (a .w .now) (a .q .now) (a .quads .now) (a .before) st (a .u, a .v) es m (at-counted .counted .result) (at-counted .counted .ensures)
-    (past-is (setup (a .rules) k) (a .w .now) (a .q .now) (a .quads .now) (a .before) st (a .u, a .v) es m (at-counted .counted .result) (at-counted .counted .ensures) (at-past-limit .past-limit .result) (at-past-limit .past-limit .ensures) ∙ at-if1 .if1 .left))
+    λ k st es m l. at-make-attempt .make-attempt .ensures k st es (makes (setup (a .rules) k) (a .w .now) (a .q .now) (a .quads .now) (a .before) st (a .u, a .v) es m (at-counted .counted .result) (at-counted .counted .ensures)
+    (past-is (setup (a .rules) k) (a .w .now) (a .q .now) (a .quads .now) (a .before) st (a .u, a .v) es m (at-counted .counted .result) (at-counted .counted .ensures) (at-past-limit .past-limit .result) (at-past-limit .past-limit .ensures) ∙ at-if1 .if1 .left)) l
 
 pub attempt-one-spec : {M : Type 1} → statement M
 attempt-one-spec =

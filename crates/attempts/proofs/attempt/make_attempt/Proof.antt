@@ -6,7 +6,7 @@ use Rattle.laws.specs.Frames.{stays-refl}
 use Rattle.cells.specs.Layout.{refused-at, near-at}
 use Rattle.rules.specs.Settings.{settings-of}
 use Rattle.attempts.specs.Runs.{setup}
-use Rattle.attempts.proofs.Attempting.{on-edge, ready, can-attempt, off-front, on-front, can-settle, step-is, off-to, was-front, was-off}
+use Rattle.attempts.proofs.Attempting.{locks, on-edge, ready, can-attempt, off-front, on-front, can-settle, step-is, off-to, was-front, was-off}
 use borrow.Author.Needs.{needs}
 use Rattle.attempts.proofs.attempt.make_attempt.Statement.{statement}
 use Rattle.attempts.proofs.attempt.make_attempt.Tie as tie
@@ -14,7 +14,7 @@ use Rattle.attempts.proofs.attempt.make_attempt.Tie as tie
 is-front-requires : tie.Need-is-front-requires
 is-front-requires c κs =
     let at-c = c .before in
-    let t = at-c .before .before .before .before in
+    let t = at-c .before .before .before .before .before in
     let a = t .args in
     let m = t .pre in
     ((m .1 .mesh, ready (setup (a .rules) (t .pre .0)) (a .w .now) (a .q .now) (a .quads .now) (a .g) (m .1) (a .u) (a .v) (m .2) (m .3) .rep), on-edge (setup (a .rules) (t .pre .0)) (a .w .now) (a .q .now) (a .quads .now) (a .g) (m .1) (a .u) (a .v) (m .2) (m .3))
@@ -25,7 +25,7 @@ settle-requires c κs =
     let at-if1 = at-without-quad .before in
     let at-is-front = at-if1 .before in
     let at-c = at-is-front .before .before in
-    let t = at-c .before .before .before .before in
+    let t = at-c .before .before .before .before .before in
     let a = t .args in
     let m = t .pre in
     let off = was-off (setup (a .rules) (t .pre .0)) (a .w .now) (a .q .now) (a .quads .now) (a .g) (m .1) (a .u) (a .v) (m .2) (m .3) (at-is-front .is-front .result) (at-is-front .is-front .ensures) (at-if1 .if1 .taken) in (
@@ -46,9 +46,9 @@ returns c =
     let at-if1 = at-without-quad .before in
     let at-is-front = at-if1 .before in
     let at-c = at-is-front .before .before in
-    let t = at-c .before .before .before .before in
+    let t = at-c .before .before .before .before .before in
     let a = t .args in
-    λ k st es m.
+    λ k st es m l.
     let off = was-off (setup (a .rules) k) (a .w .now) (a .q .now) (a .quads .now) (a .g) st (a .u) (a .v) es m (at-is-front .is-front .result) (at-is-front .is-front .ensures) (at-if1 .if1 .taken) in
     let ran = off-front (setup (a .rules) k) (a .w .now) (a .q .now) (a .quads .now) (a .g) st (a .u) (a .v) es m off in
     let to = off-to (setup (a .rules) k) (a .w .now) (a .q .now) (a .quads .now) (a .g) st (a .u) (a .v) es m (at-without-quad .without-quad .result) (at-without-quad .without-quad .ensures) in
@@ -62,10 +62,10 @@ try-quad-requires c κs =
     let at-if1 = c .before .before in
     let at-is-front = at-if1 .before in
     let at-c = at-is-front .before .before in
-    let t = at-c .before .before .before .before in
+    let t = at-c .before .before .before .before .before in
     let a = t .args in
     let m = t .pre in
-    (m .1 .mesh, can-attempt (setup (a .rules) (t .pre .0)) (a .w .now) (a .q .now) (a .quads .now) (a .g) (m .1) (a .u) (a .v) (m .2) (m .3))
+    (m .1 .mesh, can-attempt (setup (a .rules) (t .pre .0)) (a .w .now) (a .q .now) (a .quads .now) (a .g) (m .1) (a .u) (a .v) (m .2) (m .3), locks (setup (a .rules) (t .pre .0)) (a .w .now) (a .q .now) (a .quads .now) (a .g) (m .1) (a .u) (a .v) (m .2) (m .3) (m .4))
 
 settle-requires-2 : tie.Need-settle-requires-2
 settle-requires-2 c κs =
@@ -75,13 +75,14 @@ settle-requires-2 c κs =
     let at-if1 = at-try-quad .before .before .before in
     let at-is-front = at-if1 .before in
     let at-c = at-is-front .before .before in
-    let t = at-c .before .before .before .before in
+    let t = at-c .before .before .before .before .before in
     let a = t .args in
     let m = t .pre in
     let x = (setup (a .rules) (t .pre .0)) in
     let on = was-front x (a .w .now) (a .q .now) (a .quads .now) (a .g) (m .1) (a .u) (a .v) (m .2) (m .3) (at-is-front .is-front .result) (at-is-front .is-front .ensures) (at-if1 .if1 .left) in
     let ran = on-front x (a .w .now) (a .q .now) (a .quads .now) (a .g) (m .1) (a .u) (a .v) (m .2) (m .3) on in
-    let to = at-try-quad .try-quad .ensures (m .1 .mesh) (can-attempt x (a .w .now) (a .q .now) (a .quads .now) (a .g) (m .1) (a .u) (a .v) (m .2) (m .3)) in
+    let to = at-try-quad .try-quad .ensures (m .1 .mesh) (can-attempt x (a .w .now) (a .q .now) (a .quads .now) (a .g) (m .1) (a .u) (a .v) (m .2) (m .3))
+    (locks x (a .w .now) (a .q .now) (a .quads .now) (a .g) (m .1) (a .u) (a .v) (m .2) (m .3) (m .4)) in
     (m .3 .ever, m .1 .blocked, m .1 .quads, m .0 .old, can-settle x (a .w .now) (a .q .now) (a .quads .now) (a .g) (m .1) (a .u) (a .v) (m .2) (m .3) (at-try-quad .try-quad .last .0) (at-try-quad .try-quad .last .1 .0) (at-try-quad .try-quad .result) (to .beyond) (try-quad (settings-of (x .rules)) (m .1 .mesh) (a .u, a .v)) ran (to .is))
 
 returns-2 : tie.Need-returns-2
@@ -95,13 +96,14 @@ returns-2 c =
     let at-if1 = at-try-quad .before .before .before in
     let at-is-front = at-if1 .before in
     let at-c = at-is-front .before .before in
-    let t = at-c .before .before .before .before in
+    let t = at-c .before .before .before .before .before in
     let a = t .args in
-    λ k st es m.
+    λ k st es m l.
     let x = (setup (a .rules) k) in
     let on = was-front x (a .w .now) (a .q .now) (a .quads .now) (a .g) st (a .u) (a .v) es m (at-is-front .is-front .result) (at-is-front .is-front .ensures) (at-if1 .if1 .left) in
     let ran = on-front x (a .w .now) (a .q .now) (a .quads .now) (a .g) st (a .u) (a .v) es m on in
-    let to = at-try-quad .try-quad .ensures (st .mesh) (can-attempt x (a .w .now) (a .q .now) (a .quads .now) (a .g) st (a .u) (a .v) es m) in
+    let to = at-try-quad .try-quad .ensures (st .mesh) (can-attempt x (a .w .now) (a .q .now) (a .quads .now) (a .g) st (a .u) (a .v) es m)
+    (locks x (a .w .now) (a .q .now) (a .quads .now) (a .g) st (a .u) (a .v) es m l) in
     let can = can-settle x (a .w .now) (a .q .now) (a .quads .now) (a .g) st (a .u) (a .v) es m (at-try-quad .try-quad .last .0) (at-try-quad .try-quad .last .1 .0) (at-try-quad .try-quad .result) (to .beyond) (try-quad (settings-of (x .rules)) (st .mesh) (a .u, a .v)) ran (to .is) in
     let set = at-settle2 .settle2 .ensures (m .ever) (st .blocked) (st .quads) (k .old) can in
     step-is x (a .w .now) (a .q .now) (a .quads .now) (a .g) st (a .u) (a .v) es m (at-try-quad .try-quad .last .0) (at-try-quad .try-quad .last .1 .0) (at-try-quad .try-quad .result) (to .beyond) (at-settle2 .settle2 .last .0) (at-settle2 .settle2 .last .1 .0) (at-settle2 .settle2 .result) set (try-quad (settings-of (x .rules)) (st .mesh) (a .u, a .v)) ran (to .is)

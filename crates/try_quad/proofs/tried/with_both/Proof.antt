@@ -3,7 +3,7 @@ use Rattle.definition.specs.Attempt.{try-both}
 use Rattle.laws.specs.Frames.{stays-refl}
 use Rattle.rules.specs.Settings.{settings-of}
 use Rattle.cells.specs.Layout.{near-at, far-at, refused-at}
-use Rattle.try_quad.proofs.Answers.{if-missing, if-no-point, if-no-slots, both-missing, both-overfull, both-found, both-sizes, both-named, kept-list, can-pair, both-to}
+use Rattle.try_quad.proofs.Answers.{if-missing, if-no-point, if-no-slots, both-missing, both-overfull, both-found, both-sizes, both-named, kept-list, can-pair, both-lock, both-to}
 use borrow.Author.Needs.{needs}
 use Rattle.try_quad.proofs.tried.with_both.Statement.{statement}
 use Rattle.try_quad.proofs.tried.with_both.Tie as tie
@@ -12,30 +12,30 @@ enum-told : tie.Need-enum-told
 enum-told c = search needs
 
 near-at-requires : tie.Need-near-at-requires
-near-at-requires c κs = both-sizes (c .before .before .before .before .before .before .before .before .pre .4) (c .before .before .before .enum-told4 .given .1)
+near-at-requires c κs = both-sizes (c .before .before .before .before .before .before .before .before .before .pre .4) (c .before .before .before .enum-told4 .given .1)
 
 far-at-requires : tie.Need-far-at-requires
-far-at-requires c κs = both-sizes (c .before .before .before .before .before .before .before .before .before .pre .4) (c .before .before .before .before .enum-told4 .given .1)
+far-at-requires c κs = both-sizes (c .before .before .before .before .before .before .before .before .before .before .pre .4) (c .before .before .before .before .enum-told4 .given .1)
 
 best-requires : tie.Need-best-requires
 best-requires c κs =
-    let h = c .before .before .before .before .before .before .before .before .before .before .pre .4 in
+    let h = c .before .before .before .before .before .before .before .before .before .before .before .pre .4 in
     (h .pairs, (_, both-named h (c .before .before .before .before .before .enum-told4 .given .1) (c .before .near-at .ensures) (c .far-at .ensures)))
 
 try-pairs-requires : tie.Need-try-pairs-requires
 try-pairs-requires c κs =
-    let t = c .before .before .before .before .before .before .before .before .before .before .before .before .before in
+    let t = c .before .before .before .before .before .before .before .before .before .before .before .before .before .before in
     let h = t .pre .4 in
     let e = c .before .before .before .before .before .before .before .before .enum-told4 .given .1 in
     let near = c .before .before .before .before .near-at .ensures in
     let far = c .before .before .before .far-at .ensures in
-    (t .args .a, t .args .b, both-found h e .m, kept-list h e near far, can-pair h e near far _ _ _ (c .before .before .best .ensures))
+    (t .args .a, t .args .b, both-found h e .m, kept-list h e near far, can-pair h e near far _ _ _ (c .before .before .best .ensures), both-lock h e (t .pre .5))
 
 returns : tie.Need-returns
 returns c =
-    let t = c .before .before .before .before .before .before in
+    let t = c .before .before .before .before .before .before .before in
     let a = t .args in
-    λ q₀ c₀ cs x f h ee ea eb.
+    λ q₀ c₀ cs x f h l ee ea eb.
     let g = settings-of (a .rules) in
     record {
       is = if-missing (a .w .now) q₀ (a .q .now) (a .rules) (far-at (a .rules .slots) (a .rules .capacity)) c₀ (a .far) (try-both g f cs) (both-missing g f cs) (both-overfull g f cs) (c .without-quad .result) x (h .is) (c .before .enum-told .given .1) (c .without-quad .ensures);
@@ -44,9 +44,9 @@ returns c =
 
 returns-2 : tie.Need-returns-2
 returns-2 c =
-    let t = c .before .before .before .before .before .before in
+    let t = c .before .before .before .before .before .before .before in
     let a = t .args in
-    λ q₀ c₀ cs x f h ee ea eb.
+    λ q₀ c₀ cs x f h l ee ea eb.
     let g = settings-of (a .rules) in
     record {
       is = if-no-point (a .w .now) q₀ (a .q .now) (a .rules) (far-at (a .rules .slots) (a .rules .capacity)) c₀ (a .far) (try-both g f cs) (both-missing g f cs) (both-overfull g f cs) (c .without-quad2 .result) x (h .is) (c .before .enum-told2 .given .1) (c .without-quad2 .ensures);
@@ -55,9 +55,9 @@ returns-2 c =
 
 returns-3 : tie.Need-returns-3
 returns-3 c =
-    let t = c .before .before .before .before .before .before in
+    let t = c .before .before .before .before .before .before .before in
     let a = t .args in
-    λ q₀ c₀ cs x f h ee ea eb.
+    λ q₀ c₀ cs x f h l ee ea eb.
     let g = settings-of (a .rules) in
     record {
       is = if-no-slots (a .w .now) q₀ (a .q .now) (a .rules) (far-at (a .rules .slots) (a .rules .capacity)) c₀ (a .far) (try-both g f cs) (both-missing g f cs) (both-overfull g f cs) (c .without-quad3 .result) x (h .is) (c .before .enum-told3 .given .1) (c .without-quad3 .ensures);
@@ -66,14 +66,14 @@ returns-3 c =
 
 returns-4 : tie.Need-returns-4
 returns-4 c =
-    let t = c .before .before .before .before .before .before .before .before .before .before .before .before .before .before .before .before in
+    let t = c .before .before .before .before .before .before .before .before .before .before .before .before .before .before .before .before .before in
     let e = c .before .before .before .before .before .before .before .before .before .before .before .enum-told4 .given .1 in
     let near = c .before .before .before .before .before .before .before .near-at .ensures in
     let far = c .before .before .before .before .before .before .far-at .ensures in
     let k = c .before .before .before .before .before .best .ensures in
     let z = c .before .before .try-pairs in
-    λ q₀ c₀ cs x f h ee ea eb.
-    both-to h e f ee ea eb (z .last .0) (z .result) (z .ensures (t .args .a) (t .args .b) (both-found h e .m) (kept-list h e near far) (can-pair h e near far _ _ _ k))
+    λ q₀ c₀ cs x f h l ee ea eb.
+    both-to h e f ee ea eb (z .last .0) (z .result) (z .ensures (t .args .a) (t .args .b) (both-found h e .m) (kept-list h e near far) (can-pair h e near far _ _ _ k) (both-lock h e l))
 
 pub with-both-spec : {M : Type 1} → statement M
 with-both-spec =

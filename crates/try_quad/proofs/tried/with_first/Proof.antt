@@ -10,7 +10,8 @@ use Rattle.plane.specs.Vectors.{vec}
 use Rattle.edge_candidates.specs.Wanted.{turn}
 use Rattle.outcomes.specs.Ends.{only-inserted}
 use Rattle.side_nodes.specs.Sides.{CanSeek, SidesTo}
-use Rattle.try_quad.proofs.Answers.{if-missing, if-no-point, if-no-slots, first-missing, first-overfull, first-found, first-sizes, seek-far, both-of, first-to}
+use Rattle.try_quad.proofs.Answers.{if-missing, if-no-point, if-no-slots, first-missing, first-overfull, first-found, first-sizes, seek-far, first-lock, both-of, first-to}
+use Rattle.try_quad.proofs.Locked.{sides-lock}
 use borrow.Author.Needs.{needs}
 use Rattle.try_quad.proofs.tried.with_first.Statement.{statement}
 use Rattle.try_quad.proofs.tried.with_first.Tie as tie
@@ -20,14 +21,14 @@ enum-told c = search needs
 
 far-at-requires : tie.Need-far-at-requires
 far-at-requires c κs =
-    let t = c .before .before .before .before .before .before .before in
+    let t = c .before .before .before .before .before .before .before .before in
     let a = t .args in
     let e = c .before .before .enum-told4 .given .1 in
     first-sizes (a .w .now) (t .pre .0) (a .q .now) (a .rules) (t .pre .1) (a .u) (a .v) (a .a) (a .b) (a .stance .seed) (a .near) (t .pre .2) (t .pre .3) e
 
 side-nodes-requires : tie.Need-side-nodes-requires
 side-nodes-requires c κs =
-    let t = c .before .before .before .before .before .before .before .before in
+    let t = c .before .before .before .before .before .before .before .before .before in
     let a = t .args in
     let e = c .before .before .before .enum-told4 .given .1 in
     let fa = c .far-at in
@@ -35,7 +36,7 @@ side-nodes-requires c κs =
 
 with-both-requires : tie.Need-with-both-requires
 with-both-requires c κs =
-    let t = c .before .before .before .before .before .before .before .before .before .before .before .before .before .before .before in
+    let t = c .before .before .before .before .before .before .before .before .before .before .before .before .before .before .before .before in
     let a = t .args in
     let e = c .before .before .before .before .before .before .before .before .before .before .enum-told4 .given .1 in
     let fa = c .before .before .before .before .before .before .before .far-at in
@@ -44,13 +45,13 @@ with-both-requires c κs =
     let y = side-nodes (settings-of (a .rules)) (turn false) f (only-inserted (a .near .inserted)) (first-found (a .w .now) (t .pre .0) (a .q .now) (a .rules) (t .pre .1) (a .u) (a .v) (a .a) (a .b) (a .stance .seed) (a .near) (t .pre .2) (t .pre .3) e .m) (a .b) (a .a) in
     let z = subst (λ (z : ℕ). SidesTo (a .w .now) (sn .last .0) (a .q .now) (sn .last .1 .0) (a .rules) z (a .near .counters) y (sn .result)) (fa .ensures)
     (sn .ensures (first-found (a .w .now) (t .pre .0) (a .q .now) (a .rules) (t .pre .1) (a .u) (a .v) (a .a) (a .b) (a .stance .seed) (a .near) (t .pre .2) (t .pre .3) e .m) f (subst (λ (z : ℕ). CanSeek (a .w .now) (a .q .now) (a .rules) (a .near .counters) z (a .b) (a .a) (a .stance .seed) (a .near .inserted) (first-found (a .w .now) (t .pre .0) (a .q .now) (a .rules) (t .pre .1) (a .u) (a .v) (a .a) (a .b) (a .stance .seed) (a .near) (t .pre .2) (t .pre .3) e .m)) (sym (fa .ensures)) (seek-far (a .w .now) (t .pre .0) (a .q .now) (a .rules) (t .pre .1) (a .u) (a .v) (a .a) (a .b) (a .stance .seed) (a .near) (t .pre .2) (t .pre .3) e)) (record { from = refl; along = refl; far = refl; off = refl })) in
-    (t .pre .0, t .pre .1, first-found (a .w .now) (t .pre .0) (a .q .now) (a .rules) (t .pre .1) (a .u) (a .v) (a .a) (a .b) (a .stance .seed) (a .near) (t .pre .2) (t .pre .3) e .cs, y, both-of (a .w .now) (t .pre .0) (a .q .now) (a .rules) (t .pre .1) (a .u) (a .v) (a .a) (a .b) (a .stance .seed) (a .near) (t .pre .2) (t .pre .3) e (sn .last .0) (sn .last .1 .0) y (sn .result) z)
+    (t .pre .0, t .pre .1, first-found (a .w .now) (t .pre .0) (a .q .now) (a .rules) (t .pre .1) (a .u) (a .v) (a .a) (a .b) (a .stance .seed) (a .near) (t .pre .2) (t .pre .3) e .cs, y, both-of (a .w .now) (t .pre .0) (a .q .now) (a .rules) (t .pre .1) (a .u) (a .v) (a .a) (a .b) (a .stance .seed) (a .near) (t .pre .2) (t .pre .3) e (sn .last .0) (sn .last .1 .0) y (sn .result) z, sides-lock (a .j .now) _ _ (first-lock (a .w .now) (t .pre .0) (a .q .now) (a .rules) (t .pre .1) (a .u) (a .v) (a .a) (a .b) (a .stance .seed) (a .near) (t .pre .2) (t .pre .3) e (t .pre .4)) _ _ f _ _)
 
 returns : tie.Need-returns
 returns c =
-    let t = c .before .before .before .before .before .before in
+    let t = c .before .before .before .before .before .before .before in
     let a = t .args in
-    λ q₀ c₀ x f h st.
+    λ q₀ c₀ x f h l st.
     let g = settings-of (a .rules) in
     record {
       is = if-missing (a .w .now) q₀ (a .q .now) (a .rules) (near-at (a .rules .slots) (a .rules .capacity)) c₀ (a .near) (try-first g f) (first-missing g f) (first-overfull g f) (c .without-quad .result) x (h .is) (c .before .enum-told .given .1) (c .without-quad .ensures);
@@ -59,9 +60,9 @@ returns c =
 
 returns-2 : tie.Need-returns-2
 returns-2 c =
-    let t = c .before .before .before .before .before .before in
+    let t = c .before .before .before .before .before .before .before in
     let a = t .args in
-    λ q₀ c₀ x f h st.
+    λ q₀ c₀ x f h l st.
     let g = settings-of (a .rules) in
     record {
       is = if-no-point (a .w .now) q₀ (a .q .now) (a .rules) (near-at (a .rules .slots) (a .rules .capacity)) c₀ (a .near) (try-first g f) (first-missing g f) (first-overfull g f) (c .without-quad2 .result) x (h .is) (c .before .enum-told2 .given .1) (c .without-quad2 .ensures);
@@ -70,9 +71,9 @@ returns-2 c =
 
 returns-3 : tie.Need-returns-3
 returns-3 c =
-    let t = c .before .before .before .before .before .before in
+    let t = c .before .before .before .before .before .before .before in
     let a = t .args in
-    λ q₀ c₀ x f h st.
+    λ q₀ c₀ x f h l st.
     let g = settings-of (a .rules) in
     record {
       is = if-no-slots (a .w .now) q₀ (a .q .now) (a .rules) (near-at (a .rules .slots) (a .rules .capacity)) c₀ (a .near) (try-first g f) (first-missing g f) (first-overfull g f) (c .without-quad3 .result) x (h .is) (c .before .enum-told3 .given .1) (c .without-quad3 .ensures);
@@ -81,18 +82,19 @@ returns-3 c =
 
 returns-4 : tie.Need-returns-4
 returns-4 c =
-    let t = c .before .before .before .before .before .before .before .before .before .before .before .before .before .before .before .before .before .before in
+    let t = c .before .before .before .before .before .before .before .before .before .before .before .before .before .before .before .before .before .before .before in
     let a = t .args in
     let e = c .before .before .before .before .before .before .before .before .before .before .before .before .before .enum-told4 .given .1 in
     let fa = c .before .before .before .before .before .before .before .before .before .before .far-at in
     let sn = c .before .before .before .before .before .before .before .before .before .side-nodes in
     let wb = c .before .before .with-both in
-    λ q₀ c₀ x f h st.
+    λ q₀ c₀ x f h l st.
     let y = side-nodes (settings-of (a .rules)) (turn false) f (only-inserted (a .near .inserted)) (first-found (a .w .now) q₀ (a .q .now) (a .rules) c₀ (a .u) (a .v) (a .a) (a .b) (a .stance .seed) (a .near) x h e .m) (a .b) (a .a) in
     let z = subst (λ (z : ℕ). SidesTo (a .w .now) (sn .last .0) (a .q .now) (sn .last .1 .0) (a .rules) z (a .near .counters) y (sn .result)) (fa .ensures)
     (sn .ensures (first-found (a .w .now) q₀ (a .q .now) (a .rules) c₀ (a .u) (a .v) (a .a) (a .b) (a .stance .seed) (a .near) x h e .m) f (subst (λ (z : ℕ). CanSeek (a .w .now) (a .q .now) (a .rules) (a .near .counters) z (a .b) (a .a) (a .stance .seed) (a .near .inserted) (first-found (a .w .now) q₀ (a .q .now) (a .rules) c₀ (a .u) (a .v) (a .a) (a .b) (a .stance .seed) (a .near) x h e .m)) (sym (fa .ensures)) (seek-far (a .w .now) q₀ (a .q .now) (a .rules) c₀ (a .u) (a .v) (a .a) (a .b) (a .stance .seed) (a .near) x h e)) (st .goes)) in
     first-to (a .w .now) q₀ (a .q .now) (a .rules) c₀ (a .u) (a .v) (a .a) (a .b) (a .stance .seed) (a .near) x h e (sn .last .0) (sn .last .1 .0) y (sn .result) z f (st .first) (st .second) refl (wb .last .0) (wb .result)
-    (wb .ensures q₀ c₀ (first-found (a .w .now) q₀ (a .q .now) (a .rules) c₀ (a .u) (a .v) (a .a) (a .b) (a .stance .seed) (a .near) x h e .cs) y f (both-of (a .w .now) q₀ (a .q .now) (a .rules) c₀ (a .u) (a .v) (a .a) (a .b) (a .stance .seed) (a .near) x h e (sn .last .0) (sn .last .1 .0) y (sn .result) z) (st .edge) (st .first) (st .second))
+    (wb .ensures q₀ c₀ (first-found (a .w .now) q₀ (a .q .now) (a .rules) c₀ (a .u) (a .v) (a .a) (a .b) (a .stance .seed) (a .near) x h e .cs) y f (both-of (a .w .now) q₀ (a .q .now) (a .rules) c₀ (a .u) (a .v) (a .a) (a .b) (a .stance .seed) (a .near) x h e (sn .last .0) (sn .last .1 .0) y (sn .result) z)
+    (sides-lock (a .j .now) _ _ (first-lock (a .w .now) q₀ (a .q .now) (a .rules) c₀ (a .u) (a .v) (a .a) (a .b) (a .stance .seed) (a .near) x h e l) _ _ f _ _) (st .edge) (st .first) (st .second))
 
 pub with-first-spec : {M : Type 1} → statement M
 with-first-spec =

@@ -1,0 +1,154 @@
+-- The joints of a call: those that the given triangles have are found in what comes back; order and repeats of the list change nothing, and without a joint nothing is locked.
+use mathlib.Core.Path.{_≡_, refl, sym, ap, ap₂, _∙_}
+use mathlib.Core.Bool.{Bool, true, false, not, _&&_, cond}
+use mathlib.Core.Logic.{inl, inr}
+use mathlib.Core.List.{List, [], _∷_}
+use mathlib.Core.Option.{Option, none, some}
+use Prim.{absurd}
+use Prim.Native.Nat.{ℕ, _*_, _≤_}
+use native.Mathlib.Omega.{arith}
+use lib.Dec.{eqb, ltb}
+use lib.ListN.{length}
+use borrow.Author.Tests.{le-ltb}
+use Rattle.definition.specs.Lists.{any, all, find, table, numbers, below}
+use Rattle.definition.specs.Numbers.{Settings, max-attempts}
+use Rattle.definition.specs.Plane.{Edge}
+use Rattle.definition.specs.Cells.{Quad, Live, Mesh, same-edge, has-edge-in, tri-edges, quad-edges, edges, is-locked}
+use Rattle.definition.specs.Region.{fills, may-go, spares-locked, if-filled}
+use Rattle.definition.specs.Front.{Outcome, ran, wanting, run-front}
+use Rattle.definition.specs.Call.{Asked, Lent, Returned, given-points, given-tris, given-joints, given-locks, most-joints, over-limit, bad-size, bad-stop, bad-quality, too-short, unknown-node, repeated-node, far-point, bad-joint, bad-joints, conditions, settings, written, untouched, after-run, call}
+use Rattle.definition.specs.Account.{Edge-of, Joints-survive, Keeps-joints}
+use Rattle.laws.specs.Bools.{same-bool, or-second}
+use Rattle.laws.specs.Lists.{In, in-any, any-in, all-from, in-flat-map, known}
+use Rattle.laws.specs.Cells.{same-self, same-is}
+use Rattle.account.specs.Slices.{read-quads, read-triangles}
+use Rattle.account.specs.Finished.{behind, given-proper}
+use Rattle.account.specs.Locked.{locked-survives}
+
+-- ---- they survive
+
+-- a listed edge is one that the run does not touch
+pub listed-locked : (a : Asked) (l : Lent) (e : Edge) → In e (given-joints a l) → given-locks a l e ≡ true
+unfolding given-locks has-edge-in
+listed-locked a l e i = in-any (same-edge e) (given-joints a l) (e, i, same-self e)
+
+-- every joint that the given triangles have is an edge of a quad or a leftover triangle that comes back
+pub joints-survive : (a : Asked) (l : Lent) → Keeps-joints a l
+joints-survive a l c n e =
+    let b = behind a l c n e in
+    let exit = call a l .lent in
+    let w : Joints-survive (given-joints a l) (given-tris a l) (b .run .quads) (b .run .triangles) = record {
+      joints-found = all-from (given-joints a l) (λ f i k.
+          let t = in-flat-map tri-edges f (given-tris a l) k in
+          locked-survives (settings a) (given-locks a l) (given-tris a l) (given-points a l) (b .run) (given-proper a l (b .passed)) (b .ended) f (listed-locked a l f i) (t .0) (t .1) (t .2));
+    } in
+    rw (read-quads (b .run) l exit n (b .lengths-are) (b .exit), read-triangles (b .run) l exit n (b .lengths-are) (b .exit)) w
+
+-- ---- order and repeats change nothing
+
+-- the lists have the same edges
+pub record Same-edges (xs ys : List Edge) : Type 0 where
+  pub there : (e : Edge) → In e xs → In e ys
+  pub back : (e : Edge) → In e ys → In e xs
+
+-- whatever is asked of the edges of both
+any-same : (p : Edge → Bool) (xs ys : List Edge) → Same-edges xs ys → any p xs ≡ any p ys
+any-same p xs ys h = same-bool (any p xs) (any p ys) (one xs ys (h .there)) (one ys xs (h .back))
+  where
+    one : (xs ys : List Edge) → ((e : Edge) → In e xs → In e ys) → any p xs ≡ true → any p ys ≡ true
+    one xs ys f k = let r = any-in p xs k in in-any p ys (r .0, f (r .0) (r .1), r .2)
+
+-- the same memory with other joints
+unfoldable pub with-joints : List ℕ → Lent → Lent
+with-joints js l =
+    record {
+      points = l .points;
+      triangles = l .triangles;
+      joints = js;
+      quads = l .quads;
+      triangles-out = l .triangles-out;
+      components = l .components;
+      work = l .work;
+      float-work = l .float-work;
+    }
+
+-- the same numbers with n joints
+unfoldable pub with-number : ℕ → Asked → Asked
+with-number n a = record { given = a .given; capacity = a .capacity; count = a .count; slots = a .slots; joints = n; size = a .size; stop = a .stop; quality = a .quality }
+
+-- the same answer, and the same memory but for the joints
+unfoldable pub returned-with : List ℕ → Returned → Returned
+returned-with js r = record { answer = r .answer; lent = with-joints js (r .lent) }
+
+-- two lists that are long enough and not too long, with the same edges
+pub record Same-joints (a : Asked) (l : Lent) (n : ℕ) (js : List ℕ) : Type 0 where
+  pub same : Same-edges (given-joints (with-number n a) (with-joints js l)) (given-joints a l)
+  pub long : 2 * a .joints ≤ length (l .joints)
+  pub long′ : 2 * n ≤ length js
+  pub few : a .joints ≤ most-joints
+  pub few′ : n ≤ most-joints
+
+module _ (a : Asked) (l : Lent) (n : ℕ) (js : List ℕ) (h : Same-joints a l n js) where
+  abbrev a′ : Asked
+  a′ = with-number n a
+
+  abbrev l′ : Lent
+  l′ = with-joints js l
+
+  locks-same : given-locks a′ l′ ≡ given-locks a l
+  unfolding given-locks has-edge-in
+  locks-same i e = any-same (same-edge e) (given-joints a′ l′) (given-joints a l) (h .same) i
+
+  short-same : too-short a′ l′ ≡ too-short a l
+  unfolding too-short with-number with-joints
+  short-same = rw (le-ltb (length js) (2 * n) (h .long′), le-ltb (length (l .joints)) (2 * a .joints) (h .long)) refl
+
+  bad-same : bad-joints a′ l′ ≡ bad-joints a l
+  unfolding bad-joints with-number
+  bad-same = rw (le-ltb most-joints n (h .few′), le-ltb most-joints (a .joints) (h .few)) (any-same (bad-joint (a .given)) (given-joints a′ l′) (given-joints a l) (h .same))
+
+  conditions-same : conditions a′ l′ ≡ conditions a l
+  unfolding conditions with-number with-joints over-limit bad-size bad-stop bad-quality unknown-node repeated-node far-point given-points given-tris
+  conditions-same =
+      ap₂ (λ short bad. (1, over-limit a) ∷ (2, bad-size a) ∷ (3, bad-stop a) ∷ (14, bad-quality a) ∷ (4, short) ∷ (5, unknown-node a l) ∷ (6, repeated-node a l) ∷ (7, far-point a l) ∷ (13, bad) ∷ []) short-same bad-same
+
+  -- they lead to the same run,
+  pub same-run : run-front (settings a′) (given-locks a′ l′) (given-tris a′ l′) (given-points a′ l′) ≡ run-front (settings a) (given-locks a l) (given-tris a l) (given-points a l)
+  unfolding with-number with-joints settings given-points given-tris
+  same-run = ap (λ k. run-front (settings a) k (given-tris a l) (given-points a l)) locks-same
+
+  after-same : (o : Outcome) → after-run l′ o ≡ returned-with js (after-run l o)
+  unfolding after-run written with-joints returned-with
+  after-same (ran r) = refl
+  after-same (wanting w ps qs) = refl
+
+  -- and the calls return the same
+  pub same-joints : call a′ l′ ≡ returned-with js (call a l)
+  unfolding call returned-with untouched
+  same-joints = elim (known (find (λ c. c .1) (conditions a l))) [
+    | inl f ↦ rw (conditions-same, f, call) (ap (after-run l′) same-run ∙ after-same (run-front (settings a) (given-locks a l) (given-tris a l) (given-points a l)))
+    | inr f ↦ rw (conditions-same, f .1, call) refl
+  ]
+
+-- ---- without a joint
+
+-- nothing is locked, so every edge flips by its owners alone (`free-flip`),
+pub no-joints : (a : Asked) (l : Lent) → a .joints ≡ 0 → (e : Edge) → given-locks a l e ≡ false
+unfolding given-locks given-joints has-edge-in any table below numbers
+no-joints a l h e = rw h refl
+
+-- and a region is refused only where it does not fill the quad
+pub free-region : (m : Mesh) (q : Quad) (cells : List Live) → ((e : Edge) → is-locked m e ≡ false) → if-filled m q (some cells) ≡ cond (fills m q cells) (some cells) none
+unfolding if-filled spares-locked may-go all
+free-region m q cells h = rw (all-yes (λ x. all (may-go m q) (edges (x .cell))) (λ x. all-yes (may-go m q) may (edges (x .cell))) cells) (which-end (fills m q cells))
+  where
+    may : (e : Edge) → may-go m q e ≡ true
+    may e = or-second (has-edge-in (quad-edges q) e) (not (is-locked m e)) (ap not (h e))
+
+    all-yes : {A : Type 0} (p : A → Bool) → ((x : A) → p x ≡ true) → (xs : List A) → all p xs ≡ true
+    all-yes p f [] = refl
+    all-yes p f (x ∷ xs) = rw (f x) (all-yes p f xs)
+
+    which-end : (b : Bool) → cond (b && true) (some cells) none ≡ cond b (some cells) none
+    which-end true = refl
+    which-end false = refl
