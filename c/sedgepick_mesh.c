@@ -44,6 +44,7 @@ static size_t attempt(
             float_work, SEDGEPICK_FLOAT_WORK(slots),
             given, capacity, count, slots, options->joint_count, options->size, options->stop,
             quality->least_jacobian, quality->largest_cosine, quality->side_low, quality->side_high, quality->pairs,
+            options->grid,
             mesh->answer, SEDGEPICK_ANSWER);
     }
     free(work);
@@ -109,6 +110,7 @@ const char *sedgepick_refusal_words(size_t refusal) {
     case SEDGEPICK_UNKNOWN_NODE: return "a triangle names a node that is not there";
     case SEDGEPICK_REPEATED_NODE: return "a triangle has a node twice";
     case SEDGEPICK_FAR_POINT: return "x or y is not finite or is beyond 8 in magnitude";
+    case SEDGEPICK_OFF_GRID: return "in the grid profile: an x or y is no multiple of 1/1024, or the size is not zero";
     case SEDGEPICK_BAD_JOINT: return "a joint is one node twice or names a node that is not there, or there are over 256 joints";
     case SEDGEPICK_NO_POINT: return "the run inserts a point, and the point capacity is used up";
     case SEDGEPICK_NO_SLOTS: return "the run needs a slot, and none is free";

@@ -102,6 +102,7 @@ static void test_refusals(void) {
         CHECK(strcmp(sedgepick_refusal_words(i), sedgepick_refusal_words(77)) != 0);
     CHECK(strcmp(sedgepick_refusal_words(SEDGEPICK_BAD_QUALITY), sedgepick_refusal_words(77)) != 0);
     CHECK(strcmp(sedgepick_refusal_words(SEDGEPICK_BAD_JOINT), sedgepick_refusal_words(77)) != 0);
+    CHECK(strcmp(sedgepick_refusal_words(SEDGEPICK_OFF_GRID), sedgepick_refusal_words(77)) != 0);
 }
 
 /* The refusal of a triangle with a set; 3 comes before 14, and 4 to 7 behind it. */
@@ -244,6 +245,45 @@ static void test_bad_joints(void) {
     CHECK(refusal_joined(zeros, 1, 4) == SEDGEPICK_FAR_POINT);
 }
 
+/* Twice the summed areas of cells without sign, in squares of the grid. */
+static long long areas(const double *points, const uint32_t *cells, size_t count, size_t width) {
+    long long sum = 0;
+    for (size_t i = 0; i < count; i++) {
+        long long twice = 0;
+        for (size_t k = 0; k < width; k++) {
+            const double *a = points + 3 * cells[i * width + k], *b = points + 3 * cells[i * width + (k + 1) % width];
+            twice += (long long)(a[0] * SEDGEPICK_GRID_LINES) * (long long)(b[1] * SEDGEPICK_GRID_LINES)
+                - (long long)(b[0] * SEDGEPICK_GRID_LINES) * (long long)(a[1] * SEDGEPICK_GRID_LINES);
+        }
+        sum += twice < 0 ? -twice : twice;
+    }
+    return sum;
+}
+
+static void test_grid(void) {
+    static double on[3 * POINTS];
+    sedgepick_options options = sedgepick_standard_options(0, 0);
+    sedgepick_mesh mesh, free;
+    for (int i = 0; i < 3 * POINTS; i++)
+        on[i] = floor(points[0][i] * SEDGEPICK_GRID_LINES) / SEDGEPICK_GRID_LINES;
+    CHECK(sedgepick_mesh_run_with(on, POINTS, triangles[0], TRIANGLES, &options, &free) == SEDGEPICK_FINISHED);
+    options.grid = SEDGEPICK_GRID;
+    CHECK(sedgepick_mesh_run_with(on, POINTS, triangles[0], TRIANGLES, &options, &mesh) == SEDGEPICK_FINISHED);
+    CHECK(same(&mesh, &free) && mesh.answer[SEDGEPICK_QUAD_COUNT] > 0 && mesh.answer[SEDGEPICK_POINT_COUNT] == POINTS);
+    CHECK(areas(on, triangles[0], TRIANGLES, 3) == areas(on, mesh.quads, mesh.answer[SEDGEPICK_QUAD_COUNT], 4)
+        + areas(on, mesh.triangles, mesh.answer[SEDGEPICK_TRIANGLE_COUNT], 3));
+    sedgepick_mesh_free(&mesh);
+    sedgepick_mesh_free(&free);
+    options.size = 0.25;
+    CHECK(sedgepick_mesh_run_with(on, POINTS, triangles[0], TRIANGLES, &options, &mesh) == SEDGEPICK_OFF_GRID);
+    options.size = -0.0;
+    on[0] = nextafter(on[0], 1);
+    CHECK(sedgepick_mesh_run_with(on, POINTS, triangles[0], TRIANGLES, &options, &mesh) == SEDGEPICK_OFF_GRID);
+    options.grid = 0;
+    CHECK(sedgepick_mesh_run_with(on, POINTS, triangles[0], TRIANGLES, &options, &mesh) == SEDGEPICK_FINISHED);
+    sedgepick_mesh_free(&mesh);
+}
+
 int main(void) {
     test_threads();
     test_growth();
@@ -252,6 +292,7 @@ int main(void) {
     test_sets();
     test_joints();
     test_bad_joints();
+    test_grid();
     CHECK(!strcmp(sedgepick_version(), SEDGEPICK_VERSION));
     CHECK(strlen(sedgepick_commit()) > 0);
     printf("%s\n", failures ? "failed" : "ok");

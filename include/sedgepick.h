@@ -42,6 +42,10 @@ extern "C" {
 #define SEDGEPICK_EXHAUST 0          /* go on while an edge of the front is open */
 #define SEDGEPICK_EVEN_COMPONENTS 1  /* and refuse a quad that would leave a component with an odd number of triangles */
 
+/* The grid profile, and how many lines of its grid there are to a unit. */
+#define SEDGEPICK_GRID 1
+#define SEDGEPICK_GRID_LINES 1024
+
 /* The quality set: what a quad is held to and what is tried for it. Bounds are included, a zero of either sign is 0, and the decimals stand for the doubles
  * nearest them. */
 typedef struct sedgepick_quality {
@@ -83,6 +87,7 @@ enum sedgepick_refusal {
     SEDGEPICK_UNKNOWN_NODE = 5, /* a node number not below the given points */
     SEDGEPICK_REPEATED_NODE = 6,/* a triangle with a node twice */
     SEDGEPICK_FAR_POINT = 7,    /* x or y not finite or beyond 8 in magnitude (8 passes); z may be anything */
+    SEDGEPICK_OFF_GRID = 15,    /* in the grid profile: x or y of a given point no multiple of 1/1024, or a size that is not zero */
     SEDGEPICK_BAD_JOINT = 13,   /* a joint whose nodes are one, or one of them not below the given points; or over 256 joints */
     /* the run itself */
     SEDGEPICK_NO_POINT = 8,     /* an insertion, with the point capacity used up */
@@ -128,7 +133,7 @@ enum sedgepick_answer {
  * stop           stop rule: 0 or 1.
  * answer         13 numbers (SEDGEPICK_ANSWER), written only where 0 is returned; after a refusal all counts and lengths are zero, and the slice is as it was.
  *
- * Entries past a list's length are as they were. 1 to 7, 13 and 14 touch no slice. 8 and 9 leave the points added and the quads written before them, clear both
+ * Entries past a list's length are as they were. 1 to 7 and 13 to 15 touch no slice. 8 and 9 leave the points added and the quads written before them, clear both
  * work slices and touch nothing else; with more capacity, or more slots, the same call goes further.
  */
 size_t sedgepick_run_front(
@@ -142,13 +147,16 @@ size_t sedgepick_run_front(
     size_t given, size_t capacity, size_t count, size_t slots, double size, uint32_t stop,
     size_t *answer, size_t answer_len);
 
-/* The same with joints and a quality set. Without joints and with the standard set it is sedgepick_run_front.
+/* The same with joints, a quality set and the grid profile. Without joints and the profile and with the standard set it is sedgepick_run_front.
  *
  * joints       2 node numbers a joint, in either order; only read. A joint is locked: it is never flipped, and no quad covers it, so a joint that is an edge
  *              of the given triangles is an edge of a quad or of a triangle left over in the finished mesh. A joint need not be an edge of the mesh; one that
  *              a flip makes an edge is locked from then on. The order of the list and repeats in it change nothing.
  * joint_count  joints, at most 256, repeats counted; 0 for none, and then the slice is not read.
  * least_jacobian to pairs  the fields of struct sedgepick_quality in their order.
+ * grid         0, or any other number for the grid profile (SEDGEPICK_GRID): x and y of every given point, used or not, are multiples of 1/1024 and size is
+ *              0; nothing is inserted, and the summed area of the quads and of the triangles left over equals that of the given triangles, exactly, each
+ *              area taken without sign. docs/GRID.md says what this means and what not.
  *
  * Whatever the set, each quad of a finished mesh is, in exact arithmetic, convex and counterclockwise, and the cosine of each of its corners is at most
  * largest_cosine + 1e-9; its scaled Jacobian and its largest cosine, worked out in floats, pass the set.
@@ -164,6 +172,7 @@ size_t sedgepick_run_front_with(
     double *float_work, size_t float_work_len,
     size_t given, size_t capacity, size_t count, size_t slots, size_t joint_count, double size, uint32_t stop,
     double least_jacobian, double largest_cosine, double side_low, double side_high, size_t pairs,
+    uint32_t grid,
     size_t *answer, size_t answer_len);
 
 /* Numbers of work for a mesh of so many triangles that is filed. */

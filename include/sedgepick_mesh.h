@@ -33,10 +33,11 @@ typedef struct sedgepick_options {
     size_t capacity, slots; /* lent at first; 0: as much as the mesh lets expect */
     const uint32_t *joints; /* two nodes each; may be null where there are none */
     size_t joint_count;
+    uint32_t grid;          /* 0, or SEDGEPICK_GRID for the grid profile */
 } sedgepick_options;
 
 static inline sedgepick_options sedgepick_standard_options(double size, uint32_t stop) {
-    sedgepick_options options = {size, stop, SEDGEPICK_STANDARD_QUALITY, 0, 0, 0, 0};
+    sedgepick_options options = {size, stop, SEDGEPICK_STANDARD_QUALITY, 0, 0, 0, 0, 0};
     return options;
 }
 
@@ -49,7 +50,7 @@ static inline sedgepick_options sedgepick_standard_options(double size, uint32_t
 size_t sedgepick_mesh_run_with(
     const double *points, size_t given, const uint32_t *triangles, size_t count, const sedgepick_options *options, sedgepick_mesh *mesh);
 
-/* The same with the standard set and no joints. */
+/* The same with the standard set, no joints and no profile. */
 size_t sedgepick_mesh_run(
     const double *points, size_t given, const uint32_t *triangles, size_t count, double size, uint32_t stop, sedgepick_mesh *mesh);
 

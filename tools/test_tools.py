@@ -444,7 +444,8 @@ class Drawing(Case):
         self.assertEqual(self.count(root, 'front', 'line'), 4)
         quality = texts.QUALITY + '\n3fd3333333333333 3fed0079302dd768 3fe0000000000000 400199999999999a 64\n'
         joints = 'joints\n2\nu v\n0 2\n1 3\n'
-        for more in ('', quality, joints, quality + joints):
+        grid = 'grid\n1\n'
+        for more in ('', quality, joints, grid, quality + joints + grid):
             self.assertEqual(len(list(self.svg(self.file('s.call', 'capacity slots\n9 9\n' + more + S_TEXT)).iter('{http://www.w3.org/2000/svg}polygon'))), 2)
         self.assertEqual(self.run_tool(DRAW, self.file('s.call', 'capacity slots\n9 9\n' + quality.replace(' 64', '') + S_TEXT))[0], 1)
 

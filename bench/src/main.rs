@@ -147,6 +147,7 @@ fn port_with(input: &Input) -> (f64, (usize, usize)) {
         joints: input.joints.as_flattened(),
         joint_count: input.joints.len(),
         set: Set::default(),
+        grid: input.grid,
     };
     best(|| {
         lent.clear(input);

@@ -1,10 +1,10 @@
-//! One generated mesh: the port against the Rust, under both rules, with document 01's quality set and with others, with and without joints, and with memory
-//! that does or does not suffice.
+//! One generated mesh: the port against the Rust, under both rules, with document 01's quality set and with others, with and without joints, in the grid
+//! profile, and with memory that does or does not suffice.
 
-use reference::account::{lost, slots_used, standing};
+use reference::account::{areas, lost, slots_used, standing};
 use reference::generators::large::SHAPES;
 use reference::generators::shape::Room;
-use reference::generators::{joints, of_case, sets, KINDS, TEXT};
+use reference::generators::{joints, of_case, on_grid, sets, KINDS, TEXT};
 use reference::input::{Input, Lent, LARGEST};
 use reference::patched::{FrontResult, STANDARD};
 use reference::random::Random;
@@ -16,7 +16,7 @@ use crate::memory::{self, Export, Tails, SLICES};
 const LARGE_EACH: u64 = 4096;
 
 /// One more than the largest number of a refusal.
-pub const REFUSALS: usize = 15;
+pub const REFUSALS: usize = 16;
 
 /// Refusals that come before that of a short slice.
 const BEFORE_SLICES: [u32; 4] = [1, 2, 3, 14];
@@ -38,6 +38,8 @@ pub struct Tally {
     pub rejoined: u64,
     pub standing: u64,
     pub saved: u64,
+    /// In the grid profile, not refused before a run.
+    pub grids: u64,
     pub finished: u64,
     pub limited: u64,
     /// Refusals by their number.
@@ -57,6 +59,7 @@ impl Tally {
         self.rejoined += other.rejoined;
         self.standing += other.standing;
         self.saved += other.saved;
+        self.grids += other.grids;
         self.finished += other.finished;
         self.limited += other.limited;
         self.refused
@@ -150,6 +153,7 @@ impl Case<'_> {
         for (input, plain) in rules.into_iter().zip(plain) {
             self.run_sets(input.clone(), &plain);
             if let Some(plain) = plain {
+                self.run_grids(&input);
                 self.run_joints(input, plain);
             }
         }
@@ -183,6 +187,38 @@ impl Case<'_> {
         if self.r.once_in(8) {
             input.joints = joints::doubtful(&input, &mut self.r);
             self.run_joined(&input, &plain);
+        }
+    }
+
+    /// A third of the meshes in the grid profile, a third of those with another set and with joints, and some that are refused or just not.
+    fn run_grids(&mut self, plain: &Input) {
+        if self.r.once_in(3) {
+            let mut input = on_grid::good(plain, &mut self.r);
+            if self.r.once_in(3) {
+                input.quality = sets::good(&mut self.r);
+                input.joints = joints::good(&input, &mut self.r);
+            }
+            self.run_grid(&input);
+        }
+        if self.r.once_in(8) {
+            let mut input = on_grid::doubtful(plain, &mut self.r);
+            if self.r.once_in(3) {
+                input.joints = joints::doubtful(&input, &mut self.r);
+            }
+            self.run_grid(&input);
+        }
+    }
+
+    /// Nothing is inserted, and areas are kept in whole numbers.
+    fn run_grid(&mut self, input: &Input) {
+        let Some(full) = self.run_rule(input) else {
+            return;
+        };
+        self.tally.grids += 1;
+        if full.refused.is_none() {
+            assert_eq!(full.points.len(), input.points.len(), "a point is added");
+            let (before, after) = areas(input, &full);
+            assert_eq!(before, after, "an area is lost");
         }
     }
 

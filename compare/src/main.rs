@@ -14,8 +14,8 @@ use cases::{Case, Parting, Tally};
 use memory::Export;
 
 const USAGE: &str = "usage: compare SEED COUNT [JOBS]
-  runs COUNT generated meshes of the seed under both stop rules, with document 01's quality set and half of them with another, half of them with joints, JOBS at a
-  time (1 without it)
+  runs COUNT generated meshes of the seed under both stop rules, with document 01's quality set and half of them with another, half of them with joints, a third in the
+  grid profile, JOBS at a time (1 without it)
 compare filing SEED COUNT
   runs the filing order on COUNT generated pairs of meshes";
 
@@ -94,14 +94,14 @@ impl Work {
 
 /// A line a kind, then the sums.
 fn print(kinds: &BTreeMap<&'static str, Tally>) -> Tally {
-    println!("kind | meshes | runs | sets | changed | joined | changed | standing | saved | finished | by limit | refused 1 2 3 14 4 5 6 7 13 | 8 | 9 | quads | insertions | differ");
+    println!("kind | meshes | runs | sets | changed | joined | changed | standing | saved | grids | finished | by limit | refused 1 2 3 14 4 5 6 7 15 13 | 8 | 9 | quads | insertions | differ");
     let mut all = Tally::default();
     let line = |kind: &str, t: &Tally| {
-        let early = [1, 2, 3, 14, 4, 5, 6, 7, 13]
+        let early = [1, 2, 3, 14, 4, 5, 6, 7, 15, 13]
             .map(|k| t.refused[k].to_string())
             .join(" ");
         println!(
-            "{kind} | {} | {} | {} | {} | {} | {} | {} | {} | {} | {} | {early} | {} | {} | {} | {} | {}",
+            "{kind} | {} | {} | {} | {} | {} | {} | {} | {} | {} | {} | {} | {early} | {} | {} | {} | {} | {}",
             t.meshes,
             t.runs,
             t.sets,
@@ -110,6 +110,7 @@ fn print(kinds: &BTreeMap<&'static str, Tally>) -> Tally {
             t.rejoined,
             t.standing,
             t.saved,
+            t.grids,
             t.finished,
             t.limited,
             t.refused[8],

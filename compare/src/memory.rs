@@ -57,7 +57,7 @@ pub fn call(input: &Input, lent: Lent) -> Call {
     }
 }
 
-/// The functions of the library: `sedgepick_run_front`, for document 01's set and no joints, and `sedgepick_run_front_with`.
+/// The functions of the library: `sedgepick_run_front`, for document 01's set, no joints and no profile, and `sedgepick_run_front_with`.
 #[derive(Clone, Copy, Debug, PartialEq, Eq)]
 pub enum Export {
     Plain,
@@ -143,6 +143,7 @@ pub fn run_port(
                 joints: &slices.joints,
                 joint_count: input.joints.len(),
                 set: set(input),
+                grid: input.grid,
             };
             lent::run_front_with(triangles, memory, call, further)
         }

@@ -25,10 +25,10 @@ interpreter's lock is free while the library runs.
 
 Lists come back as numpy arrays where numpy is there, otherwise as lists of tuples.
 """
-from .front import (EVEN_COMPONENTS, EXHAUST, FAR, LARGEST_SIZE, LEAST_SIZE, MOST_CAPACITY, MOST_GIVEN, MOST_JOINTS, MOST_SLOTS, RANGES, REFUSALS, Counts, Mesh,
+from .front import (EVEN_COMPONENTS, EXHAUST, FAR, GRID_LINES, LARGEST_SIZE, LEAST_SIZE, MOST_CAPACITY, MOST_GIVEN, MOST_JOINTS, MOST_SLOTS, RANGES, REFUSALS, Counts, Mesh,
                     Quality, Refused, cosine_of, run_front)
 from .library import NoLibrary, VERSION, commit
 
 __version__ = VERSION
-__all__ = ['Counts', 'EVEN_COMPONENTS', 'EXHAUST', 'FAR', 'LARGEST_SIZE', 'LEAST_SIZE', 'MOST_CAPACITY', 'MOST_GIVEN', 'MOST_JOINTS', 'MOST_SLOTS', 'Mesh',
+__all__ = ['Counts', 'EVEN_COMPONENTS', 'EXHAUST', 'FAR', 'GRID_LINES', 'LARGEST_SIZE', 'LEAST_SIZE', 'MOST_CAPACITY', 'MOST_GIVEN', 'MOST_JOINTS', 'MOST_SLOTS', 'Mesh',
            'NoLibrary', 'Quality', 'RANGES', 'REFUSALS', 'Refused', 'commit', 'cosine_of', 'run_front']

@@ -24,6 +24,7 @@ class Job:
     number: object = None        # of each point in the output, -1 where it is left out
     losses: list = field(default_factory=list)
     areas: tuple = ()
+    exact: tuple = ()            # in the grid profile: twice the area in squares of the step, and the step
     cuts: int = 0
     given_components: int = 0
     warnings: list = field(default_factory=list)
@@ -110,6 +111,8 @@ def arguments(words):
     add('-o', '--output', metavar='OUT', required=True, help='the mesh file to write')
     add('--size', type=size_of, default='auto', metavar='S', help='the length of an edge that the quads should have, in the units of the file; 0: each edge sets '
         'its own; auto, the default: the best of six runs, with 0.55 to 0.75 of the mean edge and 0 (docs/SIZE.md)')
+    add('--grid', action='store_true', help='the grid profile: every node lies on a fixed grid, no node is added, and the summed area of the cells is that of the '
+        'triangles, exactly (docs/GRID.md); --size is 0')
     add('--stop', type=int, choices=(0, 1), default=0, help='0, the default: go on while an edge is open; 1: and leave only even components of triangles')
     add('--report', metavar='FILE', action='append', default=[], help='a report: .html with the picture, otherwise text; may be given twice')
     add('--allow-loss', action='store_true', help='write the mesh also where a line, a point or a border of the file could not be kept; what is lost is listed')
@@ -126,6 +129,8 @@ def arguments(words):
     options = parser.parse_args(words)
     if options.side_low > options.side_high:
         parser.error('--side-low %g is above --side-high %g' % (options.side_low, options.side_high))
+    if options.grid and options.size not in (None, 0.0):
+        parser.error('--grid takes no --size but 0: in the profile each edge sets its own')
     options.quality = quality_of(options)
     return options
 
@@ -186,10 +191,12 @@ def meshed(job):
     cells = surface.triangles.cells
     job.given_components = int(quality.components(cells).max()) + 1
     hard = joints.Hard() if job.options.free else losses.hard(surface)
-    job.result = parts.run(surface.points, cells, job.options.size, job.options.stop, hard, progress, job.options.jobs, job.options.quality)
+    size = 0.0 if job.options.grid else job.options.size
+    job.result = parts.run(surface.points, cells, size, job.options.stop, hard, progress, job.options.jobs, job.options.quality, job.options.grid)
     added, z = job.result.added, surface.points[cells[0, 0], 2]
     job.points = numpy.concatenate([surface.points, numpy.column_stack([added, numpy.full(len(added), z)])])
     *job.areas, job.cuts = losses.verify(surface, job.points, job.result)
+    job.exact = losses.exact_areas(surface, job.points, job.result) if job.options.grid else ()
     job.losses = losses.losses(surface, job.result)
     surface.notes += job.result.notes
     check_losses(job)

@@ -15,6 +15,7 @@ MOST_CAPACITY = 8192
 MOST_SLOTS = 16384
 FAR = 8.0              # x and y are within it
 MOST_JOINTS = 256      # repeats counted
+GRID_LINES = 1024      # to a unit, in the grid profile
 LEAST_SIZE = 1 / 64
 LARGEST_SIZE = 8.0
 EXHAUST, EVEN_COMPONENTS = 0, 1
@@ -36,6 +37,7 @@ REFUSALS = {
     9: 'the run needs a slot, and none is free',
     13: 'a joint is one node twice or names a node that is not there, or there are over 256 joints',
     14: 'a quality number is out of its range or is a NaN, or the low side factor is above the high one',
+    15: 'in the grid profile: an x or y is no multiple of 1/1024, or the size is not zero',
 }
 
 
@@ -110,9 +112,10 @@ class Call:
     stop: int
     quality: Quality = Quality()
     joints: array = field(default_factory=lambda: array('I'))  # two nodes each
+    grid: int = 0
 
 
-def run_front(points, triangles, size, stop=EXHAUST, capacity=None, slots=None, quality=Quality(), joints=()):
+def run_front(points, triangles, size, stop=EXHAUST, capacity=None, slots=None, quality=Quality(), joints=(), grid=False):
     """Pairs the triangles over the points into quads.
 
     points     x and y, or x, y and z, of each; x and y within 8 of zero, z is carried and never read
@@ -123,13 +126,15 @@ def run_front(points, triangles, size, stop=EXHAUST, capacity=None, slots=None, 
     quality    what quads are held to: a Quality; the standard set if left out
     joints     two node numbers each, in either order, at most 256: edges that are locked. One that the triangles have is an edge of the result; the order of
                the list and repeats change nothing
+    grid       the grid profile: x and y of every point are multiples of 1/1024 and size is 0. No point is added, and the summed area of quads and
+               triangles, each without sign, equals that of the given triangles, exactly (docs/GRID.md)
 
     The result does not depend on what is lent. Raises Refused, ValueError for lists of another shape, NoLibrary."""
     run = library.load().sedgepick_run_front_with
     given, count = len(points), len(triangles)
     flat_points, flat_triangles = doubles(points), node_numbers(triangles, 3, 'triangles')
     call = Call(given, first(capacity, given + given // 4 + 32, given, MOST_CAPACITY), count, first(slots, 2 * count + 64, count, MOST_SLOTS),
-                float(size), stop if isinstance(stop, int) and 0 <= stop < NO_NODE else NO_NODE, quality, node_numbers(joints, 2, 'joints'))
+                float(size), stop if isinstance(stop, int) and 0 <= stop < NO_NODE else NO_NODE, quality, node_numbers(joints, 2, 'joints'), int(bool(grid)))
     while True:
         refusal, mesh = attempt(run, flat_points, flat_triangles, call)
         if refusal == NO_POINT and call.capacity < MOST_CAPACITY:
@@ -160,7 +165,7 @@ def attempt(run, points, triangles, call):
     q = call.quality
     refusal = run(xyz, len(xyz), given, len(triangles), joints, len(call.joints), quads, len(quads), left, len(left), components, len(components),
                   work, len(work), float_work, len(float_work), call.given, call.capacity, call.count, call.slots, len(call.joints) // 2, call.size, call.stop,
-                  q.least_jacobian, q.largest_cosine, q.side_low, q.side_high, int(q.pairs), answer, len(answer))
+                  q.least_jacobian, q.largest_cosine, q.side_low, q.side_high, int(q.pairs), call.grid, answer, len(answer))
     if refusal:
         return refusal, None
     lengths = answer[9:]

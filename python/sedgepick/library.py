@@ -16,7 +16,7 @@ SIZES = ctypes.POINTER(ctypes.c_size_t)
 LENGTH = ctypes.c_size_t
 REAL = ctypes.c_double
 RUN_FRONT = [DOUBLES, LENGTH, NUMBERS, LENGTH, NUMBERS, LENGTH, NUMBERS, LENGTH, NUMBERS, LENGTH, NUMBERS, LENGTH, NUMBERS, LENGTH, DOUBLES, LENGTH,
-             LENGTH, LENGTH, LENGTH, LENGTH, LENGTH, REAL, ctypes.c_uint32, REAL, REAL, REAL, REAL, LENGTH, SIZES, LENGTH]
+             LENGTH, LENGTH, LENGTH, LENGTH, LENGTH, REAL, ctypes.c_uint32, REAL, REAL, REAL, REAL, LENGTH, ctypes.c_uint32, SIZES, LENGTH]
 
 loaded = None
 loading = threading.Lock()

@@ -2,6 +2,7 @@
 from dataclasses import dataclass
 import numpy
 from . import quality
+from .front import GRID_LINES
 from .joints import Hard
 from .surfaces import Fault
 
@@ -81,3 +82,19 @@ def verify(surface, points, result):
     if abs(whole - made) > SLACK * abs(whole):
         raise Fault('the areas differ: %.17g before, %.17g after' % (whole, made))
     return whole, made, len(cuts)
+
+
+def exact_areas(surface, points, result):
+    """Of a result in the grid profile: twice the summed area of the given triangles, each without sign, in squares of the grid's step, as a whole number; and
+    the step. It must be that of the result's cells."""
+    lines = GRID_LINES * result.scale
+    whole = lambda cells: sum(abs(twice(rows)) for rows in (points[cells, :2] * lines).astype(numpy.int64).tolist())
+    before, after = whole(surface.triangles.cells), whole(result.quads) + whole(result.triangles)
+    if before != after or len(result.added):
+        raise Fault('the areas differ: %d before, %d after, in halves of squares of %.17g' % (before, after, 1 / lines))
+    return before, 1 / lines
+
+
+def twice(corners):
+    """Twice the signed area."""
+    return sum(a[0] * b[1] - b[0] * a[1] for a, b in zip(corners, corners[1:] + corners[:1]))

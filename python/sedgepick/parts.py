@@ -7,7 +7,7 @@ from concurrent.futures import ThreadPoolExecutor, as_completed
 from dataclasses import dataclass
 import numpy
 from . import joints, quality
-from .fitting import fit
+from .fitting import fit, grid_fit
 from .front import LARGEST_SIZE, LEAST_SIZE, MOST_GIVEN, MOST_JOINTS, Quality
 from .sizes import best_run
 from .slits import opened
@@ -26,6 +26,7 @@ class Answer:
     added: object     # x and y
     rounded: tuple    # as in Result
     joints: int       # edges that were locked
+    scale: float
 
 
 @dataclass
@@ -43,6 +44,7 @@ class Result:
     cutter: str
     joints: list = () # how many edges of each part were locked
     notes: list = ()  # parts that are slit
+    scale: float = 1  # the largest by which a part was fitted
     odd: int = 0      # components, as they went to the library, with an odd number of triangles
 
 
@@ -97,9 +99,9 @@ def halved(points, triangles, part):
     return numpy.unique(part, return_inverse=True)[1]
 
 
-def run(points, triangles, size, stop, hard=joints.Hard(), progress=None, jobs=None, quality=Quality()):
+def run(points, triangles, size, stop, hard=joints.Hard(), progress=None, jobs=None, quality=Quality(), grid=False):
     """Meshes the triangles, what is hard locked or slit, in parts where there are too many, on all cores; each part is fitted into the library's range by
-    itself."""
+    itself, in the grid profile onto its grid."""
     given = len(points)
     part, cutter = cut(points, triangles)
     slit, notes = joints.to_slit(points, triangles, part, hard)
@@ -113,11 +115,11 @@ def run(points, triangles, size, stop, hard=joints.Hard(), progress=None, jobs=N
     def one(which):
         own = triangles[part == which]
         nodes = numpy.unique(own)
-        placed = fit(points[nodes])
+        placed = grid_fit(points[nodes], origin[nodes]) if grid else fit(points[nodes])
         locked = numpy.searchsorted(nodes, joints.of_part(points, own, origin, hard)[:MOST_JOINTS])
-        taken, mesh = best_run(placed.there(points[nodes]), numpy.searchsorted(nodes, own), scaled(size, placed), stop, quality=quality, joints=locked)
+        taken, mesh = best_run(placed.there(points[nodes]), numpy.searchsorted(nodes, own), scaled(size, placed), stop, quality=quality, joints=locked, grid=grid)
         return Answer(nodes, taken / placed.scale, mesh, placed.back(mesh.points[len(nodes):]),
-                      (placed.rounded(points[nodes]), placed.rounded_back(mesh.points[len(nodes):])), len(locked))
+                      (placed.rounded(points[nodes]), placed.rounded_back(mesh.points[len(nodes):])), len(locked), placed.scale)
 
     with ThreadPoolExecutor(jobs or os.cpu_count() or 1) as pool:
         waiting = {pool.submit(one, which): which for which in range(count)}
@@ -158,4 +160,5 @@ def merged(given, answers, part, cutter):
     owners = [numpy.repeat(numpy.arange(len(cells)), [len(own) for own in cells]) for cells in (quads, left)]
     sizes, counts = [answer.size for answer in answers], [answer.mesh.counts for answer in answers]
     return Result(numpy.concatenate(added), numpy.concatenate(quads), numpy.concatenate(left), sizes, counts, part, *owners,
-                  tuple(map(sum, zip(*(answer.rounded for answer in answers)))), cutter, [answer.joints for answer in answers])
+                  tuple(map(sum, zip(*(answer.rounded for answer in answers)))), cutter, [answer.joints for answer in answers],
+                  scale=max(answer.scale for answer in answers))

@@ -73,14 +73,15 @@ def sections(job):
         lost.append(('kept by', '%d locked edges%s' % (sum(result.joints), ', and slits' if result.notes else '')))
     return [
         ('Run', [('file', surface.name), ('given', '%d triangles, %d nodes' % (len(surface.triangles.cells), len(numpy.unique(surface.triangles.cells)))),
-                 ('size', ('auto: ' if job.options.size is None else '') + (sizes[0] if len(sizes) == 1 else '%s to %s, part by part' % (sizes[0], sizes[-1]))),
+                 ('profile', 'grid' if job.options.grid else 'none'),
+                 ('size', ('auto: ' if job.options.size is None and not job.options.grid else '') + (sizes[0] if len(sizes) == 1 else '%s to %s, part by part' % (sizes[0], sizes[-1]))),
                  ('stop rule', job.options.stop), ('quality', quality_words(job.options.quality)),
                  ('parts', '%d (%s), %d edges between them, all found' % (len(result.sizes), result.cutter, job.cuts)),
                  ('coordinates rounded', '%d of given nodes on their way to the library, %d of added ones on their way back' % result.rounded),
                  ('library', 'sedgepick %s' % library.VERSION), ('commit', library.commit()), ('meshio', meshio.__version__), ('seconds', '%.1f' % job.seconds)]),
         ('Result', counted),
         ('Attempts', [('attempts', total('attempts'))] + [('refused: ' + words, total(name)) for name, words in REFUSED] + [('ended by a limit', total('limit'))]),
-        ('Area', [('before', '%.15g' % job.areas[0]), ('after', '%.15g' % job.areas[1]), ('boundary', 'every edge found')]),
+        ('Area', [('before', '%.15g' % job.areas[0]), ('after', '%.15g' % job.areas[1]), ('boundary', 'every edge found')] + exact_words(job)),
         ('Quads', [('least scaled Jacobian', '%.4f' % jacobians.min()), ('least angle', '%.2f degrees' % least.min())] + list(map(place, quad_rows))
          if len(result.quads) else [('none', '')]),
         ('Leftover triangles', [('under 10 degrees', int((angles < 10).sum()))] + list(map(place, triangle_rows)) if len(angles) else [('none', '')]),
@@ -103,6 +104,14 @@ def kept(job):
 def quality_words(q):
     return ('scaled Jacobian at least %.6g, angle at least %.6g degrees (cosine at most %.14g), side nodes at %.6g to %.6g sizes, %d pairs%s'
             % (q.least_jacobian, q.least_angle(), q.largest_cosine, q.side_low, q.side_high, q.pairs, ' (the standard set)' if q == Quality() else ''))
+
+
+def exact_words(job):
+    """The claim of the grid profile."""
+    if not job.exact:
+        return []
+    area, step = job.exact
+    return [('cells without sign, summed', '%d halves of squares of %.17g, before and after, exactly' % (area, step))]
 
 
 def at(points, nodes):

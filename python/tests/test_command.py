@@ -304,6 +304,49 @@ class Kept(Case):
         self.assertTrue((origin[opened] == triangles).all())
 
 
+class Grid(Case):
+    def slab(self, step=1.0, far=0.0, move=0.0):
+        """A shaken grid in whole millimetres, 4,800 across."""
+        points, triangles = grid(12, 12, 400.0)
+        points = [(x + (37 * i % 101 if 0 < x < 4800 and 0 < y < 4800 else 0), y + (53 * i % 97 if 0 < x < 4800 and 0 < y < 4800 else 0), z)
+                  for i, (x, y, z) in enumerate(points)]
+        points = [(step * x + far, step * y + far, z) for x, y, z in points]
+        points[100] = (points[100][0] + move, *points[100][1:])
+        return points, triangles
+
+    def test_millimetres(self):
+        report = self.path('r.txt')
+        for far in (0.0, 7e6):
+            points, triangles = self.slab(far=far)
+            self.good(self.stored(points, [('triangle', triangles)]), '-o', self.out, '--grid', '--report', report)
+            mesh, quads, left = self.mesh()
+            self.assertGreater(len(quads), 0)
+            self.assertTrue(set(map(tuple, mesh.points)) <= set(points))  # none is added
+            area = sum(abs(int(losses.twice([[int(c - far) for c in mesh.points[node][:2]] for node in cell]))) for cell in quads + left)
+            self.assertEqual(area, 2 * 4800 ** 2)
+            with open(report) as file:
+                said = file.read()
+            self.assertRegex(said, r'profile +grid\n')
+            self.assertIn('%d halves of squares of 0.5, before and after, exactly' % (4 * 2 * 4800 ** 2), said)
+
+    def test_off_the_grid(self):
+        for move, words in ((0.3, r'node 101 at \(.*\) is off the grid \(1 such\): x is no multiple of 0\.5, .*it lies between \d+ and \d+\.5\. Draw it'), (1e-9, 'node 101')):
+            points, triangles = self.slab(move=move)
+            self.refused(words, self.stored(points, [('triangle', triangles)]), '-o', self.out, '--grid')
+            self.good(self.stored(points, [('triangle', triangles)]), '-o', self.out)
+            os.remove(self.out)
+        points, triangles = self.slab(step=0.1)
+        self.refused('off the grid', self.stored(points, [('triangle', triangles)]), '-o', self.out, '--grid')
+
+    def test_size(self):
+        points, triangles = self.slab()
+        path = self.stored(points, [('triangle', triangles)])
+        self.good(path, '-o', self.out, '--grid', '--size', '0')
+        ran = self.run_command(path, '-o', self.out, '--grid', '--size', '400')
+        self.assertEqual(ran.returncode, 2)
+        self.assertIn('--grid takes no --size but 0', ran.stderr)
+
+
 class Parts(Case):
     def check(self, cutter):
         points, triangles = grid(70, 70, 0.1)

@@ -177,6 +177,35 @@ class Joints(unittest.TestCase):
             sedgepick.run_front(SQUARE, HALVES, 1.0, joints=[(0, 1, 2)])
 
 
+class Grid(unittest.TestCase):
+    @staticmethod
+    def areas(points, cells):
+        """Twice the summed areas without sign, in squares of the grid."""
+        at = lambda node: [int(1024 * c) for c in points[node][:2]]
+        cross = lambda a, b: a[0] * b[1] - b[0] * a[1]
+        return sum(abs(sum(cross(at(cell[i - 1]), at(cell[i])) for i in range(len(cell)))) for cell in plain(cells))
+
+    def test_area(self):
+        points, triangles = shaken(4)
+        points = [(round(1024 * x) / 1024, round(1024 * y) / 1024, z) for x, y, z in points]
+        for joints in ([], Joints.DIAGONAL):
+            mesh = sedgepick.run_front(points, triangles, 0.0, joints=joints, grid=True)
+            self.assertEqual(content(mesh), content(sedgepick.run_front(points, triangles, 0.0, joints=joints)))
+            self.assertEqual(len(mesh.points), len(points))
+            self.assertGreater(len(mesh.quads), 0)
+            self.assertEqual(self.areas(points, triangles), self.areas(points, mesh.quads) + self.areas(points, mesh.triangles))
+
+    def test_refused(self):
+        off = [(0.1, 0.0)] + SQUARE[1:]
+        for points, size, joints, number in ((SQUARE, 1.0, [], 15), (off, 0.0, [], 15), (off, 0.0, [(0, 0)], 15), (SQUARE, 0.0, [(0, 0)], 13),
+                                             ([(9.0, 0.0)] + SQUARE[1:], 1.0, [], 7)):
+            with self.assertRaises(sedgepick.Refused) as caught:
+                sedgepick.run_front(points, HALVES, size, joints=joints, grid=True)
+            self.assertEqual(caught.exception.number, number)
+        self.assertEqual(len(sedgepick.run_front(SQUARE, HALVES, -0.0, grid=True).quads), 1)
+        sedgepick.run_front(off, HALVES, 0.0)
+
+
 class Refusals(unittest.TestCase):
     def refused(self, number, *call):
         with self.assertRaises(sedgepick.Refused) as caught:

@@ -1,10 +1,10 @@
 //! What holds of every finished run: the account of demand 3, in floats where it
-//! speaks of exact arithmetic, and that joints are kept.
+//! speaks of exact arithmetic, that joints are kept, and the area of the grid profile.
 
 use std::collections::BTreeSet;
 
 use crate::generators::joints::{edges, key, sides};
-use crate::input::{Input, Lent, UNBOUNDED};
+use crate::input::{Input, Lent, GRID, UNBOUNDED};
 use crate::patched::{FrontResult, Quality, STANDARD};
 use crate::random::Random;
 
@@ -63,6 +63,11 @@ pub fn check(input: &Input, r: &FrontResult) {
         "sizes"
     );
     assert_eq!(lost(input, r), 0, "joints");
+    if input.grid != 0 {
+        assert_eq!(c.mismatch_insertions, 0, "a point added in the profile");
+        let (before, after) = areas(input, r);
+        assert_eq!(before, after, "the area of the profile");
+    }
     let even = |sizes: &[usize]| sizes.iter().all(|n| n % 2 == 0);
     if input.even() && (!r.quads.is_empty() || even(&components(&input.tris()))) {
         assert!(even(&r.region_components), "even components");
@@ -89,6 +94,19 @@ fn check_quad(r: &FrontResult, set: &Quality, quad: &[usize; 4]) {
         let sine = (u[0] * v[1] - u[1] * v[0]) / squares.sqrt();
         assert!(sine >= set.least_jacobian - 1e-4, "a corner's Jacobian");
     }
+}
+
+/// Twice the summed areas of the given triangles and of the cells that came back, each without sign, in squares of the grid; the points are on it.
+pub fn areas(input: &Input, r: &FrontResult) -> (u128, u128) {
+    let whole = |x: f64| (GRID * x) as i128;
+    let twice = |nodes: &[usize]| {
+        let at = |i: usize| r.points[nodes[i % nodes.len()]].map(whole);
+        let part = |i: usize| at(i)[0] * at(i + 1)[1] - at(i + 1)[0] * at(i)[1];
+        (0..nodes.len()).map(part).sum::<i128>().unsigned_abs()
+    };
+    let left: u128 = r.triangles.iter().map(|t| twice(t)).sum();
+    let quads: u128 = r.quads.iter().map(|q| twice(q)).sum();
+    (input.tris().iter().map(|t| twice(t)).sum(), left + quads)
 }
 
 /// The edges of the finished mesh.

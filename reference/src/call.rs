@@ -1,11 +1,12 @@
 //! Calls of the library in files: the capacities, the quality set where it is not
-//! document 01's, the joints where there are such, then the program's text form without
-//! its limits. An answer also says what refusals 8 and 9 leave.
+//! document 01's, the joints where there are such, the grid profile where it is chosen,
+//! then the program's text form without its limits. An answer also says what refusals 8
+//! and 9 leave.
 
 use std::io::Result;
 use std::path::Path;
 
-use crate::generators::{self, joints, sets};
+use crate::generators::{self, joints, on_grid, sets};
 use crate::input::{Input, Lent, LARGEST, UNBOUNDED};
 use crate::patched::{Quality, STANDARD};
 use crate::random::Random;
@@ -15,6 +16,7 @@ const CAPACITIES: &str = "capacity slots";
 const QUALITY: &str = "least_jacobian largest_cosine side_low side_high pairs";
 const JOINTS: &str = "joints";
 const JOINT: &str = "u v";
+const PROFILE: &str = "grid";
 
 /// A call's text.
 pub fn write(lent: Lent, input: &Input) -> Vec<u8> {
@@ -28,6 +30,9 @@ pub fn write(lent: Lent, input: &Input) -> Vec<u8> {
         for [u, v] in &input.joints {
             head += &format!("{u} {v}\n");
         }
+    }
+    if input.grid != 0 {
+        head += &format!("{PROFILE}\n{}\n", input.grid);
     }
     [head.into_bytes(), text::write(input)].concat()
 }
@@ -85,9 +90,18 @@ fn read(bytes: &[u8]) -> Option<(Lent, Input)> {
         }
         rest = lines;
     }
+    let mut grid = 0;
+    if let Some((values, after)) = below(rest, PROFILE) {
+        let [number] = values[..] else {
+            return None;
+        };
+        grid = number.parse().ok()?;
+        rest = after;
+    }
     let input = Input {
         quality,
         joints,
+        grid,
         ..text::read_any(rest)?
     };
     Some((lent, input))
@@ -130,6 +144,7 @@ pub fn answer(input: &Input, lent: Lent) -> Vec<u8> {
 pub enum Further {
     Set,
     Joints,
+    Grid,
 }
 
 impl Further {
@@ -137,6 +152,7 @@ impl Further {
         match self {
             Further::Set => "set",
             Further::Joints => "joints",
+            Further::Grid => "profile",
         }
     }
 
@@ -144,6 +160,7 @@ impl Further {
         match self {
             Further::Set => 14,
             Further::Joints => 13,
+            Further::Grid => 15,
         }
     }
 
@@ -151,6 +168,8 @@ impl Further {
     fn given(self, plain: &Input, doubtful: bool, r: &mut Random) -> Input {
         let mut input = plain.clone();
         match (self, doubtful) {
+            (Further::Grid, true) => input = on_grid::doubtful(plain, r),
+            (Further::Grid, false) => input = on_grid::good(plain, r),
             (Further::Set, true) => input.quality = sets::doubtful(r),
             (Further::Set, false) => input.quality = sets::good(r),
             (Further::Joints, true) => input.joints = joints::doubtful(plain, r),
@@ -160,7 +179,7 @@ impl Further {
     }
 }
 
-/// Small calls with sets or joints that change the run, and with such that are refused.
+/// Small calls with sets or joints that change the run, or in the grid profile with quads, and with such that are refused.
 pub fn further_calls(what: Further, seed: u64, count: u64, folder: &Path) -> Result<()> {
     std::fs::create_dir_all(folder)?;
     let (mut case, mut made) = (0, 0);
@@ -179,9 +198,10 @@ pub fn further_calls(what: Further, seed: u64, count: u64, folder: &Path) -> Res
             slots: input.triangles.len() + 96,
         };
         let said = answer(&input, lent);
-        let wanted = match input.refusal(lent) {
-            Some(number) => refused && number == what.refusal(),
-            None => !refused && said != answer(&plain, lent),
+        let wanted = match (input.refusal(lent), what) {
+            (Some(number), _) => refused && number == what.refusal(),
+            (None, Further::Grid) => !refused && !input.run_unchecked(lent).quads.is_empty(),
+            (None, _) => !refused && said != answer(&plain, lent),
         };
         if !wanted {
             continue;
@@ -229,7 +249,7 @@ pub fn calls(seed: u64, count: u64, folder: &Path) -> Result<()> {
 }
 
 #[test]
-fn a_call_with_a_set_and_joints_is_read_as_it_was_written() {
+fn a_call_with_all_that_may_be_asked_is_read_as_it_was_written() {
     for case in 0..200 {
         let mut r = Random::new(5, case);
         let lent = Lent {
@@ -241,6 +261,7 @@ fn a_call_with_a_set_and_joints_is_read_as_it_was_written() {
             input.joints = joints::doubtful(&input, &mut r);
         }
         input.quality = sets::doubtful(&mut r);
+        input.grid = r.pick(&[0, 1, u32::MAX]);
         let text = write(lent, &input);
         let (again, read) = read(&text).unwrap();
         assert_eq!(write(again, &read), text);
@@ -288,4 +309,46 @@ fn bad_joints_are_refused_last() {
         assert_eq!(refusal(0.0, bad), Some(13));
         assert_eq!(refusal(9.0, bad), Some(7));
     }
+}
+
+#[test]
+fn off_the_grid_is_refused_after_7_and_before_13() {
+    let lent = Lent {
+        points: 3,
+        slots: 0,
+    };
+    let refusal = |size: f64, x: f64, grid: u32, joints: &[[u32; 2]]| {
+        let input = Input {
+            size: size.to_bits(),
+            points: vec![[x.to_bits(), 0, 1]; 3],
+            joints: joints.to_vec(),
+            grid,
+            ..Input::default()
+        };
+        input.refusal(lent)
+    };
+    let (step, bad) = (1.0 / 1024.0, &[[0, 0]]);
+    for x in [0.0, -0.0, step, -step, 8.0, -8.0, 8.0 - step, 0.5] {
+        for size in [0.0, -0.0] {
+            assert_eq!(refusal(size, x, 1, &[]), None, "{x}");
+            assert_eq!(refusal(size, x, 1, bad), Some(13));
+        }
+        assert_eq!(refusal(1.0 / 64.0, x, 1, bad), Some(15));
+        assert_eq!(refusal(1.0 / 64.0, x, 0, &[]), None);
+        assert_eq!(refusal(1.0 / 128.0, x, 1, &[]), Some(2));
+    }
+    let near = |x: f64, by: i64| f64::from_bits(x.to_bits().wrapping_add_signed(by));
+    for x in [
+        near(step, 1),
+        near(step, -1),
+        step / 2.0,
+        0.1,
+        near(8.0, -1),
+        near(0.0, 1),
+    ] {
+        assert_eq!(refusal(0.0, x, 1, &[]), Some(15), "{x}");
+        assert_eq!(refusal(0.0, -x, u32::MAX, bad), Some(15), "{x}");
+        assert_eq!(refusal(0.0, x, 0, &[]), None);
+    }
+    assert_eq!(refusal(0.0, near(8.0, 1), 1, bad), Some(7));
 }

@@ -4,7 +4,7 @@ use std::collections::BTreeMap;
 use std::path::Path;
 
 use crate::generators::shape::Room;
-use crate::generators::{self, joints, sets, KINDS, TEXT};
+use crate::generators::{self, joints, on_grid, sets, KINDS, TEXT};
 use crate::input::{Input, UNBOUNDED};
 use crate::random::Random;
 use crate::{account, bare, damage, patched, published, text};
@@ -166,6 +166,7 @@ struct Tally {
     short: usize,
     sets: usize,
     joints: usize,
+    grids: usize,
 }
 
 #[derive(Default)]
@@ -219,6 +220,9 @@ impl Comparison {
         if r.once_in(3) {
             tally.joints += check_joints(&input, &mut r);
         }
+        if r.once_in(3) {
+            tally.grids += check_grid(&input, &mut r);
+        }
         let full = ran!(patched, full);
         check_standard(&input, &full);
         let whys = partings(&input, &full);
@@ -241,8 +245,8 @@ impl Comparison {
 
     /// A line a kind, then the sums. True when nothing parts but by the patches.
     pub fn print(&self) -> bool {
-        println!("kind runs refused agree cosine off_front both other second_counts second_triangles second_quads by_attempts by_triangles short_of_memory sets joints");
-        let mut sums = [0; 15];
+        println!("kind runs refused agree cosine off_front both other second_counts second_triangles second_quads by_attempts by_triangles short_of_memory sets joints grids");
+        let mut sums = [0; 16];
         for (kind, t) in &self.kinds {
             let of = |why| t.partings.get(&why).copied().unwrap_or(0);
             let row = [
@@ -261,6 +265,7 @@ impl Comparison {
                 t.short,
                 t.sets,
                 t.joints,
+                t.grids,
             ];
             println!("{kind} {}", row.map(|n| n.to_string()).join(" "));
             sums.iter_mut().zip(row).for_each(|(sum, n)| *sum += n);
@@ -301,12 +306,12 @@ fn check_text(input: &Input, r: &mut Random) {
     }
 }
 
-/// With document 01's set and without joints the module is the one that knows neither.
+/// With document 01's set, without joints and without the grid profile the module is the one that knows none of them.
 fn check_standard(input: &Input, full: &Ran) {
     let most = usize::MAX;
     assert!(
         run!(without_asked, input, most, most) == *full,
-        "document 01's set, no joints"
+        "document 01's set, no joints, no profile"
     );
 }
 
@@ -349,6 +354,25 @@ fn check_joints(input: &Input, r: &mut Random) -> usize {
     let second = ran!(patched, input.run_unchecked(UNBOUNDED));
     assert!(first == second, "the order of joints, or a repeat");
     2
+}
+
+/// A run in the grid profile, half of them with another set and joints, keeps its account and the exact area, and is the run without the profile. Says how
+/// many runs were made.
+fn check_grid(input: &Input, r: &mut Random) -> usize {
+    if input.triangles.len() > 64 {
+        return 0;
+    }
+    let mut input = on_grid::good(input, r);
+    if r.once_in(2) {
+        input.quality = sets::good(r);
+        input.joints = joints::good(&input, r);
+    }
+    let full = input.run_unchecked(UNBOUNDED);
+    account::check(&input, &full);
+    input.grid = 0;
+    let free = ran!(patched, input.run_unchecked(UNBOUNDED));
+    assert!(ran!(patched, full) == free, "the profile changes a run");
+    1
 }
 
 /// Triangles, points and digits left out one by one while the runs still part so.

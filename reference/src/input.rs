@@ -1,4 +1,4 @@
-//! A call's numbers, and the refusals 1 to 7, 13 and 14 that they meet before a run.
+//! A call's numbers, and the refusals 1 to 7 and 13 to 15 that they meet before a run.
 
 use crate::mesh::Node;
 use crate::patched::{self, FrontResult, FrontStop, Quality};
@@ -10,6 +10,8 @@ pub struct Input {
     pub stop: u32,
     pub quality: Quality,
     pub joints: Vec<[u32; 2]>,
+    /// The grid profile, chosen by any number but 0.
+    pub grid: u32,
     pub triangles: Vec<[u32; 3]>,
     pub points: Vec<[u64; 3]>,
 }
@@ -45,6 +47,9 @@ pub const UNBOUNDED: Lent = Lent {
     points: usize::MAX,
     slots: usize::MAX,
 };
+
+/// Grid lines to a unit, in the grid profile.
+pub const GRID: f64 = 1024.0;
 
 /// The most joints, repeats counted.
 pub const MOST_JOINTS: usize = 256;
@@ -103,7 +108,7 @@ impl Input {
         self.joints.iter().map(wide).collect()
     }
 
-    /// The first of the conditions of 1, 2, 3, 14, 4, 5, 6, 7 and 13 that holds. The
+    /// The first of the conditions of 1, 2, 3, 14, 4, 5, 6, 7, 15 and 13 that holds. The
     /// lent slices are as long as `lent` states, so of 4 only the capacities are tested.
     pub fn refusal(&self, lent: Lent) -> Option<u32> {
         let (tris, given) = (self.triangles.len(), self.points.len());
@@ -117,6 +122,8 @@ impl Input {
         let far = |p: &[u64; 3]| outside(p[0]) || outside(p[1]);
         let bad = |j: &[u32; 2]| j[0] == j[1] || j.iter().any(|&v| v as usize >= given);
         let joints = &self.joints;
+        let off = |p: &[u64; 3]| off_grid(p[0]) || off_grid(p[1]);
+        let off_profile = self.size() != 0.0 || self.points.iter().any(off);
         let conditions = [
             (1, over),
             (2, !sized),
@@ -126,6 +133,7 @@ impl Input {
             (5, nodes.any(|&v| v as usize >= given)),
             (6, self.triangles.iter().any(twice)),
             (7, self.points.iter().any(far)),
+            (15, self.grid != 0 && off_profile),
             (13, joints.len() > MOST_JOINTS || joints.iter().any(bad)),
         ];
         conditions.iter().find(|c| c.1).map(|c| c.0)
@@ -160,8 +168,15 @@ impl Input {
             lent.slots,
             self.quality,
             &self.pairs(),
+            self.grid != 0,
         )
     }
+}
+
+/// No multiple of 1/1024; of what is within 8, the product is exact.
+fn off_grid(bits: u64) -> bool {
+    let units = GRID * f64::from_bits(bits);
+    units != units.floor()
 }
 
 /// Not finite, or beyond 8 in magnitude.

@@ -47,6 +47,7 @@ const USAGE: &str = "usage:
   calls SEED COUNT DIR                     write calls of the library with their answers
   set-calls SEED COUNT DIR                 the same with quality sets
   joint-calls SEED COUNT DIR               the same with joints
+  grid-calls SEED COUNT DIR                the same in the grid profile
   meshes SEED TRIANGLES [DIR]              make large meshes, print their hashes
   grids                                    the hashes that the crate `replay` holds
   small                                    the hashes that the crate `acceptance` holds
@@ -115,7 +116,7 @@ fn number(word: &str) -> Result<u64> {
         .map_err(|_| Error::other(format!("not a number: {word}")))
 }
 
-/// Calls with a set or with joints.
+/// Calls with a set, with joints or in the grid profile.
 fn further(what: call::Further, seed: &str, count: &str, folder: &str) -> Result<()> {
     call::further_calls(what, number(seed)?, number(count)?, Path::new(folder))
 }
@@ -137,6 +138,7 @@ fn command(words: &[&str]) -> Result<()> {
             call::calls(number(seed)?, number(count)?, Path::new(folder))
         }
         ["set-calls", seed, count, folder] => further(call::Further::Set, seed, count, folder),
+        ["grid-calls", seed, count, folder] => further(call::Further::Grid, seed, count, folder),
         ["joint-calls", seed, count, folder] => further(call::Further::Joints, seed, count, folder),
         ["meshes", seed, triangles] => {
             large::meshes(number(seed)?, number(triangles)? as usize, None)

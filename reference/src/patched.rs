@@ -204,6 +204,10 @@ pub struct CellMesh {
     /// The locked edges, smaller node first.
     locked: HashSet<(usize, usize)>,
     // end patch
+    // patch: grid
+    /// The grid profile: nothing is inserted.
+    grid: bool,
+    // end patch
 }
 
 impl CellMesh {
@@ -240,6 +244,9 @@ impl CellMesh {
             // end patch
             // patch: joints
             locked: HashSet::new(),
+            // end patch
+            // patch: grid
+            grid: false,
             // end patch
         };
         for id in 0..mesh.cells.len() {
@@ -1444,6 +1451,9 @@ pub fn run_front(
     // patch: joints
     joints: &[[usize; 2]],
     // end patch
+    // patch: grid
+    grid: bool,
+    // end patch
 ) -> FrontResult {
     // end patch
     let mut refusals = Refusals::default();
@@ -1460,6 +1470,9 @@ pub fn run_front(
         .iter()
         .map(|j| (j[0].min(j[1]), j[0].max(j[1])))
         .collect();
+    // end patch
+    // patch: grid
+    mesh.grid = grid;
     // end patch
     let mut quads: Vec<[usize; 4]> = Vec::new();
     front_loop(&mut mesh, tris.len(), size, &mut quads, &mut refusals, stop);
@@ -1692,7 +1705,10 @@ fn try_quad(
     if ca.is_empty() {
         // Rule 2: insertion is a response to a size mismatch on the *front
         // edge*, never a rescue for a failed placement.
-        if !size_mismatch(span, target) {
+        // patch: grid
+        // was:         if !size_mismatch(span, target) {
+        if mesh.grid || !size_mismatch(span, target) {
+            // end patch
             return Err(Refusal::Placement);
         }
         let Some(c) = insert_along(mesh, seed, [pa[0], pa[1]], n, target) else {
@@ -1709,7 +1725,10 @@ fn try_quad(
     cb.sort_unstable();
     cb.dedup();
     if cb.is_empty() {
-        if !size_mismatch(span, target) {
+        // patch: grid
+        // was:         if !size_mismatch(span, target) {
+        if mesh.grid || !size_mismatch(span, target) {
+            // end patch
             return Err(Refusal::Placement);
         }
         let Some(d) = insert_along(mesh, seed, [pb[0], pb[1]], n, target) else {

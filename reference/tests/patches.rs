@@ -11,7 +11,7 @@ fn without_its_patches_the_patched_module_is_the_published_one() {
     assert_eq!(marks::take_back(PATCHED, |_| true).unwrap(), PUBLISHED);
 }
 
-const NAMES: [&str; 7] = [
+const NAMES: [&str; 8] = [
     "cosine",
     "limit",
     "off-front",
@@ -19,10 +19,11 @@ const NAMES: [&str; 7] = [
     "second-end",
     "quality",
     "joints",
+    "grid",
 ];
 
 #[test]
-fn every_patch_is_one_of_seven() {
+fn every_patch_is_one_of_eight() {
     for name in marks::names(PATCHED) {
         assert!(NAMES.contains(&name));
     }
@@ -121,6 +122,19 @@ fn joints_stand_in_two_tests_and_replace_nothing() {
 }
 
 #[test]
+fn the_grid_profile_inserts_nothing_and_changes_nothing_else() {
+    let new = marks::take_back(PATCHED, |_| false).unwrap();
+    let old = marks::take_back(PATCHED, |patch| patch == "grid").unwrap();
+    assert_eq!(fresh(&old, &new), ["if !size_mismatch(span, target) {"; 2]);
+    let added = fresh(&new, &old);
+    let read = |line: &&String| line.contains("mesh.grid |");
+    let added: Vec<&String> = added.iter().filter(read).collect();
+    assert_eq!(added, ["if mesh.grid || !size_mismatch(span, target) {"; 2]);
+    // Areas are added without sign as published.
+    assert!(PUBLISHED.contains("area += cross(a, b, c).abs() / 2.0;"));
+}
+
+#[test]
 fn a_patch_within_a_patch() {
     let text = "// patch: a\n// was: 1\n// patch: b\n// was: 2\n3\n// end patch\n// end patch\n";
     let taken = |names: &str| marks::take_back(text, |patch| names.contains(patch)).unwrap();
@@ -133,7 +147,7 @@ fn a_patch_within_a_patch() {
 #[test]
 fn the_patches_are_small() {
     let kept = marks::take_back(PATCHED, |_| false).unwrap();
-    assert!(kept.lines().count() < PUBLISHED.lines().count() + 160);
+    assert!(kept.lines().count() < PUBLISHED.lines().count() + 180);
 }
 
 #[test]

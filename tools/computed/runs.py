@@ -11,6 +11,7 @@ use Rattle.vectors.specs.Opened.{opened}
 CALLS = '''-- Calls that end for want of lent memory, each one theorem by computation: what is answered, and what every slice holds at exit.
 -- Made by tools/computed/runs.py from answers/calls. At entry the outputs and the work hold numbers of no meaning.
 use mathlib.Core.Path.{_≡_, refl}
+use mathlib.Core.Bool.{false}
 use mathlib.Core.List.{List, [], _∷_, _++_, map}
 use Prim.Native.Nat.{ℕ, _+_, _*_, _-_}
 use lib.ListN.{length, replicate}
@@ -45,7 +46,7 @@ def call_theorem(name):
     slices = 'lent %s %s %%s %s %%s %%s' % (c['capacity'], c['slots'], numbers(c['triangles']))
     entry = slices % (numbers('0x' + w for w in c['given']), '[]', '5 nan')
     left = slices % (numbers('0x' + w for w in c['points']), numbers(c['quads']), '0 0·0')
-    asked = 'record { given = %d; capacity = %s; count = %d; slots = %s; joints = 0; size = f64 0x%s; stop = %s; quality = base }' % (
+    asked = 'record { given = %d; capacity = %s; count = %d; slots = %s; joints = 0; size = f64 0x%s; stop = %s; quality = base; grid = false }' % (
         len(c['given']) // 3, c['capacity'], len(c['triangles']) // 3, c['slots'], c['size'], c['stop'])
     return '''
 asked-%(n)s : Asked

@@ -1,4 +1,5 @@
-"""The program's text: an input, a call of the library (an input after its capacities, its quality set and its joints if it has such), an answer or a refusal."""
+"""The program's text: an input, a call of the library (an input after its capacities, its quality set, its joints and its profile if it has such), an answer or a
+refusal."""
 import re, struct
 from mesh.lines import Fault
 from mesh.meshes import Mesh
@@ -8,6 +9,7 @@ CALL = 'capacity slots'
 QUALITY = 'least_jacobian largest_cosine side_low side_high pairs'
 JOINTS = 'joints'
 JOINT = 'u v'
+PROFILE = 'grid'
 COUNTS = 'front_empty attempts placement invalid_quad recovery region odd_region mismatch_insertions limit'
 LENGTHS = 'quads triangles points components'
 TRIANGLE = 'n0 n1 n2'
@@ -41,6 +43,7 @@ REFUSALS = {
     10: 'the text is not in its form',
     13: 'a joint is one node twice or names a node that is not there, or there are over 256 joints',
     14: 'a quality number is out of its range or is a NaN, or the low side factor is above the high one',
+    15: 'in the grid profile: an x or y is no multiple of 1/1024, or the size is not zero',
 }
 
 
@@ -128,6 +131,7 @@ def read(source):
         form.numbers(CALL)
         set_of(form)
         joints_of(form)
+        profile_of(form)
         return given(form)
     if first == INPUT:
         return given(form)
@@ -153,6 +157,14 @@ def joints_of(form):
     count, = form.numbers(JOINTS)
     form.names(JOINT)
     return [form.numbers(JOINT) for _ in range(count)]
+
+
+def profile_of(form):
+    """The grid profile of a call: a number, 0 where it is not chosen."""
+    if form.lines[form.number:form.number + 1] != [PROFILE.encode()]:
+        return 0
+    form.names(PROFILE)
+    return form.numbers(PROFILE)[0]
 
 
 def given(form):

@@ -66,6 +66,7 @@ extern "C" {
         side_low: f64,
         side_high: f64,
         pairs: usize,
+        grid: u32,
         answer: *mut usize,
         answer_len: usize,
     ) -> usize;
@@ -147,7 +148,7 @@ impl Default for Set {
     }
 }
 
-/// What a call may take beside its mesh. `Default` is without joints and with the standard set.
+/// What a call may take beside its mesh. `Default` is without joints, with the standard set and without the grid profile.
 #[derive(Clone, Copy, Debug, Default, PartialEq)]
 pub struct Further<'a> {
     /// Two node numbers a joint, in either order. May be longer than the call needs.
@@ -155,6 +156,8 @@ pub struct Further<'a> {
     /// Joints, at most 256.
     pub joint_count: usize,
     pub set: Set,
+    /// 0, or any other number for the grid profile.
+    pub grid: u32,
 }
 
 /// The lent slices. Each may be longer than the call needs; what it holds beforehand does not matter, but for the given points.
@@ -186,7 +189,7 @@ pub struct Answer {
 
 /// Meshes the first `call.count` triangles, three node numbers each, over the first `call.given` points of the memory.
 ///
-/// Refusals before a run (1 to 7, 13, 14) touch nothing. 8 and 9 leave the points added and the quads written before them, clear both work slices and touch
+/// Refusals before a run (1 to 7, 13 to 15) touch nothing. 8 and 9 leave the points added and the quads written before them, clear both work slices and touch
 /// nothing else.
 pub fn run_front(triangles: &[u32], memory: Memory<'_>, call: Call) -> Result<Answer, Refusal> {
     let mut a = [0usize; ANSWER];
@@ -220,7 +223,7 @@ pub fn run_front(triangles: &[u32], memory: Memory<'_>, call: Call) -> Result<An
     answered(number, a)
 }
 
-/// The same with joints and a quality set; without joints and with the standard set it is `run_front`.
+/// The same with joints, a quality set and the grid profile; by default it is `run_front`.
 pub fn run_front_with(
     triangles: &[u32],
     memory: Memory<'_>,
@@ -260,6 +263,7 @@ pub fn run_front_with(
             set.side_low,
             set.side_high,
             set.pairs,
+            further.grid,
             a.as_mut_ptr(),
             a.len(),
         )

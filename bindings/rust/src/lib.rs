@@ -77,6 +77,9 @@ pub const MOST_CAPACITY: usize = 8192;
 pub const MOST_SLOTS: usize = 16384;
 pub const MOST_GIVEN: usize = 4096;
 
+/// Lines of the grid profile to a unit.
+pub const GRID_LINES: f64 = 1024.0;
+
 /// The most joints, repeats counted.
 pub const MOST_JOINTS: usize = 256;
 
@@ -90,7 +93,7 @@ pub enum Stop {
     EvenComponents = 1,
 }
 
-/// What a run goes by beside points and triangles. `Default` has no size, stop rule 0, the standard quality set and no joints.
+/// What a run goes by beside points and triangles. `Default` has no size, stop rule 0, the standard quality set, no joints and no profile.
 #[derive(Clone, Copy, Debug, PartialEq)]
 pub struct Options<'a> {
     /// The target length of an edge: 0 for none, otherwise from 1/64 to 8.
@@ -100,6 +103,9 @@ pub struct Options<'a> {
     /// Edges that are locked, their nodes in either order, at most 256. One that the given triangles have is an edge of the finished mesh. The order of the
     /// list and repeats change nothing.
     pub joints: &'a [[u32; 2]],
+    /// The grid profile: x and y of every point are multiples of 1/1024 and the size is 0. Nothing is inserted, and the summed area of quads and triangles,
+    /// each without sign, equals that of the given triangles, exactly.
+    pub grid: bool,
 }
 
 impl Default for Options<'_> {
@@ -109,6 +115,7 @@ impl Default for Options<'_> {
             stop: Stop::Exhaust,
             quality: Quality::default(),
             joints: &[],
+            grid: false,
         }
     }
 }
@@ -149,7 +156,7 @@ pub struct Mesh {
     pub counts: Counts,
 }
 
-/// Meshes the triangles over the points with the standard quality set and no joints. `size` is the target length of an edge: 0 for none, otherwise from 1/64 to 8.
+/// Meshes the triangles over the points with the standard quality set, no joints and no profile. `size` is the target length of an edge: 0 for none, otherwise from 1/64 to 8.
 ///
 /// Where points or slots run out the run is made again with more, up to the limits, so that 8 and 9 come back only from a run that needs more than them.
 /// The result does not depend on how much was lent.
@@ -231,6 +238,7 @@ fn attempt(
         joints: options.joints.as_flattened(),
         joint_count: options.joints.len(),
         set: options.quality.set(),
+        grid: options.grid as u32,
     };
     let answer = lent::run_front_with(triangles.as_flattened(), memory, call, further)?;
     components.truncate(answer.components);

@@ -22,6 +22,8 @@ pub enum Refusal {
     RepeatedNode = 6,
     /// An x or y is not finite or is beyond 8 in magnitude.
     FarPoint = 7,
+    /// In the grid profile: an x or y of a given point is no multiple of 1/1024, or the size is not zero.
+    OffGrid = 15,
     /// A joint is one node twice, a node of it is not below the given points, or there are over 256 joints.
     BadJoint = 13,
     /// An insertion, with the point capacity used up.
@@ -31,7 +33,7 @@ pub enum Refusal {
 }
 
 impl Refusal {
-    const ALL: [Refusal; 11] = [
+    const ALL: [Refusal; 12] = [
         Refusal::OverLimit,
         Refusal::BadSize,
         Refusal::BadStop,
@@ -40,12 +42,13 @@ impl Refusal {
         Refusal::UnknownNode,
         Refusal::RepeatedNode,
         Refusal::FarPoint,
+        Refusal::OffGrid,
         Refusal::BadJoint,
         Refusal::NoPoint,
         Refusal::NoSlots,
     ];
 
-    /// The refusal's number: 1 to 9, 13 and 14.
+    /// The refusal's number: 1 to 9, and 13 to 15.
     pub fn number(self) -> u32 {
         self as u32
     }
@@ -66,6 +69,7 @@ impl Refusal {
             Refusal::UnknownNode => "a node number is not below the given points",
             Refusal::RepeatedNode => "a triangle has a node twice",
             Refusal::FarPoint => "an x or y is not finite or is beyond 8 in magnitude",
+            Refusal::OffGrid => "in the grid profile, an x or y is no multiple of 1/1024, or the size is not zero",
             Refusal::BadJoint => "a joint is one node twice, a node of it is not below the given points, or there are over 256 joints",
             Refusal::NoPoint => "an insertion, with the point capacity used up",
             Refusal::NoSlots => "a split with fewer than two slots free, or a quad with none",

@@ -50,6 +50,10 @@ as-returned start h r x a exit is e f =
     ∙ ap (λ (l : Lent). with-slices h (l .quads) (l .triangles-out) (l .components) (l .points)) (sym (is .lent))
     ∙ ap (λ k. with-slices k (x .lent .quads) (x .lent .triangles-out) (x .lent .components) (x .lent .points)) answer
 
+-- a call that states the same numbers
+pub stated-as : (l : Lent) {a b : Asked} {r : Answer} {exit : Lent} → a ≡ b → Returns (the-call a l) r exit → Returns (the-call b l) r exit
+stated-as l {r = r} {exit = exit} e is = subst (λ a. Returns (the-call a l) r exit) e is
+
 -- the call in setting s, with the points that were placed
 pub with-points : (given count : ℕ) (nodes : List ℕ) (s : ℕ) {points : List Float} {a : Answer} {exit : Lent} → points ≡ placed (coordinates (s / 16))
     → Returns (the-call (asked given count s) (lent points nodes)) a exit → Returns (returned given count nodes s) a exit
@@ -61,7 +65,3 @@ pub one-more : (h r : ℕ) (given count : ℕ) (nodes : List ℕ) (s : ℕ)
     → h ≡ hashed given count nodes s → r ≡ folded h (returned given count nodes s) → r ≡ hashed given count nodes (s + 1)
 unfolding hashed
 one-more h r given count nodes s e f = f ∙ ap (λ k. folded k (returned given count nodes s)) e ∙ ap (hashed given count nodes) (sym (add-one s))
-
--- and with the numbers that were stated
-pub as-stated : {x y : Asked} (l : Lent) {a : Answer} {exit : Lent} → x ≡ y → Returns (the-call x l) a exit → Returns (the-call y l) a exit
-as-stated l {a = a} {exit = exit} e is = subst (λ x. Returns (the-call x l) a exit) e is

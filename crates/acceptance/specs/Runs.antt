@@ -1,4 +1,5 @@
 -- The calls of a list, one for each setting, and the hash of what they return.
+use mathlib.Core.Bool.{false}
 use mathlib.Core.List.{List, [], _∷_}
 use Prim.Native.Nat.{ℕ, zero, suc, _/_, _%_}
 use lib.ListN.{length, getD, replicate}
@@ -30,9 +31,9 @@ slots s = getD (48 ∷ 9 ∷ []) (s % 2) 0
 unfoldable pub size : ℕ → Float
 size s = getD (plus 0 ∷ plus 4 ∷ plus 16 ∷ plus 48 ∷ []) (s / 4 % 4) nan
 
--- the stated numbers, for so many points and triangles, with document 01's quality set and no joints
+-- the stated numbers, for so many points and triangles, with document 01's quality set, no joints and off the grid
 unfoldable pub asked : ℕ → ℕ → ℕ → Asked
-asked given count s = asked-for given (capacity s) count (slots s) 0 (size s) (s / 2 % 2) base
+asked given count s = asked-for given (capacity s) count (slots s) 0 (size s) (s / 2 % 2) base false
 
 -- what a lent slice holds beforehand; no node has this number
 unfoldable pub unused : ℕ

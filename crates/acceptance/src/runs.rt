@@ -42,7 +42,7 @@ fn mixed_run(start: u64, given: usize, list: Triangles, s: usize) -> u64
     let mut components = [UNUSED; 48];
     let mut work = [0u32; 3264];
     let mut floats = [0.0; 192];
-    let none: [u32; 0] = [];
+    let none = [0u32; 0];
     let stated = standard(
         given,
         capacities[s % 2],

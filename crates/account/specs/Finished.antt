@@ -1,6 +1,6 @@
 -- A call that finished: no refusal's condition held, and its slices hold the run's result.
-use mathlib.Core.Path.{_≡_, refl, sym, ap, _∙_}
-use mathlib.Core.Bool.{Bool, true, false, _||_}
+use mathlib.Core.Path.{_≡_, refl, sym, ap, _∙_, subst}
+use mathlib.Core.Bool.{Bool, true, false, not, _&&_, _||_}
 use mathlib.Core.Logic.{inl, inr}
 use mathlib.Core.List.{List, _∷_}
 use mathlib.Core.Option.{none, some}
@@ -9,13 +9,15 @@ use Prim.Native.Nat.{ℕ, _+_, _*_, _≤_, _<_}
 use native.Mathlib.Omega.{arith}
 use lib.Dec.{eqb, leb, ltb}
 use lib.ListN.{length}
+use lib.Ieee.{eq}
 use borrow.Author.Tests.{not-false, eqb-false, leb-false, ltb-false}
-use Rattle.definition.specs.Lists.{any, find, below}
+use Rattle.definition.specs.Lists.{any, all, find, below}
+use Rattle.definition.specs.Floats.{0·0}
 use Rattle.definition.specs.Counts.{Counts}
 use Rattle.definition.specs.Plane.{Node}
 use Rattle.definition.specs.Cells.{Tri, tri-nodes}
 use Rattle.definition.specs.Front.{Result, Outcome, ran, wanting, run-front}
-use Rattle.definition.specs.Call.{Asked, Lent, Lengths, finished, refusal, given-points, given-tris, given-locks, first-points, first-tris, settings, conditions, slot-words, point-words, slot-floats, bad-size, good-quality, bad-quality, bad-joints, too-short, unknown-node, twice, repeated-node, outside, far-point, lengths, written, untouched, after-run, call}
+use Rattle.definition.specs.Call.{Asked, Lent, Lengths, finished, refusal, given-points, given-tris, given-locks, first-points, first-tris, settings, conditions, most-given, most-capacity, most-slots, slot-words, point-words, slot-floats, over-limit, bad-size, good-quality, bad-quality, bad-grid, bad-joints, too-short, unknown-node, twice, repeated-node, outside, far-point, grid-node, lengths, written, untouched, after-run, call}
 use Rattle.laws.specs.Bools.{which, or-none}
 use Rattle.laws.specs.Lists.{In, none-in, known, numbers-length, table-length}
 use Rattle.account.specs.Triangles.{Distinct}
@@ -69,15 +71,29 @@ module _ (a : Asked) (l : Lent) (passed : find (λ c. c .1) (conditions a l) ≡
   unfolding conditions
   sized = holds-not 2 (bad-size a) (inr (inl refl))
 
+  -- no more slots than the limit
+  pub slots-limit : a .slots ≤ most-slots
+  unfolding conditions over-limit
+  slots-limit = ltb-false most-slots (a .slots) (or-none (ltb most-given (a .count) || ltb most-given (a .given) || ltb most-capacity (a .capacity)) (ltb most-slots (a .slots)) (holds-not 1 (over-limit a) (inl refl)) .1)
+
   -- every number of the quality set is in its range
   pub permitted : good-quality (a .quality) ≡ true
   unfolding conditions bad-quality
   permitted = not-false _ (holds-not 14 (bad-quality a) (inr (inr (inr (inl refl)))))
 
+  -- in the grid profile there is no size and every given point is on the grid
+  pub on-grid-so : a .grid ≡ true → (eq (a .size) 0·0 ≡ true) × (all grid-node (given-points a l) ≡ true)
+  unfolding conditions bad-grid
+  on-grid-so g =
+      let off = not (eq (a .size) 0·0) || not (all grid-node (given-points a l)) in
+      let h : off ≡ false = subst (λ z. (z && off) ≡ false) g (holds-not 15 (bad-grid a l) (inr (inr (inr (inr (inr (inr (inr (inr (inl refl)))))))))) in
+      let k = or-none (not (eq (a .size) 0·0)) (not (all grid-node (given-points a l))) h in
+      (not-false (eq (a .size) 0·0) (k .0), not-false (all grid-node (given-points a l)) (k .1))
+
   -- the joints are edges between given points, and no more than may be stated
   pub joined : bad-joints a l ≡ false
   unfolding conditions
-  joined = holds-not 13 (bad-joints a l) (inr (inr (inr (inr (inr (inr (inr (inr (inl refl)))))))))
+  joined = holds-not 13 (bad-joints a l) (inr (inr (inr (inr (inr (inr (inr (inr (inr (inl refl))))))))))
 
   long-enough : too-short a l ≡ false
   unfolding conditions

@@ -63,6 +63,7 @@ pub record Flipped (m : Mesh) (e : Edge) (m′ : Mesh) : Type 0 where
   pub owned : owners m e ≡ x ∷ y ∷ []
   pub cell-x : x .cell ≡ tri s
   pub cell-y : y .cell ≡ tri t
+  pub convex : convex-pair m (e .0) (e .1) (third s e) (third t e) ≡ true
   pub differ : third s e ≢ third t e
   pub corners-s : Corners s′ (third s e) (e .0) (third t e)
   pub corners-t : Corners t′ (third t e) (e .1) (third s e)
@@ -96,6 +97,7 @@ module _ (m : Mesh) (e : Edge) (m′ : Mesh) where
               owned = own;
               cell-x = cx;
               cell-y = cy;
+              convex = f;
               differ = pq;
               corners-s = first-corners e p q b;
               corners-t = second-corners e p q b;

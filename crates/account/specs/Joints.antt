@@ -1,26 +1,22 @@
 -- The joints of a call: those that the given triangles have are found in what comes back; order and repeats of the list change nothing, and without a joint nothing is locked.
-use mathlib.Core.Path.{_≡_, refl, sym, ap, ap₂, _∙_}
+use mathlib.Core.Path.{_≡_, refl, ap, ap₂, _∙_}
 use mathlib.Core.Bool.{Bool, true, false, not, _&&_, cond}
 use mathlib.Core.Logic.{inl, inr}
 use mathlib.Core.List.{List, [], _∷_}
-use mathlib.Core.Option.{Option, none, some}
-use Prim.{absurd}
+use mathlib.Core.Option.{none, some}
 use Prim.Native.Nat.{ℕ, _*_, _≤_}
-use native.Mathlib.Omega.{arith}
-use lib.Dec.{eqb, ltb}
 use lib.ListN.{length}
 use borrow.Author.Tests.{le-ltb}
 use Rattle.definition.specs.Lists.{any, all, find, table, numbers, below}
-use Rattle.definition.specs.Numbers.{Settings, max-attempts}
 use Rattle.definition.specs.Plane.{Edge}
 use Rattle.definition.specs.Cells.{Quad, Live, Mesh, same-edge, has-edge-in, tri-edges, quad-edges, edges, is-locked}
 use Rattle.definition.specs.Region.{fills, may-go, spares-locked, if-filled}
 use Rattle.definition.specs.Front.{Outcome, ran, wanting, run-front}
-use Rattle.definition.specs.Call.{Asked, Lent, Returned, given-points, given-tris, given-joints, given-locks, most-joints, over-limit, bad-size, bad-stop, bad-quality, too-short, unknown-node, repeated-node, far-point, bad-joint, bad-joints, conditions, settings, written, untouched, after-run, call}
-use Rattle.definition.specs.Account.{Edge-of, Joints-survive, Keeps-joints}
+use Rattle.definition.specs.Call.{Asked, Lent, Returned, given-points, given-tris, given-joints, given-locks, most-joints, over-limit, bad-size, bad-stop, bad-quality, too-short, unknown-node, repeated-node, far-point, bad-grid, bad-joint, bad-joints, conditions, settings, written, untouched, after-run, call}
+use Rattle.definition.specs.Account.{Joints-survive, Keeps-joints}
 use Rattle.laws.specs.Bools.{same-bool, or-second}
 use Rattle.laws.specs.Lists.{In, in-any, any-in, all-from, in-flat-map, known}
-use Rattle.laws.specs.Cells.{same-self, same-is}
+use Rattle.laws.specs.Cells.{same-self}
 use Rattle.account.specs.Slices.{read-quads, read-triangles}
 use Rattle.account.specs.Finished.{behind, given-proper}
 use Rattle.account.specs.Locked.{locked-survives}
@@ -74,7 +70,7 @@ with-joints js l =
 
 -- the same numbers with n joints
 unfoldable pub with-number : ℕ → Asked → Asked
-with-number n a = record { given = a .given; capacity = a .capacity; count = a .count; slots = a .slots; joints = n; size = a .size; stop = a .stop; quality = a .quality }
+with-number n a = record { given = a .given; capacity = a .capacity; count = a .count; slots = a .slots; joints = n; size = a .size; stop = a .stop; quality = a .quality; grid = a .grid }
 
 -- the same answer, and the same memory but for the joints
 unfoldable pub returned-with : List ℕ → Returned → Returned
@@ -108,9 +104,9 @@ module _ (a : Asked) (l : Lent) (n : ℕ) (js : List ℕ) (h : Same-joints a l n
   bad-same = rw (le-ltb most-joints n (h .few′), le-ltb most-joints (a .joints) (h .few)) (any-same (bad-joint (a .given)) (given-joints a′ l′) (given-joints a l) (h .same))
 
   conditions-same : conditions a′ l′ ≡ conditions a l
-  unfolding conditions with-number with-joints over-limit bad-size bad-stop bad-quality unknown-node repeated-node far-point given-points given-tris
+  unfolding conditions with-number with-joints over-limit bad-size bad-stop bad-quality unknown-node repeated-node far-point bad-grid given-points given-tris
   conditions-same =
-      ap₂ (λ short bad. (1, over-limit a) ∷ (2, bad-size a) ∷ (3, bad-stop a) ∷ (14, bad-quality a) ∷ (4, short) ∷ (5, unknown-node a l) ∷ (6, repeated-node a l) ∷ (7, far-point a l) ∷ (13, bad) ∷ []) short-same bad-same
+      ap₂ (λ short bad. (1, over-limit a) ∷ (2, bad-size a) ∷ (3, bad-stop a) ∷ (14, bad-quality a) ∷ (4, short) ∷ (5, unknown-node a l) ∷ (6, repeated-node a l) ∷ (7, far-point a l) ∷ (15, bad-grid a l) ∷ (13, bad) ∷ []) short-same bad-same
 
   -- they lead to the same run,
   pub same-run : run-front (settings a′) (given-locks a′ l′) (given-tris a′ l′) (given-points a′ l′) ≡ run-front (settings a) (given-locks a l) (given-tris a l) (given-points a l)

@@ -34,15 +34,26 @@ pub mod Finished
 pub mod Kept
 pub mod Demand
 pub mod Joints
+-- areas on the grid
+pub mod Weights
+pub mod Areas
+pub mod Gridded
+pub mod Profile
 -- edges that were refused
 pub mod Roles
 pub mod Refused
 pub mod Tracked
 pub mod Records
+pub mod Pairs
+pub mod Owners
 -- for the proofs of the code
 pub mod Fits
 pub mod Floods
 pub mod Rounds
+pub mod Walks
+pub mod Attempts
+pub mod Smaller
+pub mod Jobs
 pub mod Listed
 pub mod LiveTris
 pub mod Meshes

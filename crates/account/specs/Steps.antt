@@ -15,7 +15,7 @@ use Rattle.definition.specs.Lists.{below}
 use Rattle.definition.specs.Floats.{_⊗_, _≼_}
 use Rattle.definition.specs.Numbers.{Settings, Turn, first-turn, second-turn, insert-shares, node-spacing, tiny-length}
 use Rattle.definition.specs.Counts.{Refusal, Recovery, Spent, nothing-spent, inserting}
-use Rattle.definition.specs.Plane.{Node, Vec, Edge, norm, from-to, edge-length}
+use Rattle.definition.specs.Plane.{Node, Vec, Edge, norm, from-to, edge-length, size-mismatch}
 use Rattle.definition.specs.Cells.{Tri, Quad, Cell, tri, quad, Live, Mesh, node-at, cell-of, tri-owner, has-edge, all-edges, with-live, set-cell, push-cell}
 use Rattle.definition.specs.Flips.{flip, flip-first, first-crossing, recover-in, recover}
 use Rattle.definition.specs.Candidates.{candidates}
@@ -44,6 +44,8 @@ pub record On-normal (s : Settings) (start m : Mesh) (p : Node) : Type 0 where
   pub long : (norm (from-to (node-at start a) (node-at start b)) ≼ tiny-length) ≡ false
   pub place : p ≡ along (node-at m end) (inward-normal (from-to (node-at start a) (node-at start b)) (norm (from-to (node-at start a) (node-at start b))))
       (target-of s (edge-length (start .points) (a, b))) share
+  -- a point is inserted only where the edge's length is off the target
+  pub off : size-mismatch (edge-length (start .points) (a, b)) (target-of s (edge-length (start .points) (a, b))) ≡ true
 
 -- the live triangle t of x may be split at p
 pub record Splitting (s : Settings) (start m : Mesh) (x : Live) (t : Tri) (p : Node) : Type 0 where
@@ -189,9 +191,9 @@ module _ (s : Settings) (start : Mesh) (P : ℕ → Mesh → Type 0) (splits : S
 
   -- ---- side nodes
 
-  -- a stance of this attempt: every share of its target along its normal is on the normal
+  -- a stance of this attempt: where the length is off the target, every share of the target along the normal is on the normal
   abbrev pub Standing : Stance → Type 0
-  Standing f = (m : Mesh) (p : ℕ) (c : Float) → In c insert-shares → On-normal s start m (along (node-at m p) (f .normal) (f .target) c)
+  Standing f = (m : Mesh) (p : ℕ) (c : Float) → In c insert-shares → f .mismatch ≡ true → On-normal s start m (along (node-at m p) (f .normal) (f .target) c)
 
   sides-by-ok : (k : Spent) (m : Mesh) (r : Inserted) → P (k .insertions) m → Inserted-ok P (k .insertions) r → Sides-ok P (sides-by k m r)
   unfolding sides-by inserting
@@ -204,7 +206,7 @@ module _ (s : Settings) (start : Mesh) (P : ℕ → Mesh → Type 0) (splits : S
   sides-from-ok f k m p (c ∷ cs) on h b = (h, b)
   sides-from-ok f k m p [] on h b =
       cond-ok (Sides-ok P) (f .mismatch) _ _ (λ z. sides-by-ok k m (insert-along s m (f .seed) (node-at m p) (f .normal) (f .target)) h
-      (insert-by-ok (k .insertions) m (f .seed) (node-at m p) (f .normal) (f .target) insert-shares h (on m p))) (λ z. h)
+      (insert-by-ok (k .insertions) m (f .seed) (node-at m p) (f .normal) (f .target) insert-shares h (λ c i. on m p c i z))) (λ z. h)
 
   -- the side nodes at one end
   pub side-nodes-ok : (t : Turn) (f : Stance) (k : Spent) (m : Mesh) (p other : ℕ) → Standing f → P (k .insertions) m → Sides-ok P (side-nodes s t f k m p other)
@@ -329,7 +331,7 @@ module _ (s : Settings) (start : Mesh) (P : ℕ → Mesh → Type 0) (flips : Fl
       let short = f .target ≼ tiny-length in
       cond-ok (Attempt-ok s P) (short || long ≼ tiny-length) _ _ (λ z. h)
       (λ z.
-      let on : Standing s start P splits f = λ m p c i. record { a = a; b = b; end = p; share = c; among = i; long = or-none short (long ≼ tiny-length) z .1; place = refl } in
+      let on : Standing s start P splits f = λ m p c i off. record { a = a; b = b; end = p; share = c; among = i; off = off; long = or-none short (long ≼ tiny-length) z .1; place = refl } in
       try-first-ok f two on (side-nodes s first-turn f nothing-spent start a b)
       (side-nodes-ok s start (With s start P (a ∷ b ∷ [])) (with-splits s start P (a ∷ b ∷ []) splits) first-turn f nothing-spent start a b on (h, near)))
 

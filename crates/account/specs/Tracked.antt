@@ -34,7 +34,7 @@ use Rattle.account.specs.Found.{is-a-tri, region-slot-tri}
 use Rattle.account.specs.Steps.{split-count}
 use Rattle.account.specs.Rooms.{split-used}
 use Rattle.account.specs.Roles.{side, Four}
-use Rattle.account.specs.Refused.{Refused, refused-as, flip-refused, split-refused, quad-refused, at-most-three}
+use Rattle.account.specs.Refused.{Among, Refused, refused-as, flip-refused, split-refused, quad-refused, at-most-three}
 
 -- a live quad has the edge
 pub record Quad-has (m : Mesh) (e : Edge) : Type 0 where
@@ -234,9 +234,10 @@ one-of : (xs : List Live) → length xs ≡ 1 → (x : Live) × In x xs
 one-of [] h = absurd (let z : _≡_ {A = ℕ} 0 1 = h in omega arith)
 one-of (x ∷ xs) h = (x, inl refl)
 
-front-ever : (dead : List Tri) (m : Mesh) (e : Edge) → Valid m → e .0 < e .1 → is-front m e ≡ true → Ever dead m e
+-- an edge on the front has one triangle
+pub front-odd : (m : Mesh) (e : Edge) → Valid m → e .0 < e .1 → is-front m e ≡ true → (e .1 < length (m .points)) × Among e (tris-of (m .live)) × (odd (side e) (tris-of (m .live)) ≡ true)
 unfolding is-front front-owners owners live-tri owns has-side side parity
-front-ever dead m e ok l h =
+front-odd m e ok l h =
     let f = both (leb (length (owners m e)) 2) (eqb (length (filter live-tri (owners m e))) 1) h in
     let one : length (filter live-tri (owners m e)) ≡ 1 = eqb-true (length (filter live-tri (owners m e))) 1 (f .1) in
     let o = one-of (filter live-tri (owners m e)) one in
@@ -244,11 +245,10 @@ front-ever dead m e ok l h =
     let j = in-filter (owns e) (m .live) (i .0) in
     let t = is-a-tri (o .0 .cell) (i .1) in
     let there = tris-in (m .live) (o .0) (t .0) (j .0) (t .1) in
-    record {
-      order = l;
-      below = ok .tris (t .0) there .below (e .1) (tri-owns e (o .0) (t .0) (t .1) (j .1) .1);
-      kept = inr ((t .0, there, sym (ap (has-side e) (t .1)) ∙ j .1), inr (odd-owners e (m .live) ∙ ap parity one));
-    }
+    (ok .tris (t .0) there .below (e .1) (tri-owns e (o .0) (t .0) (t .1) (j .1) .1), (t .0, there, sym (ap (has-side e) (t .1)) ∙ j .1), odd-owners e (m .live) ∙ ap parity one)
+
+front-ever : (dead : List Tri) (m : Mesh) (e : Edge) → Valid m → e .0 < e .1 → is-front m e ≡ true → Ever dead m e
+front-ever dead m e ok l h = let f = front-odd m e ok l h in record { order = l; below = f .0; kept = inr (f .1, inr (f .2)) }
 
 -- ---- the edges of a list
 

@@ -31,7 +31,7 @@ use Rattle.attempts.specs.Runs.{Setup, Sized, Fixed}
 
 -- a call that asks for them
 abbrev asked-of : Setup → Asked
-asked-of x = record { given = 0; capacity = x .rules .capacity; count = 0; slots = x .rules .slots; joints = 0; size = x .rules .size; stop = cond (x .rules .even) 1 0; quality = settings-of (x .rules) .quality }
+asked-of x = record { given = 0; capacity = x .rules .capacity; count = 0; slots = x .rules .slots; joints = 0; size = x .rules .size; stop = cond (x .rules .even) 1 0; quality = settings-of (x .rules) .quality; grid = false }
 
 same-size : (x : Setup) → settings-of (x .rules) .size ≡ asked-of x .size
 unfolding settings-of

@@ -1,7 +1,8 @@
 -- The f64 operations that run_front uses, each one of lib.Ieee's at binary64, and its constants by their bits.
 use mathlib.Core.Bool.{Bool, true, false, cond}
-use Prim.Native.Nat.{ℕ}
-use lib.Ieee.{Float, nan, inf, fin, binary64, add, sub, mul, div, lt, le, ofBits}
+use Prim.Native.Nat.{ℕ, _*_, _%_}
+use lib.Dec.{eqb}
+use lib.Ieee.{Float, nan, inf, fin, binary64, up, down, add, sub, mul, div, lt, le, ofBits}
 
 infixl 65 _⊕_
 infixl 65 _⊖_
@@ -44,6 +45,12 @@ unfoldable pub finite : Float → Bool
 finite nan = false
 finite (inf s) = false
 finite (fin s m e) = true
+
+-- a multiple of 1 / 1024: so many times the number, m * up e / down e without its sign, is whole
+unfoldable pub on-grid : Float → Bool
+on-grid nan = false
+on-grid (inf s) = false
+on-grid (fin s m e) = eqb (m * up e * 1024 % down e) 0
 
 -- the smaller one, and the first of two that are equal or of which the second is a NaN
 unfoldable pub lesser : Float → Float → Float

@@ -135,7 +135,7 @@ sides-apart = refl
 
 -- from (0, 0), an end of the edge to (1, 0), by 0.3 of the target: the triangle (-1, -1) (1, -1) (0, 1) holds the point (0, 0.3)
 abbrev no-size : Asked
-no-size = record { given = 0; capacity = 0; count = 0; slots = 0; joints = 0; size = 0·0; stop = 0; quality = base }
+no-size = record { given = 0; capacity = 0; count = 0; slots = 0; joints = 0; size = 0·0; stop = 0; quality = base; grid = false }
 
 abbrev added : Node
 added = along o (inward-normal (from-to o e) (norm (from-to o e))) (target-of (settings no-size) (dist e o)) 0·3

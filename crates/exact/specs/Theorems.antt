@@ -1,24 +1,28 @@
 -- What the definition's float tests mean in exact arithmetic. Each statement reads by itself; the proof below it cites the file that has it. Nothing is assumed:
 -- a coordinate is any number that passes the test of refusal 7, double or not.
-use mathlib.Core.Path.{_≡_, refl, sym, subst}
+use mathlib.Core.Path.{_≡_, refl, sym, ap₂, subst}
 use mathlib.Core.Bool.{Bool, true, false, _&&_}
 use mathlib.Core.List.{List, [], _∷_}
-use Prim.Native.Nat.{ℕ, _^_, _≤_}
+use Prim.Native.Nat.{ℕ, zero, suc, _+_, _^_, _≤_}
 use lib.IntN.{pos, _*ℤ_}
 use lib.ListN.{length}
-use lib.Ieee.{Float, fin, binary64, fits}
+use lib.Ieee.{Float, fin, binary64, fits, eq}
 use Rattle.definition.specs.Floats.{_⊗_, _≼_, finite, 0·0, 0·5, 0·99, 1·0}
+use Rattle.definition.specs.Floats as floats
 use Rattle.definition.specs.Numbers.{Quality, Settings, base, insert-shares, tiny-length}
-use Rattle.definition.specs.Plane.{Node, Edge, cross, side, from-to, norm, dist, edge-length, point-strictly-inside, segments-cross}
+use Rattle.definition.specs.Plane.{Node, Edge, flat, point, cross, side, from-to, norm, dist, edge-length, size-mismatch, point-strictly-inside, segments-cross}
+use Rattle.definition.specs.Plane as plane
 use Rattle.definition.specs.Metrics.{Corner, corners, quad-metrics, passes, score}
 use Rattle.definition.specs.Loops.{loop-perimeter, ranked-before}
 use Rattle.definition.specs.Trials.{trial-before}
-use Rattle.definition.specs.Cells.{Tri, tri, Mesh, node-at}
+use Rattle.definition.specs.Cells.{Tri, Quad, tri, Live, Mesh, node-at, tris-of}
+use Rattle.definition.specs.Flips.{apart}
+use Rattle.definition.specs.Region.{region-area, area-agrees}
 use Rattle.definition.specs.Insertion.{along, holds}
 use Rattle.definition.specs.Attempt.{inward-normal, target-of}
-use Rattle.definition.specs.Exact.{units, arrow, exact-cross, Turns-left, Cosine-up-to, Wide-enough, Finite}
-use Rattle.definition.specs.Account.{All, _∈_}
-use Rattle.definition.specs.Call.{Asked, outside, bad-size, ranges, good-quality}
+use Rattle.definition.specs.Exact.{units, arrow, exact-cross, Turns-left, Cosine-up-to, Wide-enough, twice-tri, Finite}
+use Rattle.definition.specs.Account.{All, _∈_, quad-area, tris-area}
+use Rattle.definition.specs.Call.{Asked, outside, bad-size, ranges, good-quality, grid-node}
 use Rattle.laws.specs.Bools.{both}
 use Rattle.exact.specs.Values.{Ok}
 use Rattle.exact.specs.Sums.{Number}
@@ -29,8 +33,13 @@ use Rattle.exact.specs.Strict.{not-outside, strictly-inside}
 use Rattle.exact.specs.Inserted.{Size, size-asked, share-small, tried}
 use Rattle.exact.specs.Finite.{within-point, length-ok, perimeter-ok, sides-ok, score-ok}
 use Rattle.exact.specs.Ranks.{Total, Finite-rank, Same-lead, ranked-order, Finite-score, Same-nodes, trial-order}
-use Rattle.exact.specs.Grid.{Grid-point, cross-exact}
+use Rattle.exact.specs.Grid.{Grid-point, grid-node-says, zero-on, cross-exact}
+use Rattle.exact.specs.GridTest.{is-whole-part, tested-so}
 use Rattle.exact.specs.Sides.{Same-as}
+use Rattle.exact.specs.Areas.{Placed}
+use Rattle.exact.specs.Diagonals.{flip-areas}
+use Rattle.exact.specs.Agrees.{region-exact, quad-exact, agrees-exactly}
+use Rattle.exact.specs.Unsized.{never-off, target-itself, zero-unsized}
 use Rattle.exact.specs.Crossing.{Strictly-in, Two-sides, inside-exactly, crossing-exactly}
 
 -- x and y are numbers within 8 of zero: the definition's own test of a given point
@@ -167,3 +176,58 @@ grid-inside a b c p wa wb wc wp = inside-exactly a b c p (within-8 a wa) (within
 pub grid-crossing : (p q r s : Node) → Within p → Within q → Within r → Within s → Grid-point p → Grid-point q → Grid-point r → Grid-point s
     → Same-as (segments-cross p q r s ≡ true) (Two-sides p q r s × Two-sides r s p q)
 grid-crossing p q r s wp wq wr ws = crossing-exactly p q r s (within-8 p wp) (within-8 q wq) (within-8 r wr) (within-8 s ws)
+
+-- Of a point of doubles within 8 the definition's test of the grid is what f64 operations find: 1024 times each coordinate is its own floor.
+pub grid-tested : (p : Node) → Finite-double (p .x) → Finite-double (p .y) → Within p → (is-whole-part (p .x) && is-whole-part (p .y)) ≡ grid-node p
+unfolding grid-node
+grid-tested p a b w = let k = within-8 p w in ap₂ (λ c d. c && d) (tested-so (p .x) a (k .0 .1)) (tested-so (p .y) b (k .1 .1))
+
+-- A point that passes it is on the grid.
+pub grid-passed : (p : Node) → grid-node p ≡ true → Grid-point p
+grid-passed p h = grid-node-says p h
+
+-- ---- areas on the grid: exact, doubled and without sign, in units of 2 ^ -2148
+
+placed : (p : Node) → Within p → Grid-point p → Placed p
+placed p w g = record { at = within-8 p w; on = g }
+
+-- Every node of a mesh whose points are within 8 and on the grid is; a number beyond the list reads as the origin.
+pub nodes-placed : (ps : List Node) → All Within ps → All Grid-point ps → (v : ℕ) → Placed (point ps v)
+unfolding point flat
+nodes-placed ps h k v = placed (point ps v) (within-point ps v h) (go ps v k)
+  where
+    go : (ps : List Node) (v : ℕ) → All Grid-point ps → Grid-point (point ps v)
+    go [] v u = (zero-on, zero-on)
+    go (p ∷ ps) zero (g, u) = g
+    go (p ∷ ps) (suc v) (g, u) = go ps v u
+
+-- The float sum of up to 2 ^ 20 triangles' areas has no rounding error: its units, times 2 ^ 1075, are twice the exact sum.
+pub grid-region : (m : Mesh) → All Within (m .points) → All Grid-point (m .points) → (cells : List Live) → length cells ≤ 2 ^ 20
+    → pos (tris-area (m .points) (tris-of cells)) ≡ units (region-area m cells) *ℤ pos (2 ^ 1075)
+unfolding node-at
+grid-region m h k cells l = region-exact m (nodes-placed (m .points) h k) cells l
+
+-- Nor has the float of the quad's area.
+pub grid-quad-area : (m : Mesh) → All Within (m .points) → All Grid-point (m .points) → (q : Quad)
+    → pos (quad-area (m .points) q) ≡ units (floats.abs (plane.quad-area (node-at m (q .n0)) (node-at m (q .n1)) (node-at m (q .n2)) (node-at m (q .n3)))) *ℤ pos (2 ^ 1075)
+unfolding node-at
+grid-quad-area m h k q = quad-exact m (nodes-placed (m .points) h k) q
+
+-- So where the test of a region finds the areas in agreement they are equal: two that differ do so by 2 ^ -21, which is 1.8 times the slack, 1e-9 of at most 256.
+pub grid-agrees : (m : Mesh) → All Within (m .points) → All Grid-point (m .points)
+    → (q : Quad) (cells : List Live) → length cells ≤ 2 ^ 20 → area-agrees m q cells ≡ true → tris-area (m .points) (tris-of cells) ≡ quad-area (m .points) q
+unfolding node-at
+grid-agrees m h k q cells l e = agrees-exactly m (nodes-placed (m .points) h k) q cells l e
+
+-- Where a flip's two tests pass, p and q lie on two sides of u v and u and v on two sides of p q: the triangles on the one edge have together the area of those on the other, whatever their winding.
+pub grid-flip : (m : Mesh) → All Within (m .points) → All Grid-point (m .points) → (u v p q : ℕ) → apart m u v p q ≡ true → apart m p q u v ≡ true
+    → twice-tri (node-at m u) (node-at m v) (node-at m p) + twice-tri (node-at m u) (node-at m v) (node-at m q)
+    ≡ twice-tri (node-at m p) (node-at m q) (node-at m u) + twice-tri (node-at m p) (node-at m q) (node-at m v)
+unfolding apart node-at
+grid-flip m h k u v p q a b = let g = nodes-placed (m .points) h k in flip-areas (point (m .points) u) (point (m .points) v) (point (m .points) p) (point (m .points) q) (g u) (g v) (g p) (g q) a b
+
+-- ---- without a size
+
+-- Without a size the target is the edge's own length, and no length of points within 8 is off itself: nothing is inserted.
+pub never-off-target : (s : Settings) → eq (s .size) 0·0 ≡ true → (ps : List Node) (e : Edge) → All Within ps → size-mismatch (edge-length ps e) (target-of s (edge-length ps e)) ≡ false
+never-off-target s none ps e h = rw (target-itself s (zero-unsized (s .size) none) (edge-length ps e)) (never-off (edge-length ps e) (length-ok ps e h))

@@ -10,7 +10,7 @@ use Rattle.definition.specs.Numbers.{Quality}
 use Rattle.definition.specs.Call.{Asked, Lent, call, onto}
 use Rattle.refusals.specs.Refusals.{first-refusal}
 use Rattle.mesher.specs.declared.Answer.{Answer}
-use Rattle.mesher.specs.Promise.{Returns, Kept-account, Kept-joints}
+use Rattle.mesher.specs.Promise.{Returns, Kept-account, Kept-joints, Kept-area}
 
 -- the numbers of a finished run in their order
 abbrev pub numbers : Answer → List ℕ
@@ -48,6 +48,7 @@ pub record Roomy (a : Asked) (l : Lent) (old : List ℕ) (k : ℕ) (new : List �
   pub returns : Returns (call a l) r exit
   pub keeps : Kept-account a l r exit
   pub joints : Kept-joints a l r exit
+  pub area : Kept-area a l r exit
   pub number : k ≡ r .refusal
   pub answer : new ≡ handed r old
 

@@ -10,7 +10,9 @@ use refusals::refusal;
 use refusals::standard;
 use rules::Quality;
 ghost use mathlib.Core.Path.{_≡_};
+ghost use mathlib.Core.Bool.{false, not};
 ghost use mathlib.Core.List.{[]};
+ghost use lib.Dec.{eqb};
 ghost use Prim.Native.Nat.{_≤_};
 ghost use lib.ListN.{length};
 ghost use Rattle.definition.specs.Call.{Lent, onto};
@@ -113,7 +115,7 @@ fn answered(
     0
 }
 
-// run_front, with document 01's quality set and no joints.
+// run_front, with document 01's quality set, without joints and off the grid.
 #[no_mangle]
 pub extern "C" fn sedgepick_run_front(
     points: &mut [f64],
@@ -132,15 +134,15 @@ pub extern "C" fn sedgepick_run_front(
     answer: &mut [usize],
 ) -> usize
     ensures { λ r. ⌜ Exported
-        (asked-for given capacity count slots 0 size stop base)
+        (asked-for given capacity count slots 0 size stop base false)
         (lent-of (now (points .entry)) (now (triangles .entry)) [] (now (quads .entry)) (now («triangles_out» .entry)) (now (components .entry)) (now (work .entry)) (now («float_work» .entry)))
         (now (answer .entry))
         r
         (now (answer .exit))
         (lent-of (now (points .exit)) (now (triangles .entry)) [] (now (quads .exit)) (now («triangles_out» .exit)) (now (components .exit)) (now (work .exit)) (now («float_work» .exit))) ⌝ }
 {
-    let none: [u32; 0] = [];
     let stated = standard(given, capacity, count, slots, size, stop);
+    let none = [0u32; 0];
     answered(
         points,
         triangles,
@@ -155,7 +157,7 @@ pub extern "C" fn sedgepick_run_front(
     )
 }
 
-// run_front, with joints and a quality set by its five numbers.
+// run_front, with joints, a quality set by its five numbers and, where `grid` is not 0, in the grid profile.
 #[no_mangle]
 pub extern "C" fn sedgepick_run_front_with(
     points: &mut [f64],
@@ -178,10 +180,11 @@ pub extern "C" fn sedgepick_run_front_with(
     side_low: f64,
     side_high: f64,
     pairs: usize,
+    grid: u32,
     answer: &mut [usize],
 ) -> usize
     ensures { λ r. ⌜ Exported
-        (asked-for given capacity count slots «joint_count» size stop (set-of «least_jacobian» «largest_cosine» «side_low» «side_high» pairs))
+        (asked-for given capacity count slots «joint_count» size stop (set-of «least_jacobian» «largest_cosine» «side_low» «side_high» pairs) (not (eqb grid 0)))
         (lent-of (now (points .entry)) (now (triangles .entry)) (now (joints .entry)) (now (quads .entry)) (now («triangles_out» .entry)) (now (components .entry)) (now (work .entry)) (now («float_work» .entry)))
         (now (answer .entry))
         r
@@ -204,6 +207,7 @@ pub extern "C" fn sedgepick_run_front_with(
         size,
         stop,
         quality,
+        grid: grid != 0,
     };
     answered(
         points,

@@ -1,8 +1,8 @@
 -- What each of the conditions before a run says where it does not hold, in terms of the slices. The laws named `pass` lead back to the condition.
-use mathlib.Core.Path.{_≡_, refl, sym}
+use mathlib.Core.Path.{_≡_, refl, sym, _∙_}
 use mathlib.Core.Bool.{Bool, true, false, not, _&&_, _||_}
 use mathlib.Core.Logic.{_≢_, inl, inr}
-use mathlib.Core.List.{List}
+use mathlib.Core.List.{List, [], _∷_}
 use Prim.{absurd}
 use Prim.Native.Nat.{ℕ, _+_, _*_, _≤_, _<_}
 use native.Mathlib.Decide.{ℕ-discrete}
@@ -12,9 +12,9 @@ use lib.ListN.{length, getD}
 use lib.Ieee.{Float}
 use borrow.Author.Tests.{eqb-true, eqb-false, eq-eqb, ne-eqb, leb-true, leb-false, lt-leb, ltb-false, le-ltb, not-false}
 use Rattle.definition.specs.Floats.{_≼_, abs, 0·0, 0·1, 0·5, 0·99, 1·0, 4·0}
-use Rattle.definition.specs.Lists.{any}
+use Rattle.definition.specs.Lists.{any, all}
 use Rattle.definition.specs.Cells.{Tri, new-tri, tri-nodes}
-use Rattle.definition.specs.Call.{Asked, Lent, point-at, tri-at, first-points, first-tris, joint-at, given-points, given-tris, given-joints, most-given, most-capacity, most-slots, most-joints, most-coordinate, slot-words, point-words, slot-floats, over-limit, bad-size, bad-stop, ranges, most-pairs, good-quality, bad-quality, too-short, unknown-node, twice, repeated-node, outside, far-point, bad-joint, bad-joints}
+use Rattle.definition.specs.Call.{Asked, Lent, point-at, tri-at, first-points, first-tris, joint-at, given-points, given-tris, given-joints, most-given, most-capacity, most-slots, most-joints, most-coordinate, slot-words, point-words, slot-floats, over-limit, bad-size, bad-stop, ranges, most-pairs, good-quality, bad-quality, too-short, unknown-node, twice, repeated-node, outside, far-point, grid-node, bad-joint, bad-joints}
 use Rattle.laws.specs.Bools.{which, and-right, both, or-none}
 use Rattle.laws.specs.Tables.{none-below, below-none}
 use Rattle.refusals.specs.Tests.{by-thirds}
@@ -230,6 +230,27 @@ module _ (a : Asked) (l : Lent) where
   pub joints-each : bad-joints a l ≡ false → (i : ℕ) → i < a .joints → bad-joint (a .given) (joint-at (l .joints) i) ≡ false
   unfolding bad-joints given-joints
   joints-each e = below-none (bad-joint (a .given)) (joint-at (l .joints)) (a .joints) (or-none (ltb most-joints (a .joints)) _ e .1)
+
+-- ---- 15
+
+not-all : {A : Type 0} (p : A → Bool) (xs : List A) → not (all p xs) ≡ any (λ x. not (p x)) xs
+unfolding all any
+not-all p [] = refl
+not-all p (x ∷ xs) = first (p x) (not-all p xs)
+  where
+    first : (b : Bool) → not (all p xs) ≡ any (λ x. not (p x)) xs → not (b && all p xs) ≡ (not b || any (λ x. not (p x)) xs)
+    first true e = e
+    first false e = refl
+
+module _ (a : Asked) (l : Lent) where
+  -- every point is on the grid
+  pub grid-pass : ((i : ℕ) → i < a .given → not (grid-node (point-at (l .points) i)) ≡ false) → not (all grid-node (given-points a l)) ≡ false
+  unfolding given-points first-points
+  grid-pass h = not-all grid-node _ ∙ none-below (λ p. not (grid-node p)) (point-at (l .points)) (a .given) h
+
+  pub grid-each : not (all grid-node (given-points a l)) ≡ false → (i : ℕ) → i < a .given → not (grid-node (point-at (l .points) i)) ≡ false
+  unfolding given-points first-points
+  grid-each e = below-none (λ p. not (grid-node p)) (point-at (l .points)) (a .given) (sym (not-all grid-node _) ∙ e)
 
 -- ---- all of them
 

@@ -10,7 +10,7 @@ use native.Mathlib.Omega.{arith}
 use lib.Ieee.{Float}
 use Rattle.definition.specs.Lists.{find}
 use Rattle.definition.specs.Front.{run-front}
-use Rattle.definition.specs.Call.{Asked, Lent, over-limit, bad-size, bad-stop, bad-quality, too-short, unknown-node, repeated-node, far-point, bad-joints, conditions, given-points, given-tris, given-joints, given-locks, settings, untouched, after-run, call}
+use Rattle.definition.specs.Call.{Asked, Lent, over-limit, bad-size, bad-stop, bad-quality, too-short, unknown-node, repeated-node, far-point, bad-grid, bad-joints, conditions, given-points, given-tris, given-joints, given-locks, settings, untouched, after-run, call}
 use Rattle.refusals.specs.declared.Room.{Room}
 use Rattle.refusals.specs.Stated.{Lends}
 use Rattle.refusals.specs.Passed.{Passed, limited, ruled, few-pairs, roomy, known, apart, near, few-joints}
@@ -48,7 +48,8 @@ module _ (a : Asked) (l : Lent) where
       (cond (unknown-node a l) 5
       (cond (repeated-node a l) 6
       (cond (far-point a l) 7
-      (cond (bad-joints a l) 13 0))))))))
+      (cond (bad-grid a l) 15
+      (cond (bad-joints a l) 13 0)))))))))
   unfolding first-refusal number-of conditions
   in-turn = simp (turn, no-turn)
 
@@ -62,6 +63,7 @@ record Clear (a : Asked) (l : Lent) : Type 0 where
   c5 : unknown-node a l ≡ false
   c6 : repeated-node a l ≡ false
   c7 : far-point a l ≡ false
+  c15 : bad-grid a l ≡ false
   c13 : bad-joints a l ≡ false
 
 module _ (a : Asked) (l : Lent) (zero-is : first-refusal a l ≡ 0) where
@@ -75,8 +77,9 @@ module _ (a : Asked) (l : Lent) (zero-is : first-refusal a l ≡ 0) where
       let h5 = not-taken (unknown-node a l) 5 _ (omega arith) (h4 .1) in
       let h6 = not-taken (repeated-node a l) 6 _ (omega arith) (h5 .1) in
       let h7 = not-taken (far-point a l) 7 _ (omega arith) (h6 .1) in
-      let h13 = not-taken (bad-joints a l) 13 0 (omega arith) (h7 .1) in
-      record { c1 = h1 .0; c2 = h2 .0; c3 = h3 .0; c14 = h14 .0; c4 = h4 .0; c5 = h5 .0; c6 = h6 .0; c7 = h7 .0; c13 = h13 .0 }
+      let h15 = not-taken (bad-grid a l) 15 _ (omega arith) (h7 .1) in
+      let h13 = not-taken (bad-joints a l) 13 0 (omega arith) (h15 .1) in
+      record { c1 = h1 .0; c2 = h2 .0; c3 = h3 .0; c14 = h14 .0; c4 = h4 .0; c5 = h5 .0; c6 = h6 .0; c7 = h7 .0; c15 = h15 .0; c13 = h13 .0 }
 
   -- what a call with no refusal has
   pub passed : Passed a l
@@ -96,7 +99,7 @@ module _ (a : Asked) (l : Lent) (zero-is : first-refusal a l ≡ 0) where
   -- as the laws of a finished call take it
   pub none-holds : find (λ c. c .1) (conditions a l) ≡ none
   unfolding find conditions
-  none-holds = rw (clear .c1, clear .c2, clear .c3, clear .c14, clear .c4, clear .c5, clear .c6, clear .c7, clear .c13)
+  none-holds = rw (clear .c1, clear .c2, clear .c3, clear .c14, clear .c4, clear .c5, clear .c6, clear .c7, clear .c15, clear .c13)
 
   -- and the call runs
   pub call-runs : call a l ≡ after-run l (run-front (settings a) (given-locks a l) (given-tris a l) (given-points a l))
@@ -117,7 +120,7 @@ call-refused a l h =
 
 -- the slices that are only measured count by their lengths alone
 pub by-length : (a : Asked) (l m : Lent) (ps : List Float) (ts js : List ℕ) (n : Room) → Lends l ps ts js n → Lends m ps ts js n → conditions a l ≡ conditions a m
-unfolding conditions too-short unknown-node repeated-node far-point bad-joints given-points given-tris given-joints
+unfolding conditions too-short unknown-node repeated-node far-point bad-grid bad-joints given-points given-tris given-joints
 by-length a l m ps ts js n h k =
     rw (
       h .points,

@@ -1,5 +1,6 @@
 -- The code's arguments in the definition's words.
 use mathlib.Core.Path.{_≡_, refl}
+use mathlib.Core.Bool.{Bool}
 use mathlib.Core.List.{List}
 use Prim.Native.Nat.{ℕ}
 use lib.ListN.{length, replicate, length-replicate}
@@ -13,13 +14,13 @@ use Rattle.refusals.specs.declared.Stated.{Stated}
 use Rattle.refusals.specs.declared.Room.{Room}
 
 -- the numbers that the caller states
-abbrev pub asked-for : ℕ → ℕ → ℕ → ℕ → ℕ → Float → ℕ → Quality → Asked
-asked-for given capacity count slots joints size stop quality =
-    record { given = given; capacity = capacity; count = count; slots = slots; joints = joints; size = size; stop = stop; quality = quality }
+abbrev pub asked-for : ℕ → ℕ → ℕ → ℕ → ℕ → Float → ℕ → Quality → Bool → Asked
+asked-for given capacity count slots joints size stop quality grid =
+    record { given = given; capacity = capacity; count = count; slots = slots; joints = joints; size = size; stop = stop; quality = quality; grid = grid }
 
 -- as the code has them
 abbrev pub asked : Stated → Asked
-asked a = asked-for (a .given) (a .capacity) (a .count) (a .slots) (a .joints) (a .size) (a .stop) (quality-of (a .quality))
+asked a = asked-for (a .given) (a .capacity) (a .count) (a .slots) (a .joints) (a .size) (a .stop) (quality-of (a .quality)) (a .grid)
 
 -- a point by its coordinates
 abbrev pub spot : Float → Float → Float → Node

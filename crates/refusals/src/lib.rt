@@ -2,12 +2,15 @@
 use rules::Quality;
 use rules::standard_quality;
 ghost use mathlib.Core.Path.{_≡_};
+ghost use mathlib.Core.Bool.{false, not};
 ghost use Prim.Native.Nat.{_*_, _≤_};
 ghost use lib.Ieee.{Float};
 ghost use lib.ListN.{length};
-ghost use Rattle.definition.specs.Call.{Lent, over-limit, bad-size, bad-stop, ranges, good-quality, bad-quality, too-short, unknown-node, twice, repeated-node, outside, far-point, bad-joint, bad-joints, most-coordinate};
+ghost use Rattle.definition.specs.Call.{Lent, over-limit, bad-size, bad-stop, ranges, good-quality, bad-quality, too-short, unknown-node, twice, repeated-node, outside, far-point, grid-node, bad-grid, bad-joint, bad-joints, given-points, most-coordinate};
 ghost use Rattle.definition.specs.Cells.{new-tri, key};
 ghost use Rattle.definition.specs.Floats.{_≼_, abs};
+ghost use Rattle.definition.specs.Lists.{all};
+ghost use Rattle.exact.specs.GridTest.{is-whole-part};
 ghost use Rattle.definition.specs.Numbers.{base};
 ghost use Rattle.rules.specs.Settings.{quality-of};
 ghost use Rattle.refusals.specs.Stated.{asked, asked-for, Lends, spot};
@@ -47,6 +50,9 @@ const MOST_PAIRS: usize = 64;
 // The greatest magnitude of an x or y.
 const MOST_COORDINATE: f64 = 8.0;
 
+// The grid's lines to a unit.
+const GRID: f64 = 1024.0;
+
 // Joints that a call may state.
 const MOST_JOINTS: usize = 256;
 
@@ -67,9 +73,10 @@ pub struct Stated {
     pub size: f64,
     pub stop: u32,
     pub quality: Quality,
+    pub grid: bool,
 }
 
-// With document 01's quality set and no joints.
+// With document 01's quality set, no joints and no grid.
 pub fn standard(
     given: usize,
     capacity: usize,
@@ -78,7 +85,7 @@ pub fn standard(
     size: f64,
     stop: u32,
 ) -> Stated
-    ensures { λ r. ⌜ asked r ≡ asked-for given capacity count slots 0 size stop base ⌝ }
+    ensures { λ r. ⌜ asked r ≡ asked-for given capacity count slots 0 size stop base false ⌝ }
 {
     let quality = standard_quality();
     Stated {
@@ -90,6 +97,7 @@ pub fn standard(
         size,
         stop,
         quality,
+        grid: false,
     }
 }
 
@@ -324,6 +332,56 @@ pub fn far_point(points: &[f64], a: Stated) -> bool
     false
 }
 
+// 1024 times x is its own floor.
+fn whole_part(x: f64) -> bool
+    ensures { λ r. ⌜ r ≡ is-whole-part x ⌝ }
+{
+    let y = x * GRID;
+    root::floor(y) == y
+}
+
+// An x or y within the limit that is no whole number of 1/1024.
+fn off_grid(x: f64, y: f64) -> bool
+    requires { ⌜ ((z : Float) → outside (spot x y z) ≡ false) ⌝ }
+    ensures { λ r. ⌜ ((z : Float) → r ≡ not (grid-node (spot x y z))) ⌝ }
+{
+    if whole_part(x) {
+        return !whole_part(y);
+    }
+    true
+}
+
+// Some given point is off the grid, all being within the limit.
+fn point_off_grid(points: &[f64], a: Stated) -> bool
+    requires { ⌜ (3 * a .given ≤ length (now points)) × ((l : Lent) → l .points ≡ now points → far-point (asked a) l ≡ false) ⌝ }
+    ensures { λ r. ⌜ ((l : Lent) → l .points ≡ now (points .entry) → r ≡ not (all grid-node (given-points (asked a) l))) ⌝ }
+{
+    let given = a.given;
+    let mut i = 0;
+    while i < given {
+        if off_grid(points[3 * i], points[3 * i + 1]) {
+            return true;
+        }
+        i += 1;
+    }
+    false
+}
+
+// 15: in the grid profile, a size that is no zero or a given point off the grid.
+fn bad_grid(points: &[f64], a: Stated) -> bool
+    requires { ⌜ (3 * a .given ≤ length (now points)) × ((l : Lent) → l .points ≡ now points → far-point (asked a) l ≡ false) ⌝ }
+    ensures { λ r. ⌜ ((l : Lent) → l .points ≡ now (points .entry) → r ≡ bad-grid (asked a) l) ⌝ }
+{
+    let grid = a.grid;
+    if !grid {
+        return false;
+    }
+    if a.size == 0.0 {
+        return point_off_grid(points, a);
+    }
+    true
+}
+
 // The two nodes are one, or one of them is not among the given points.
 fn bad_joint(u: u32, v: u32, given: usize) -> bool
     ensures { λ r. ⌜ r ≡ bad-joint given (key u v) ⌝ }
@@ -386,6 +444,9 @@ pub fn refusal(points: &[f64], triangles: &[u32], joints: &[u32], a: Stated, n: 
     }
     if far_point(points, a) {
         return 7;
+    }
+    if bad_grid(points, a) {
+        return 15;
     }
     if bad_joints(joints, a) {
         return 13;

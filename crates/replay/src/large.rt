@@ -149,7 +149,7 @@ fn answer_hash(size: f64, stop: u32) -> u64 {
     let mut floats = [0.0; 4096];
     put_points(&mut points);
     put_triangles(&mut triangles);
-    let none: [u32; 0] = [];
+    let none = [0u32; 0];
     let a = run_front(
         &mut points,
         &triangles,

@@ -38,7 +38,8 @@ module _ (a : Asked) (l : Lent) (k : ℕ) where
     | inr (inr (inr (inr (inr (inr (inl e)))))) ↦ let f = ap (λ z. z .0) e in (omega arith, omega arith)
     | inr (inr (inr (inr (inr (inr (inr (inl e))))))) ↦ let f = ap (λ z. z .0) e in (omega arith, omega arith)
     | inr (inr (inr (inr (inr (inr (inr (inr (inl e)))))))) ↦ let f = ap (λ z. z .0) e in (omega arith, omega arith)
-    | inr (inr (inr (inr (inr (inr (inr (inr (inr e)))))))) ↦ absurd e
+    | inr (inr (inr (inr (inr (inr (inr (inr (inr (inl e))))))))) ↦ let f = ap (λ z. z .0) e in (omega arith, omega arith)
+    | inr (inr (inr (inr (inr (inr (inr (inr (inr (inr e))))))))) ↦ absurd e
   ]
 
   of-want : (w : Want) → (0 < number w) × (number w ≤ 16)

@@ -1,5 +1,6 @@
 -- The call that the program makes for an input that was read.
 use mathlib.Core.Path.{_≡_, sym, ap, _∙_}
+use mathlib.Core.Bool.{false}
 use mathlib.Core.List.{List, [], map}
 use Prim.Native.Nat.{ℕ, _*_}
 use lib.ListN.{length, take, replicate}
@@ -18,7 +19,7 @@ use Rattle.replies.specs.Tells.{filled}
 
 -- what the program asks
 abbrev pub asks : Header → Asked
-asks h = asked-for (h .points) 96 (h .triangles) 160 0 (f64 (h .size)) (h .stop) base
+asks h = asked-for (h .points) 96 (h .triangles) 160 0 (f64 (h .size)) (h .stop) base false
 
 -- what it lends, with these points and triangles
 abbrev pub lending : List Float → List ℕ → Lent
@@ -32,8 +33,8 @@ module _ (h : Header) (tris bits : List ℕ) where
   asks-is : asked (input-of h tris bits) ≡ asks h
   unfolding asked lent-points lent-slots input-of
   asks-is =
-      ap (λ n. asked-for n 96 (length (input-of h tris bits .triangles)) 160 0 (f64 (h .size)) (h .stop) base) (point-count h tris bits)
-      ∙ ap (λ n. asked-for (h .points) 96 n 160 0 (f64 (h .size)) (h .stop) base) (triangle-count h tris bits)
+      ap (λ n. asked-for n 96 (length (input-of h tris bits .triangles)) 160 0 (f64 (h .size)) (h .stop) base false) (point-count h tris bits)
+      ∙ ap (λ n. asked-for (h .points) 96 n 160 0 (f64 (h .size)) (h .stop) base false) (triangle-count h tris bits)
 
   lends-is : lent-for (input-of h tris bits) ≡ lends h tris bits
   unfolding lent-for lent-points lent-slots filled slot-words point-words slot-floats

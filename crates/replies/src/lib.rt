@@ -87,8 +87,8 @@ fn meshed(h: Header, tris: &[u32], bits: &[u64], out: &mut [u8]) -> usize
     let mut components = [0u32; 160];
     let mut work = [0u32; 11008];
     let mut float_work = [0.0f64; 640];
-    let none: [u32; 0] = [];
     let end = 3 * count;
+    let none = [0u32; 0];
     let stated = refusals::standard(given, POINTS, count, SLOTS, size, h.stop);
     let a = mesher::run_front(
         &mut points,

@@ -4,6 +4,7 @@ mod extremes;
 mod grids;
 pub mod joints;
 pub mod large;
+pub mod on_grid;
 pub mod sets;
 pub mod shape;
 mod soups;

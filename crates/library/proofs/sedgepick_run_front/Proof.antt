@@ -1,4 +1,4 @@
--- What `standard` states are these numbers with document 01's set and no joints.
+-- What `standard` states are these numbers with document 01's set.
 use borrow.Author.Needs.{needs}
 use Rattle.library.proofs.Handing.{stated-as}
 use Rattle.library.proofs.sedgepick_run_front.Statement.{statement}

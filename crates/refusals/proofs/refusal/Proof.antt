@@ -3,7 +3,7 @@ use mathlib.Core.Path.{_≡_, sym, _∙_}
 use mathlib.Core.Bool.{false, cond}
 use native.Mathlib.Omega.{arith}
 use borrow.Author.Needs.{needs}
-use Rattle.definition.specs.Call.{Lent, over-limit, bad-size, bad-stop, bad-quality, too-short, unknown-node, repeated-node, far-point, bad-joints}
+use Rattle.definition.specs.Call.{Lent, over-limit, bad-size, bad-stop, bad-quality, too-short, unknown-node, repeated-node, far-point, bad-grid, bad-joints}
 use Rattle.refusals.specs.Stated.{asked, Lends, blank, blank-lends}
 use Rattle.refusals.specs.Passed.{Roomy, limited, roomy}
 use Rattle.refusals.specs.Refusals.{first-refusal, in-turn}
@@ -82,7 +82,7 @@ returns-4 c = λ l h.
 
 -- the caller's numbers pass
 numbers : (c : tie.Else4) (l : Lent) → let a = asked (top (top2 (top3 (top4 c))) .args .a) in
-    first-refusal a l ≡ cond (too-short a l) 4 (cond (unknown-node a l) 5 (cond (repeated-node a l) 6 (cond (far-point a l) 7 (cond (bad-joints a l) 13 0))))
+    first-refusal a l ≡ cond (too-short a l) 4 (cond (unknown-node a l) 5 (cond (repeated-node a l) 6 (cond (far-point a l) 7 (cond (bad-grid a l) 15 (cond (bad-joints a l) 13 0)))))
 numbers c l = let p = top4 c in rw (in-turn, no-1 (top2 (top3 p)), no-2 (top3 p), no-3 p, no-14 c)
 
 returns-5 : tie.Need-returns-5
@@ -107,7 +107,7 @@ no-7 c l e = sym (c .before .far-point .ensures l e) ∙ c .if8 .left
 -- the triangles pass as well
 triangles : (c : tie.Else7) (l : Lent) → let t = start (top6 (top7 c)) in
     Lends l (t .args .points .now) (t .args .triangles .now) (t .args .joints .now) (t .args .n)
-    → first-refusal (asked (t .args .a)) l ≡ cond (far-point (asked (t .args .a)) l) 7 (cond (bad-joints (asked (t .args .a)) l) 13 0)
+    → first-refusal (asked (t .args .a)) l ≡ cond (far-point (asked (t .args .a)) l) 7 (cond (bad-grid (asked (t .args .a)) l) 15 (cond (bad-joints (asked (t .args .a)) l) 13 0))
 triangles c l h =
     let p6 = top7 c in
     rw (numbers (top5 (top6 p6)) l, no-4 (top6 p6) l h, no-5 p6 l (h .triangles), no-6 c l (h .triangles))
@@ -120,15 +120,31 @@ far-point-requires c κs =
 returns-8 : tie.Need-returns-8
 returns-8 c = λ l h. rw (triangles (c .before .before) l h, sym (c .before .far-point .ensures l (h .points)) ∙ c .if8 .taken)
 
+bad-grid-requires : tie.Need-bad-grid-requires
+bad-grid-requires c κs =
+    let r = room (top6 (top7 (top8 c))) in
+    (omega arith, λ l e. no-7 c l e)
+
 returns-9 : tie.Need-returns-9
 returns-9 c = λ l h.
     let p = c .before .before in
-    rw (triangles (top8 p) l h, no-7 p l (h .points), sym (c .before .bad-joints .ensures l (h .joints)) ∙ c .if9 .taken)
+    rw (triangles (top8 p) l h, no-7 p l (h .points), sym (c .before .bad-grid .ensures l (h .points)) ∙ c .if9 .taken)
+
+abbrev top9 : tie.Else9 → tie.Else8
+top9 c = c .before .before
+
+no-15 : (c : tie.Else9) (l : Lent) → l .points ≡ start (top6 (top7 (top8 (top9 c)))) .args .points .now → bad-grid (asked (start (top6 (top7 (top8 (top9 c)))) .args .a)) l ≡ false
+no-15 c l e = sym (c .before .bad-grid .ensures l e) ∙ c .if9 .left
 
 returns-10 : tie.Need-returns-10
 returns-10 c = λ l h.
     let p = c .before .before in
-    rw (triangles (top8 p) l h, no-7 p l (h .points), sym (c .before .bad-joints .ensures l (h .joints)) ∙ c .if9 .left)
+    rw (triangles (top8 (top9 p)) l h, no-7 (top9 p) l (h .points), no-15 p l (h .points), sym (c .before .bad-joints .ensures l (h .joints)) ∙ c .if10 .taken)
+
+returns-11 : tie.Need-returns-11
+returns-11 c = λ l h.
+    let p = c .before .before in
+    rw (triangles (top8 (top9 p)) l h, no-7 (top9 p) l (h .points), no-15 p l (h .points), sym (c .before .bad-joints .ensures l (h .joints)) ∙ c .if10 .left)
 
 pub refusal-spec : {M : Type 1} → statement M
 refusal-spec =
@@ -136,4 +152,4 @@ refusal-spec =
     (tie.spec
     (λ c κs. search needs) returns (λ c κs. search needs) returns-2 (λ c κs. search needs) returns-3 (λ c κs. search needs) returns-4
     (λ c κs. limited _ (no-1 (top2 (top3 (top4 c))))) returns-5 (λ c κs. room c .triangles) returns-6 (λ c κs. room (top6 c) .triangles) returns-7 far-point-requires returns-8
-    (λ c κs. room (top6 (top7 (top8 c))) .joints) returns-9 returns-10)
+    bad-grid-requires returns-9 (λ c κs. room (top6 (top7 (top8 (top9 c)))) .joints) returns-10 returns-11)

@@ -1,7 +1,7 @@
 -- `meshed`: what is lent is what the definition lends, and what the call returns is written.
 use borrow.Author.Needs.{needs}
 use mathlib.Core.Path.{_≡_, refl, ap, subst}
-use mathlib.Core.Bool.{true}
+use mathlib.Core.Bool.{true, false}
 use mathlib.Core.List.{[]}
 use Prim.Native.Nat.{ℕ, _*_}
 use lib.ListN.{take, length-take, length-replicate}
@@ -36,10 +36,10 @@ ran c =
     let after = lent-of (l .0) (take (3 * a .h .triangles) (now (a .tris))) [] (l .1 .1 .1 .0) (l .1 .1 .1 .1 .0) (l .1 .1 .1 .1 .1 .0) (l .1 .1 .1 .1 .1 .1 .0) (l .1 .1 .1 .1 .1 .1 .1 .0) in
     let f = c .before .before .before .before .before .before .before .before .before .before .before .before .fill in
     let g = c .before .before .before .before .before .before .before .before .before .before .float-of in
-    let made : Returns (call (asked-for (a .h .points) 96 (a .h .triangles) 160 0 (g .result) (a .h .stop) base) (lending (f .last .1 .1 .0) (take (3 * a .h .triangles) (now (a .tris))))) (c .run-front .result) after =
+    let made : Returns (call (asked-for (a .h .points) 96 (a .h .triangles) 160 0 (g .result) (a .h .stop) base false) (lending (f .last .1 .1 .0) (take (3 * a .h .triangles) (now (a .tris))))) (c .run-front .result) after =
     subst (λ x. Returns (call x (lending (f .last .1 .1 .0) (take (3 * a .h .triangles) (now (a .tris))))) (c .run-front .result) after) (c .before .before .before .before .before .before .before .before .before .standard .ensures) (c .run-front .ensures .0) in
     subst (λ ps. Returns (call (asks (a .h)) (lending ps (take (3 * a .h .triangles) (now (a .tris))))) (c .run-front .result) after) (f .ensures)
-    (subst (λ x. Returns (call (asked-for (a .h .points) 96 (a .h .triangles) 160 0 x (a .h .stop) base) (lending (f .last .1 .1 .0) (take (3 * a .h .triangles) (now (a .tris))))) (c .run-front .result) after) (g .ensures) made)
+    (subst (λ x. Returns (call (asked-for (a .h .points) 96 (a .h .triangles) 160 0 x (a .h .stop) base false) (lending (f .last .1 .1 .0) (take (3 * a .h .triangles) (now (a .tris))))) (c .run-front .result) after) (g .ensures) made)
 
 slice-aggregate-run-front-2 : tie.Need-slice-aggregate-run-front-2
 slice-aggregate-run-front-2 c = let w = c .before .before .before .before .before .before .before .before .before .before .pre .0 in simp length-take (omega arith)

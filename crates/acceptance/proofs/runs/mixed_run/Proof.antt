@@ -3,7 +3,7 @@ use lib.Ieee.{round, ofBits}
 use borrow.Author.Needs.{needs}
 use Rattle.acceptance.specs.Positions.{plus}
 use Rattle.acceptance.specs.Runs.{capacity, slots, size, asked, unused, lent, returned}
-use Rattle.acceptance.proofs.Folding.{as-returned, with-points, as-stated}
+use Rattle.acceptance.proofs.Folding.{as-returned, stated-as, with-points}
 use Rattle.acceptance.proofs.runs.mixed_run.Statement.{statement}
 use Rattle.acceptance.proofs.runs.mixed_run.Tie as tie
 
@@ -12,11 +12,11 @@ unfolding asked capacity slots size lent unused plus round ofBits
 returns c =
     let answered = c .before .before .before .before .before in
     let called = answered .before .before .before .before .before .before .before in
-    let placed = called .before .before .before .before .before .before .before .before .before .before .before in
+    let stated = called .before .before .before .before .before .before .before .before .before in
+    let placed = stated .before .before in
     let a = placed .before .args in
     as-returned (a .start) (answered .mixed-answer .result) (c .mixed-slices .result) (returned (a .given) (a .list .count) (a .list .nodes) (a .s)) (called .run-front .result) _
-    (with-points (a .given) (a .list .count) (a .list .nodes) (a .s) (placed .placed .ensures)
-    (as-stated (lent (placed .placed .result) (a .list .nodes)) (called .before .before .before .before .before .before .before .before .before .standard .ensures) (called .run-front .ensures .0)))
+    (with-points (a .given) (a .list .count) (a .list .nodes) (a .s) (placed .placed .ensures) (stated-as (lent (placed .placed .result) (a .list .nodes)) (stated .standard .ensures) (called .run-front .ensures .0)))
     (answered .mixed-answer .ensures)
     (c .mixed-slices .ensures)
 
@@ -26,7 +26,8 @@ mixed-run-spec =
     (tie.spec
     (λ c κs. search needs)
     (λ c. search needs) (λ c. search needs) (λ c. search needs) (λ c. search needs) (λ c. search needs) (λ c. search needs) (λ c. search needs)
-    (λ c. search needs) (λ c. search needs) (λ c. search needs) (λ c. search needs) (λ c. search needs) (λ c. search needs) (λ c. search needs) (λ c. search needs) (λ c. search needs)
+    (λ c κs. search needs)
+    (λ c. search needs) (λ c. search needs) (λ c. search needs) (λ c. search needs) (λ c. search needs) (λ c. search needs) (λ c. search needs) (λ c. search needs)
     (λ c κs. search needs) (λ c κs. search needs)
     (λ c. search needs) (λ c. search needs) (λ c. search needs) (λ c. search needs)
     (λ c κs. search needs)
