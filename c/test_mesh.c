@@ -32,7 +32,7 @@ static void grid(unsigned seed, double *points, uint32_t *triangles) {
 static int same(const sedgepick_mesh *a, const sedgepick_mesh *b) {
     return !memcmp(a->answer, b->answer, sizeof a->answer)
         && !memcmp(a->points, b->points, 3 * a->answer[SEDGEPICK_POINT_COUNT] * sizeof *a->points)
-        && !memcmp(a->quads, b->quads, 4 * a->answer[SEDGEPICK_QUAD_COUNT] * sizeof *a->quads)
+        && !memcmp(a->quads, b->quads, SEDGEPICK_QUADS(a->answer[SEDGEPICK_QUAD_COUNT]) * sizeof *a->quads)
         && !memcmp(a->triangles, b->triangles, 3 * a->answer[SEDGEPICK_TRIANGLE_COUNT] * sizeof *a->triangles)
         && !memcmp(a->components, b->components, a->answer[SEDGEPICK_COMPONENT_COUNT] * sizeof *a->components);
 }
@@ -75,6 +75,27 @@ static void test_growth(void) {
     CHECK(sedgepick_mesh_run_from(points[0], POINTS, triangles[0], TRIANGLES, 0.25, 0, (size_t)-1, (size_t)-1, &mesh) == SEDGEPICK_FINISHED);
     CHECK(same(&mesh, &alone[0]));
     sedgepick_mesh_free(&mesh);
+}
+
+/* Edge, round and triangles replaced of every quad; and those of the unit square. */
+static void test_births(void) {
+    const double corners[] = {0, 0, 0, 1, 0, 0, 1, 1, 0, 0, 1, 0};
+    const uint32_t halves[] = {0, 1, 2, 0, 2, 3}, record[SEDGEPICK_QUAD_WORDS] = {0, 1, 2, 3, 0, 1, 1, 2};
+    sedgepick_mesh mesh;
+    CHECK(sedgepick_mesh_run(corners, 4, halves, 2, 1, 0, &mesh) == SEDGEPICK_FINISHED);
+    CHECK(mesh.answer[SEDGEPICK_QUAD_COUNT] == 1 && !memcmp(mesh.quads, record, sizeof record));
+    sedgepick_mesh_free(&mesh);
+    for (int i = 0; i < 2; i++) {
+        const size_t *answer = alone[i].answer;
+        size_t replaced = 0;
+        for (size_t k = 0; k < answer[SEDGEPICK_QUAD_COUNT]; k++) {
+            const uint32_t *quad = alone[i].quads + SEDGEPICK_QUADS(k);
+            uint32_t a = quad[SEDGEPICK_N0], b = quad[SEDGEPICK_N1];
+            CHECK(quad[SEDGEPICK_EDGE_U] == (a < b ? a : b) && quad[SEDGEPICK_EDGE_V] == (a < b ? b : a) && quad[SEDGEPICK_ROUND] == k + 1);
+            replaced += quad[SEDGEPICK_REPLACED];
+        }
+        CHECK(answer[SEDGEPICK_TRIANGLE_COUNT] + replaced == TRIANGLES + 2 * answer[SEDGEPICK_MISMATCH_INSERTIONS]);
+    }
 }
 
 static const double square[] = {0, 0, 0, 1, 0, 0, 1, 1, 0, 9, 1, 0};
@@ -153,7 +174,7 @@ static void test_ranges(void) {
 static double worst_cosine(const sedgepick_mesh *mesh) {
     double worst = -1;
     for (size_t i = 0; i < 4 * mesh->answer[SEDGEPICK_QUAD_COUNT]; i++) {
-        const uint32_t *quad = mesh->quads + i / 4 * 4;
+        const uint32_t *quad = mesh->quads + SEDGEPICK_QUADS(i / 4);
         const double *here = mesh->points + 3 * quad[i % 4], *next = mesh->points + 3 * quad[(i + 1) % 4], *last = mesh->points + 3 * quad[(i + 3) % 4];
         double u[] = {next[0] - here[0], next[1] - here[1]}, v[] = {last[0] - here[0], last[1] - here[1]};
         worst = fmax(worst, (u[0] * v[0] + u[1] * v[1]) / (hypot(u[0], u[1]) * hypot(v[0], v[1])));
@@ -174,10 +195,11 @@ static void test_sets(void) {
     sedgepick_mesh_free(&mesh);
 }
 
-/* Whether a cell of the mesh has the edge. */
-static int has_edge(const uint32_t *cells, size_t count, size_t width, uint32_t u, uint32_t v) {
+/* Whether a cell has the edge; the cells have `width` nodes, at the front of `stride` numbers. */
+static int has_edge(const uint32_t *cells, size_t count, size_t width, size_t stride, uint32_t u, uint32_t v) {
     for (size_t i = 0; i < count * width; i++) {
-        uint32_t a = cells[i], b = cells[i / width * width + (i + 1) % width];
+        const uint32_t *cell = cells + i / width * stride;
+        uint32_t a = cell[i % width], b = cell[(i + 1) % width];
         if ((a == u && b == v) || (a == v && b == u))
             return 1;
     }
@@ -185,8 +207,8 @@ static int has_edge(const uint32_t *cells, size_t count, size_t width, uint32_t 
 }
 
 static int stands(const sedgepick_mesh *mesh, const uint32_t *joint) {
-    return has_edge(mesh->quads, mesh->answer[SEDGEPICK_QUAD_COUNT], 4, joint[0], joint[1])
-        || has_edge(mesh->triangles, mesh->answer[SEDGEPICK_TRIANGLE_COUNT], 3, joint[0], joint[1]);
+    return has_edge(mesh->quads, mesh->answer[SEDGEPICK_QUAD_COUNT], 4, SEDGEPICK_QUAD_WORDS, joint[0], joint[1])
+        || has_edge(mesh->triangles, mesh->answer[SEDGEPICK_TRIANGLE_COUNT], 3, 3, joint[0], joint[1]);
 }
 
 /* A line across the grid, from corner to corner along the diagonals, which most runs take away. */
@@ -246,12 +268,12 @@ static void test_bad_joints(void) {
 }
 
 /* Twice the summed areas of cells without sign, in squares of the grid. */
-static long long areas(const double *points, const uint32_t *cells, size_t count, size_t width) {
+static long long areas(const double *points, const uint32_t *cells, size_t count, size_t width, size_t stride) {
     long long sum = 0;
     for (size_t i = 0; i < count; i++) {
         long long twice = 0;
         for (size_t k = 0; k < width; k++) {
-            const double *a = points + 3 * cells[i * width + k], *b = points + 3 * cells[i * width + (k + 1) % width];
+            const double *a = points + 3 * cells[i * stride + k], *b = points + 3 * cells[i * stride + (k + 1) % width];
             twice += (long long)(a[0] * SEDGEPICK_GRID_LINES) * (long long)(b[1] * SEDGEPICK_GRID_LINES)
                 - (long long)(b[0] * SEDGEPICK_GRID_LINES) * (long long)(a[1] * SEDGEPICK_GRID_LINES);
         }
@@ -270,8 +292,8 @@ static void test_grid(void) {
     options.grid = SEDGEPICK_GRID;
     CHECK(sedgepick_mesh_run_with(on, POINTS, triangles[0], TRIANGLES, &options, &mesh) == SEDGEPICK_FINISHED);
     CHECK(same(&mesh, &free) && mesh.answer[SEDGEPICK_QUAD_COUNT] > 0 && mesh.answer[SEDGEPICK_POINT_COUNT] == POINTS);
-    CHECK(areas(on, triangles[0], TRIANGLES, 3) == areas(on, mesh.quads, mesh.answer[SEDGEPICK_QUAD_COUNT], 4)
-        + areas(on, mesh.triangles, mesh.answer[SEDGEPICK_TRIANGLE_COUNT], 3));
+    CHECK(areas(on, triangles[0], TRIANGLES, 3, 3) == areas(on, mesh.quads, mesh.answer[SEDGEPICK_QUAD_COUNT], 4, SEDGEPICK_QUAD_WORDS)
+        + areas(on, mesh.triangles, mesh.answer[SEDGEPICK_TRIANGLE_COUNT], 3, 3));
     sedgepick_mesh_free(&mesh);
     sedgepick_mesh_free(&free);
     options.size = 0.25;
@@ -287,6 +309,7 @@ static void test_grid(void) {
 int main(void) {
     test_threads();
     test_growth();
+    test_births();
     test_refusals();
     test_ranges();
     test_sets();

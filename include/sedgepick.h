@@ -29,10 +29,23 @@ extern "C" {
 #define SEDGEPICK_MOST_SLOTS 16384    /* slots */
 #define SEDGEPICK_MOST_JOINTS 256     /* joints, repeats counted */
 
+/* Places in a quad's record. The leftover triangles are as many as the given ones and two for each added point, less what the quads replaced. */
+enum sedgepick_quad {
+    SEDGEPICK_N0,        /* the nodes, counterclockwise */
+    SEDGEPICK_N1,
+    SEDGEPICK_N2,
+    SEDGEPICK_N3,
+    SEDGEPICK_EDGE_U,    /* the front edge that the quad grew from, which is that between its first two nodes: the smaller node, */
+    SEDGEPICK_EDGE_V,    /* and the larger */
+    SEDGEPICK_ROUND,     /* the round that placed it, counted from 1 */
+    SEDGEPICK_REPLACED,  /* how many triangles it replaced */
+    SEDGEPICK_QUAD_WORDS /* how many they are */
+};
+
 /* Lengths of the slices, for so many slots and points of capacity. */
 #define SEDGEPICK_POINTS(capacity) (3 * (size_t)(capacity))
 #define SEDGEPICK_JOINTS(joint_count) (2 * (size_t)(joint_count))
-#define SEDGEPICK_QUADS(slots) (4 * (size_t)(slots))
+#define SEDGEPICK_QUADS(slots) (SEDGEPICK_QUAD_WORDS * (size_t)(slots))
 #define SEDGEPICK_TRIANGLES_OUT(slots) (3 * (size_t)(slots))
 #define SEDGEPICK_COMPONENTS(slots) ((size_t)(slots))
 #define SEDGEPICK_WORK(slots, capacity) (64 * (size_t)(slots) + 8 * (size_t)(capacity))
@@ -120,7 +133,7 @@ enum sedgepick_answer {
  *
  * points         3 numbers a point of capacity: x, y, z of the given points first. Given points stay as they are; added ones come behind them, with z 0.
  * triangles      3 node numbers a triangle; only read. Clockwise, overlapping and repeated triangles are accepted.
- * quads          4 numbers a slot: the nodes of the quads, counterclockwise, in the order in which they were placed.
+ * quads          8 numbers a slot (SEDGEPICK_QUAD_WORDS): the records of the quads (enum sedgepick_quad), in the order in which they were placed.
  * triangles_out  3 numbers a slot: the nodes of the triangles that are left.
  * components     1 number a slot: the sizes of the components of the triangles left, descending.
  * work           64 numbers a slot and 8 a point of capacity; zeros afterwards, the whole slice.

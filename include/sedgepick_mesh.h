@@ -19,7 +19,7 @@ extern "C" {
 /* A finished mesh. Its counts and lengths are in `answer` (enum sedgepick_answer); the lists are as sedgepick_run_front leaves them. */
 typedef struct sedgepick_mesh {
     double *points;        /* x, y, z: the given points, then the added ones */
-    uint32_t *quads;       /* four nodes each, counterclockwise */
+    uint32_t *quads;       /* a record each (enum sedgepick_quad): quad i begins at quads[SEDGEPICK_QUADS(i)] */
     uint32_t *triangles;   /* three nodes each: those left over */
     uint32_t *components;  /* the sizes of their components, descending */
     size_t answer[SEDGEPICK_ANSWER];

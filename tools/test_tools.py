@@ -372,6 +372,22 @@ class Texts(Case):
                 self.assertIn('a.txt:%d: ' % line, err)
                 self.assertIn(message, err)
 
+    def test_births(self):
+        """A quad's record says the edge between its first two nodes, the smaller first, and its place in the list."""
+        path = os.path.join(ROOT, 'crates/sedgepick/stdout')
+        text = content(path).decode()
+        self.assertIn('\n0 1 2 3 0 1 1 2\n', text)
+        birth, = texts.read(Source(path, text.encode())).births
+        self.assertEqual((birth.edge, birth.round, birth.replaced), ((0, 1), 1, 2))
+        bad = {'1 2 3 0 1 0 1 2': 'edge', '0 1 2 3 1 2 1 2': 'edge', '0 1 2 3 0 1 0 2': 'round 1, not 0', '0 1 2 3 0 1 2 2': 'round 1, not 2',
+               '0 1 2 4 0 1 1 2': 'node 4', '0 1 2 3 0 1 1': 'decimal number', '0 1 2 3': 'decimal number'}
+        bad['1 0 3 2 1 0 1 2'] = 'not from 1 0'
+        for line, message in bad.items():
+            status, out, err = self.run_tool(DRAW, self.file('a.out', text.replace('0 1 2 3 0 1 1 2', line)))
+            self.assertEqual((status, out), (1, ''))
+            self.assertIn('a.out:6: ', err)
+            self.assertIn(message, err)
+
     def test_stored_texts_are_read(self):
         """Every stored answer is an answer or a refusal; an answer has front edges unless it says that the front is empty, and the
         scaled Jacobian of its quads is what a run asks for."""
@@ -382,12 +398,20 @@ class Texts(Case):
                 self.assertIn(refused.number, texts.REFUSALS)
                 continue
             self.assertEqual(mesh.counts['front_empty'], not metrics.front_edges(mesh), path)
+            given = given_of(path[:-4])
+            replaced = sum(birth.replaced for birth in mesh.births)
+            self.assertEqual(len(mesh.triangles) + replaced, len(given.triangles) + 2 * mesh.counts['mismatch_insertions'], path)
             asked = least_jacobian(path[:-4] + '.call')
             for quad in mesh.quads:
                 corners = [mesh.points[node] for node in quad]
                 least = metrics.min_scaled_jacobian(corners)
                 self.assertGreaterEqual(least, asked)
                 self.assertAlmostEqual(least, least_sine(corners), delta=1e-12)
+
+
+def given_of(stem):
+    path = next(stem + suffix for suffix in ('.in', '.call') if os.path.exists(stem + suffix))
+    return texts.read(Source(path, content(path)))
 
 
 def least_jacobian(path):
@@ -490,6 +514,25 @@ class Drawing(Case):
         self.assertEqual([picture.colour(value) for value in (0.3, 0.4, 0.65, 0.9, 1.0)], [picture.CLASSES[i] for i in (0, 1, 3, 6, 6)])
         self.assertEqual([picture.colour(value) for value in (0.2, math.inf, math.nan)], [picture.BELOW] * 3)
 
+    def test_by_round(self):
+        """Every quad has the fill of its round's band; the bands take the rounds in order, and the lightness rises with them."""
+        light = [lightness(colour) for colour in picture.ROUNDS]
+        self.assertTrue(all(b - a > 8 for a, b in zip(light, light[1:])))
+        for name in ('deep-0002', 'grid-0008', 'edge-001', 'single-0000'):
+            path = os.path.join(ROOT, 'answers/small', name + '.out')
+            mesh = texts.read(Source(path, content(path)))
+            root = self.svg(path, '--by', 'round')
+            fills = [(p[0].text, p.get('fill')) for p in root.iter('{http://www.w3.org/2000/svg}polygon') if p[0].text.startswith('quad')]
+            self.assertEqual(len(fills), len(mesh.quads))
+            for (words, fill), quad, birth in zip(fills, mesh.quads, mesh.births):
+                self.assertIn('quad %d %d %d %d, round %d, grown from %d %d, in place of %d triangle' % (*quad, birth.round, *birth.edge, birth.replaced), words)
+            places = [picture.ROUNDS.index(fill) for _, fill in fills]
+            self.assertEqual(places, sorted(places))
+            self.assertEqual(self.count(root, 'numbers', 'text'), len(mesh.quads))
+            shades = picture.by_round(mesh)
+            self.assertEqual([sum(fill == own for fill in shades.fills) for _, own, _ in shades.rows], [count for _, _, count in shades.rows])
+            self.assertEqual(sum(count for _, _, count in shades.rows), len(mesh.quads))
+
     def test_square(self):
         self.assertEqual(metrics.min_scaled_jacobian(SQUARE), 1.0)
         self.assertEqual(metrics.min_scaled_jacobian([SQUARE[0]] * 4), math.inf)
@@ -508,6 +551,9 @@ class Examples(Case):
             path = os.path.join(ROOT, 'examples', name)
             words = ['--input', path + '.in', '--title', 'slab.msh, size %s' % size]
             self.assertEqual(self.run_tool(DRAW, path + '.out', *words), (0, content(path + '.svg').decode(), ''))
+        slab = os.path.join(ROOT, 'examples/slab')
+        words = ['--input', slab + '.in', '--title', 'slab.msh, size 0.6', '--by', 'round']
+        self.assertEqual(self.run_tool(DRAW, slab + '.out', *words), (0, content(os.path.join(ROOT, 'examples/rounds.svg')).decode(), ''))
 
 
 class Programs(Case):

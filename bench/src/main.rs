@@ -60,7 +60,7 @@ impl Lent {
     fn new(call: &Call) -> Self {
         Lent {
             points: vec![0.0; 3 * call.capacity],
-            quads: vec![0; 4 * call.slots],
+            quads: vec![0; call.quads_len()],
             triangles: vec![0; 3 * call.slots],
             components: vec![0; call.slots],
             work: vec![0; call.work_len()],

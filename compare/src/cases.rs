@@ -10,7 +10,7 @@ use reference::patched::{FrontResult, STANDARD};
 use reference::random::Random;
 use sedgepick::Refusal;
 
-use crate::memory::{self, Export, Tails, SLICES};
+use crate::memory::{self, Export, Tails, QUADS, SLICES};
 
 /// A large mesh comes once in so many cases.
 const LARGE_EACH: u64 = 4096;
@@ -333,13 +333,20 @@ impl Case<'_> {
         self.hold(input, lent, &rust);
     }
 
-    /// A slice shorter by one than it needs to be is 4.
+    /// A slice shorter than it needs to be, by one, by a few, by half, is 4; quads come once more, as the widest record.
     fn short_slice(&mut self, input: &Input, lent: Lent) {
         if lent.points == 0 || lent.slots == 0 {
             return;
         }
         let mut tails = self.longer();
-        tails.0[self.r.below(self.slices(input))] = -1;
+        let slice = match self.r.below(self.slices(input) + 1) {
+            0 => QUADS,
+            n => n - 1,
+        };
+        let need = memory::needs(input, lent)[slice];
+        let few = 1 + self.r.below(9);
+        let less = self.r.pick(&[1, 1, few, need.div_ceil(2)]).min(need);
+        tails.0[slice] = -(less as isize);
         self.untouched(input, lent, tails, Refusal::TooShort);
     }
 

@@ -3,6 +3,7 @@
 use reference::input::{Input, Lent};
 use reference::patched::FrontResult;
 use reference::random::Random;
+use reference::records::records;
 use sedgepick::lent::{self, Answer, Call, Further, Memory, Set};
 use sedgepick::Refusal;
 
@@ -24,6 +25,9 @@ pub struct Tails(pub [isize; SLICES]);
 
 /// Slices whose length a call needs: points, quads, triangles out, components, work, float work, joints.
 pub const SLICES: usize = 7;
+
+/// The place of the quads among them.
+pub const QUADS: usize = 1;
 
 /// Numbers without meaning, cheaply.
 struct Garbage(u64);
@@ -76,19 +80,24 @@ fn set(input: &Input) -> Set {
     }
 }
 
-/// Slices for the call: the given points, then garbage.
-pub fn slices(input: &Input, lent: Lent, tails: Tails, r: &mut Random) -> Slices {
-    let mut g = Garbage(r.bits() | 1);
+/// How many numbers the call needs in each slice.
+pub fn needs(input: &Input, lent: Lent) -> [usize; SLICES] {
     let call = call(input, lent);
-    let needs = [
+    [
         3 * lent.points,
-        4 * lent.slots,
+        call.quads_len(),
         3 * lent.slots,
         lent.slots,
         call.work_len(),
         call.float_work_len(),
         2 * input.joints.len(),
-    ];
+    ]
+}
+
+/// Slices for the call: the given points, then garbage.
+pub fn slices(input: &Input, lent: Lent, tails: Tails, r: &mut Random) -> Slices {
+    let mut g = Garbage(r.bits() | 1);
+    let needs = needs(input, lent);
     let mut lengths = [0; SLICES];
     for (length, (need, tail)) in lengths.iter_mut().zip(needs.iter().zip(tails.0)) {
         *length = need.saturating_add_signed(tail);
@@ -171,7 +180,7 @@ pub fn after_run(before: &Slices, rust: &FrontResult) -> Slices {
         &mut s.points,
         rust.points.iter().flatten().map(|x| x.to_bits()),
     );
-    onto(&mut s.quads, words(&rust.quads));
+    onto(&mut s.quads, words(&records(rust)));
     if rust.refused.is_none() {
         onto(&mut s.triangles, words(&rust.triangles));
         onto(

@@ -16,8 +16,10 @@ int main(void) {
         return 1;
     }
     printf("sedgepick %s\n", sedgepick_version());
-    for (size_t i = 0; i < mesh.answer[SEDGEPICK_QUAD_COUNT]; i++)
-        printf("%u %u %u %u\n", mesh.quads[4 * i], mesh.quads[4 * i + 1], mesh.quads[4 * i + 2], mesh.quads[4 * i + 3]);
+    for (size_t i = 0; i < mesh.answer[SEDGEPICK_QUAD_COUNT]; i++) {
+        const uint32_t *quad = mesh.quads + SEDGEPICK_QUADS(i);
+        printf("%u %u %u %u\n", quad[SEDGEPICK_N0], quad[SEDGEPICK_N1], quad[SEDGEPICK_N2], quad[SEDGEPICK_N3]);
+    }
     sedgepick_mesh_free(&mesh);
     return 0;
 }

@@ -8,6 +8,11 @@
 
 enum { GIVEN = 4, CAPACITY = 16, COUNT = 2, SLOTS = 16 };
 
+static void print_quad(const uint32_t *quad) {
+    printf("%u %u %u %u, grown from %u %u in round %u in place of %u triangles\n", quad[SEDGEPICK_N0], quad[SEDGEPICK_N1], quad[SEDGEPICK_N2],
+        quad[SEDGEPICK_N3], quad[SEDGEPICK_EDGE_U], quad[SEDGEPICK_EDGE_V], quad[SEDGEPICK_ROUND], quad[SEDGEPICK_REPLACED]);
+}
+
 int main(void) {
     static double points[SEDGEPICK_POINTS(CAPACITY)] = {0, 0, 0, 1, 0, 0, 1, 1, 0, 0, 1, 0};
     static const uint32_t triangles[3 * COUNT] = {0, 1, 2, 0, 2, 3};
@@ -34,6 +39,6 @@ int main(void) {
     }
     printf("%zu quads, %zu triangles, %zu points\n", answer[SEDGEPICK_QUAD_COUNT], answer[SEDGEPICK_TRIANGLE_COUNT], answer[SEDGEPICK_POINT_COUNT]);
     for (size_t i = 0; i < answer[SEDGEPICK_QUAD_COUNT]; i++)
-        printf("%u %u %u %u\n", quads[4 * i], quads[4 * i + 1], quads[4 * i + 2], quads[4 * i + 3]);
+        print_quad(quads + SEDGEPICK_QUADS(i));
     return 0;
 }

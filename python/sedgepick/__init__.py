@@ -5,8 +5,10 @@ counterclockwise and without a corner under 24.99 degrees. This package lends it
 
     >>> import sedgepick
     >>> mesh = sedgepick.run_front([(0, 0), (1, 0), (1, 1), (0, 1)], [(0, 1, 2), (0, 2, 3)], size=1.0, stop=0)
-    >>> [list(map(int, quad)) for quad in mesh.quads]
-    [[0, 1, 2, 3]]
+    >>> mesh.quads[0]
+    Quad(nodes=(0, 1, 2, 3), edge=(0, 1), round=1, replaced=2)
+
+A quad knows the front edge that it grew from, the round that placed it and how many triangles it replaced; `mesh.quads.nodes` has the nodes of all.
 
 Quads can be held to other numbers than the standard ones, here to corners of 40 degrees (exactly, but for 1e-9 of the cosine):
 
@@ -26,9 +28,9 @@ interpreter's lock is free while the library runs.
 Lists come back as numpy arrays where numpy is there, otherwise as lists of tuples.
 """
 from .front import (EVEN_COMPONENTS, EXHAUST, FAR, GRID_LINES, LARGEST_SIZE, LEAST_SIZE, MOST_CAPACITY, MOST_GIVEN, MOST_JOINTS, MOST_SLOTS, RANGES, REFUSALS, Counts, Mesh,
-                    Quality, Refused, cosine_of, run_front)
+                    Quad, Quads, Quality, Refused, cosine_of, run_front)
 from .library import NoLibrary, VERSION, commit
 
 __version__ = VERSION
 __all__ = ['Counts', 'EVEN_COMPONENTS', 'EXHAUST', 'FAR', 'GRID_LINES', 'LARGEST_SIZE', 'LEAST_SIZE', 'MOST_CAPACITY', 'MOST_GIVEN', 'MOST_JOINTS', 'MOST_SLOTS', 'Mesh',
-           'NoLibrary', 'Quality', 'RANGES', 'REFUSALS', 'Refused', 'commit', 'cosine_of', 'run_front']
+           'NoLibrary', 'Quad', 'Quads', 'Quality', 'RANGES', 'REFUSALS', 'Refused', 'commit', 'cosine_of', 'run_front']

@@ -1,7 +1,9 @@
 """One call of `sedgepick_run_front_with`, with the memory that it needs."""
 import ctypes, math
 from array import array
+from collections.abc import Sequence
 from dataclasses import dataclass, field
+from typing import NamedTuple
 from . import library
 
 try:
@@ -21,6 +23,8 @@ LARGEST_SIZE = 8.0
 EXHAUST, EVEN_COMPONENTS = 0, 1
 # what the numbers of a quality set may be, the bounds included
 RANGES = {'least_jacobian': (0.0, 1.0), 'largest_cosine': (0.5, 0.99), 'side_low': (0.1, 4.0), 'side_high': (0.1, 4.0), 'pairs': (1, 64)}
+
+QUAD_WORDS = 8         # of a quad's record
 
 NO_POINT, NO_SLOTS, BAD_QUALITY = 8, 9, 14
 NO_NODE = 2 ** 32 - 1  # stands for every number that the library's words cannot hold; it names no point and no rule
@@ -91,11 +95,47 @@ class Counts:
     limit: int                # 1 when a limit ended the run
 
 
+class Quad(NamedTuple):
+    """A quad, and how it came about."""
+    nodes: tuple   # counterclockwise
+    edge: tuple    # the front edge that it grew from, which is that between its first two nodes, the smaller one first
+    round: int     # the round that placed it, from 1
+    replaced: int  # how many triangles it replaced
+
+
+class Quads(Sequence):
+    """The quads in the order in which they were placed: a sequence of Quad. Its columns are `nodes`, `edges`, `rounds` and `replaced`, a row for each quad, as
+    numpy arrays where numpy is there, otherwise as lists."""
+
+    def __init__(self, records):
+        if numpy is not None:
+            self.nodes, self.edges, self.rounds, self.replaced = records[:, :4], records[:, 4:6], records[:, 6], records[:, 7]
+        else:
+            self.nodes, self.edges = [record[:4] for record in records], [record[4:6] for record in records]
+            self.rounds, self.replaced = [record[6] for record in records], [record[7] for record in records]
+
+    def __len__(self):
+        return len(self.rounds)
+
+    def __getitem__(self, place):
+        if isinstance(place, slice):
+            return [self[i] for i in range(*place.indices(len(self)))]
+        whole = lambda row: tuple(map(int, row))
+        return Quad(whole(self.nodes[place]), whole(self.edges[place]), int(self.rounds[place]), int(self.replaced[place]))
+
+    def __eq__(self, other):
+        return list(self) == list(other) if isinstance(other, Quads) else NotImplemented
+
+    def __repr__(self):
+        return 'Quads(%s)' % ', '.join(map(repr, self[:3] + ['..'] * (len(self) > 3)))
+
+
 @dataclass
 class Mesh:
-    """A finished mesh. Points: the given ones, then the added ones. Triangles: those left over; components: the sizes of theirs, descending."""
+    """A finished mesh. Points: the given ones, then the added ones. Triangles: those left over; components: the sizes of theirs, descending. The triangles
+    left over are as many as the given ones and two for each added point, less what the quads replaced."""
     points: object
-    quads: object
+    quads: Quads
     triangles: object
     components: object
     counts: Counts
@@ -159,7 +199,7 @@ def attempt(run, points, triangles, call):
     xyz = (ctypes.c_double * max(3 * capacity, len(points), 1))()
     ctypes.memmove(xyz, points.buffer_info()[0], 8 * len(points))
     given, joints = lent(triangles), lent(call.joints)
-    quads, left, components, work = ((ctypes.c_uint32 * n)() for n in (4 * slots, 3 * slots, slots, 64 * slots + 8 * capacity))
+    quads, left, components, work = ((ctypes.c_uint32 * n)() for n in (QUAD_WORDS * slots, 3 * slots, slots, 64 * slots + 8 * capacity))
     float_work = (ctypes.c_double * (4 * slots))()
     answer = (ctypes.c_size_t * 13)()
     q = call.quality
@@ -169,7 +209,7 @@ def attempt(run, points, triangles, call):
     if refusal:
         return refusal, None
     lengths = answer[9:]
-    return 0, Mesh(rows(xyz, lengths[2], 3), rows(quads, lengths[0], 4), rows(left, lengths[1], 3), rows(components, lengths[3], 1), Counts(*answer[:9]))
+    return 0, Mesh(rows(xyz, lengths[2], 3), Quads(rows(quads, lengths[0], QUAD_WORDS)), rows(left, lengths[1], 3), rows(components, lengths[3], 1), Counts(*answer[:9]))
 
 
 def lent(numbers):

@@ -65,7 +65,8 @@ def border_edges(surface):
 
 
 def verify(surface, points, result):
-    """That the result is one conforming mesh of the same surface: every edge of the boundary and of the cuts, every area. Returns both areas."""
+    """That the result is one conforming mesh of the same surface: every edge of the boundary and of the cuts, every area, the number of triangles left over.
+    Returns both areas."""
     given = surface.triangles.cells
     before, owners_before = numpy.unique(quality.keys(quality.sides(given)), return_counts=True)
     after, owners = numpy.unique(quality.edge_keys(result.quads, result.triangles), return_counts=True)
@@ -77,6 +78,8 @@ def verify(surface, points, result):
     cuts = keys[result.parts[a] != result.parts[b]]
     if not numpy.isin(cuts, after[owners == 2]).all():
         raise Fault('an edge between two parts is missing in the result')
+    if len(result.triangles) + int(result.replaced.sum()) != len(given) + 2 * len(result.added):
+        raise Fault('%d triangles are left of %d, %d nodes were added and quads replaced %d' % (len(result.triangles), len(given), len(result.added), result.replaced.sum()))
     whole = float(quality.areas(points, given).sum())
     made = float(quality.areas(points, result.quads).sum() + quality.areas(points, result.triangles).sum())
     if abs(whole - made) > SLACK * abs(whole):

@@ -34,6 +34,7 @@ class Result:
     """The cells over the points: the given ones, then the added ones."""
     added: object     # x and y
     quads: object
+    replaced: object  # triangles that each quad replaced
     triangles: object
     sizes: list       # of each part
     counts: list      # of each part
@@ -155,10 +156,11 @@ def merged(given, answers, part, cutter):
         number = numpy.concatenate([answer.nodes, numpy.arange(following, following + len(answer.added))])
         following += len(answer.added)
         added.append(answer.added)
-        quads.append(number[answer.mesh.quads.astype(int)].reshape(-1, 4))
+        quads.append(number[answer.mesh.quads.nodes.astype(int)].reshape(-1, 4))
         left.append(number[answer.mesh.triangles.astype(int)].reshape(-1, 3))
     owners = [numpy.repeat(numpy.arange(len(cells)), [len(own) for own in cells]) for cells in (quads, left)]
     sizes, counts = [answer.size for answer in answers], [answer.mesh.counts for answer in answers]
-    return Result(numpy.concatenate(added), numpy.concatenate(quads), numpy.concatenate(left), sizes, counts, part, *owners,
+    replaced = numpy.concatenate([answer.mesh.quads.replaced for answer in answers]).astype(int)
+    return Result(numpy.concatenate(added), numpy.concatenate(quads), replaced, numpy.concatenate(left), sizes, counts, part, *owners,
                   tuple(map(sum, zip(*(answer.rounded for answer in answers)))), cutter, [answer.joints for answer in answers],
                   scale=max(answer.scale for answer in answers))

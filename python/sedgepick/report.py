@@ -71,6 +71,8 @@ def sections(job):
     lost = [(loss.what, loss.stand()) for loss in job.losses]
     if lost and not job.options.free:
         lost.append(('kept by', '%d locked edges%s' % (sum(result.joints), ', and slits' if result.notes else '')))
+    replaced = ('triangles that a quad replaced', '%d to %d, %.2f on average' % (result.replaced.min(), result.replaced.max(), result.replaced.mean())) \
+        if len(result.quads) else None
     return [
         ('Run', [('file', surface.name), ('given', '%d triangles, %d nodes' % (len(surface.triangles.cells), len(numpy.unique(surface.triangles.cells)))),
                  ('profile', 'grid' if job.options.grid else 'none'),
@@ -82,7 +84,7 @@ def sections(job):
         ('Result', counted),
         ('Attempts', [('attempts', total('attempts'))] + [('refused: ' + words, total(name)) for name, words in REFUSED] + [('ended by a limit', total('limit'))]),
         ('Area', [('before', '%.15g' % job.areas[0]), ('after', '%.15g' % job.areas[1]), ('boundary', 'every edge found')] + exact_words(job)),
-        ('Quads', [('least scaled Jacobian', '%.4f' % jacobians.min()), ('least angle', '%.2f degrees' % least.min())] + list(map(place, quad_rows))
+        ('Quads', [('least scaled Jacobian', '%.4f' % jacobians.min()), ('least angle', '%.2f degrees' % least.min()), replaced] + list(map(place, quad_rows))
          if len(result.quads) else [('none', '')]),
         ('Leftover triangles', [('under 10 degrees', int((angles < 10).sum()))] + list(map(place, triangle_rows)) if len(angles) else [('none', '')]),
         ('Lines, points and borders of the file', lost + [(loss.what, at(points, nodes)) for loss in job.losses for nodes in loss.lost[:LISTED]]

@@ -25,13 +25,14 @@ def shaken(seed, columns=12, rows=12):
 
 
 def content(mesh):
-    return [tuple(map(float, p)) for p in mesh.points], plain(mesh.quads), plain(mesh.triangles), [int(n) for n in mesh.components], mesh.counts
+    return [tuple(map(float, p)) for p in mesh.points], list(mesh.quads), plain(mesh.triangles), [int(n) for n in mesh.components], mesh.counts
 
 
 class Runs(unittest.TestCase):
     def test_square(self):
         mesh = sedgepick.run_front(SQUARE, HALVES, 1.0, 0)
-        self.assertEqual(plain(mesh.quads), [(0, 1, 2, 3)])
+        self.assertEqual(list(mesh.quads), [((0, 1, 2, 3), (0, 1), 1, 2)])
+        self.assertEqual((mesh.quads[-1].nodes, mesh.quads[0].edge, mesh.quads[0].round, mesh.quads[0].replaced), ((0, 1, 2, 3), (0, 1), 1, 2))
         self.assertEqual((len(mesh.triangles), len(mesh.points), len(mesh.components), mesh.counts.attempts), (0, 4, 0, 1))
 
     def test_nothing(self):
@@ -52,6 +53,20 @@ class Runs(unittest.TestCase):
         self.assertEqual(len(mesh.points), len(points) + c.mismatch_insertions)
         self.assertEqual([tuple(map(float, p)) for p in mesh.points[:len(points)]], points)
         self.assertEqual(sum(int(n) for n in mesh.components), len(mesh.triangles))
+        self.assertGreater(len(mesh.quads), 10)
+        self.assertEqual([quad.edge for quad in mesh.quads], [tuple(sorted(quad.nodes[:2])) for quad in mesh.quads])
+        self.assertEqual([quad.round for quad in mesh.quads], list(range(1, len(mesh.quads) + 1)))
+        self.assertEqual(len(mesh.triangles) + sum(quad.replaced for quad in mesh.quads), len(triangles) + 2 * c.mismatch_insertions)
+
+    def test_columns(self):
+        mesh = sedgepick.run_front(*shaken(3), 0.5)
+        rows = zip(plain(mesh.quads.nodes), plain(mesh.quads.edges), map(int, mesh.quads.rounds), map(int, mesh.quads.replaced))
+        self.assertEqual(list(mesh.quads), list(rows))
+        self.assertEqual((mesh.quads[2:5], len(mesh.quads[:0])), ([mesh.quads[2], mesh.quads[3], mesh.quads[4]], 0))
+        self.assertEqual(mesh.quads, sedgepick.run_front(*shaken(3), 0.5).quads)
+        self.assertNotEqual(mesh.quads, sedgepick.run_front(*shaken(4), 0.5).quads)
+        with self.assertRaises(IndexError):
+            mesh.quads[len(mesh.quads)]
 
     def test_memory_grows_and_changes_nothing(self):
         for seed in range(4):
@@ -82,7 +97,7 @@ class Runs(unittest.TestCase):
 def corners(mesh):
     """Cosine and sine at each corner of the quads."""
     points = [tuple(map(float, p)) for p in mesh.points]
-    for quad in plain(mesh.quads):
+    for quad in plain(mesh.quads.nodes):
         for i in range(4):
             here, after, before = (points[quad[j % 4]] for j in (i, i + 1, i + 3))
             u, v = (after[0] - here[0], after[1] - here[1]), (before[0] - here[0], before[1] - here[1])
@@ -104,7 +119,7 @@ class Qualities(unittest.TestCase):
                         sedgepick.Quality(least_jacobian=0, largest_cosine=0.99, side_low=0.1, side_high=4, pairs=64)):
             mesh = sedgepick.run_front(points, triangles, 0.5, quality=quality)
             self.assertGreater(len(mesh.quads), 0)
-            self.assertNotEqual(plain(mesh.quads), plain(usual.quads), quality)
+            self.assertNotEqual(mesh.quads, usual.quads, quality)
             for cosine, sine in corners(mesh):
                 self.assertLessEqual(cosine, quality.largest_cosine + 1e-9)
                 self.assertGreaterEqual(sine, quality.least_jacobian - 1e-9)
@@ -138,7 +153,7 @@ class Qualities(unittest.TestCase):
 
 
 def stands(mesh, joint):
-    cells = plain(mesh.quads) + plain(mesh.triangles)
+    cells = plain(mesh.quads.nodes) + plain(mesh.triangles)
     return any({cell[i - 1], cell[i]} == set(joint) for cell in cells for i in range(len(cell)))
 
 
@@ -193,7 +208,7 @@ class Grid(unittest.TestCase):
             self.assertEqual(content(mesh), content(sedgepick.run_front(points, triangles, 0.0, joints=joints)))
             self.assertEqual(len(mesh.points), len(points))
             self.assertGreater(len(mesh.quads), 0)
-            self.assertEqual(self.areas(points, triangles), self.areas(points, mesh.quads) + self.areas(points, mesh.triangles))
+            self.assertEqual(self.areas(points, triangles), self.areas(points, mesh.quads.nodes) + self.areas(points, mesh.triangles))
 
     def test_refused(self):
         off = [(0.1, 0.0)] + SQUARE[1:]

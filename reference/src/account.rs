@@ -1,5 +1,6 @@
 //! What holds of every finished run: the account of demand 3, in floats where it
-//! speaks of exact arithmetic, that joints are kept, and the area of the grid profile.
+//! speaks of exact arithmetic, the births of quads, that joints are kept, and the area
+//! of the grid profile.
 
 use std::collections::BTreeSet;
 
@@ -56,6 +57,7 @@ pub fn check(input: &Input, r: &FrontResult) {
     r.quads
         .iter()
         .for_each(|q| check_quad(r, &input.quality, q));
+    check_births(input, r);
     assert_eq!(r.region_components, components(&r.triangles), "components");
     assert_eq!(
         r.region_components.iter().sum::<usize>(),
@@ -94,6 +96,25 @@ fn check_quad(r: &FrontResult, set: &Quality, quad: &[usize; 4]) {
         let sine = (u[0] * v[1] - u[1] * v[0]) / squares.sqrt();
         assert!(sine >= set.least_jacobian - 1e-4, "a corner's Jacobian");
     }
+}
+
+/// Each quad grew from the edge between its first two nodes, the first in round 1, the next in
+/// round 2, and so on; the triangles left are the given ones and two for each insertion, less
+/// those that quads replaced.
+fn check_births(input: &Input, r: &FrontResult) {
+    assert_eq!(r.births.len(), r.quads.len(), "births");
+    for (k, (quad, birth)) in r.quads.iter().zip(&r.births).enumerate() {
+        let edge = (quad[0].min(quad[1]), quad[0].max(quad[1]));
+        assert_eq!(birth.edge, edge, "a quad's edge");
+        assert_eq!(birth.round, k + 1, "a quad's round");
+        assert!(birth.replaced > 0, "a quad in place of nothing");
+    }
+    let replaced: usize = r.births.iter().map(|b| b.replaced).sum();
+    assert_eq!(
+        r.triangles.len() + replaced,
+        input.triangles.len() + 2 * r.refusals.mismatch_insertions,
+        "left over"
+    );
 }
 
 /// Twice the summed areas of the given triangles and of the cells that came back, each without sign, in squares of the grid; the points are on it.
@@ -169,6 +190,8 @@ fn check_short(full: &FrontResult, short: &FrontResult, lent: Lent, points: usiz
         "a refusal without need, or none"
     );
     assert!(full.quads.starts_with(&short.quads), "quads so far");
+    assert!(full.births.starts_with(&short.births), "births so far");
+    assert_eq!(short.quads.len(), short.births.len(), "a quad's birth");
     let bits = |r: &FrontResult| {
         r.points
             .iter()

@@ -2,6 +2,7 @@
 
 use crate::input::{Input, Lent};
 use crate::patched::FrontResult;
+use crate::records::records;
 
 /// Squares on a side, each cut into two triangles.
 const SQUARES: usize = 14;
@@ -70,13 +71,13 @@ pub fn counts(r: &FrontResult) -> [usize; 13] {
 
 /// An answer as numbers: the counts, the lengths, the lists.
 fn numbers(r: &FrontResult) -> Vec<u64> {
-    let quads = r.quads.iter().flatten();
+    let quads = records(r);
     let triangles = r.triangles.iter().flatten();
     let mut out: Vec<u64> = Vec::new();
     out.extend(
         counts(r)
             .iter()
-            .chain(quads)
+            .chain(quads.iter().flatten())
             .chain(triangles)
             .map(|&n| n as u64),
     );

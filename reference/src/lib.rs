@@ -9,4 +9,5 @@ pub mod input;
 mod mesh;
 pub mod patched;
 pub mod random;
+pub mod records;
 pub mod text;

@@ -17,6 +17,7 @@ mod patched;
 #[allow(dead_code)]
 mod published;
 mod random;
+mod records;
 mod small;
 #[cfg(test)]
 mod table;

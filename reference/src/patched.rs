@@ -208,6 +208,11 @@ pub struct CellMesh {
     /// The grid profile: nothing is inserted.
     grid: bool,
     // end patch
+    // patch: birth
+    /// This round, and the births of the quads so far.
+    round: usize,
+    births: Vec<Birth>,
+    // end patch
 }
 
 impl CellMesh {
@@ -247,6 +252,10 @@ impl CellMesh {
             // end patch
             // patch: grid
             grid: false,
+            // end patch
+            // patch: birth
+            round: 0,
+            births: Vec::new(),
             // end patch
         };
         for id in 0..mesh.cells.len() {
@@ -1314,6 +1323,19 @@ pub const STANDARD: Quality = Quality {
     pairs: MAX_PAIR_TRIALS,
 };
 // end patch
+// patch: birth
+
+/// How a quad came about.
+#[derive(Clone, Copy, Debug, PartialEq, Eq)]
+pub struct Birth {
+    /// The front edge that it grew from, smaller node first.
+    pub edge: (usize, usize),
+    /// The round that placed it, counted from 1.
+    pub round: usize,
+    /// The triangles that it replaced.
+    pub replaced: usize,
+}
+// end patch
 
 /// A node is never inserted closer than this fraction of the local size to an
 /// existing node: such a split creates an edge the quads cannot absorb.
@@ -1427,6 +1449,10 @@ pub struct FrontResult {
     /// `quads` then count.
     pub refused: Option<u32>,
     // end patch
+    // patch: birth
+    /// The births of `quads`, one each.
+    pub births: Vec<Birth>,
+    // end patch
 }
 
 /// Run the Q-Morph front and return its state, **without** the Sun closure.
@@ -1487,6 +1513,9 @@ pub fn run_front(
         // patch: lent
         refused: mesh.want,
         // end patch
+        // patch: birth
+        births: mesh.births,
+        // end patch
     }
 }
 
@@ -1519,6 +1548,9 @@ fn front_loop(
     let mut fragment = FragmentCheck::default();
 
     'outer: loop {
+        // patch: birth
+        mesh.round += 1;
+        // end patch
         let mut loops: Vec<(f64, Vec<(usize, usize)>)> = mesh
             .front_loops(&mut scratch)
             .into_iter()
@@ -1838,6 +1870,14 @@ fn try_quad(
         }
         mesh.push_cell(Cell::Quad(quad));
         quads.push(quad);
+        // patch: birth
+        let (round, replaced) = (mesh.round, region.len());
+        mesh.births.push(Birth {
+            edge,
+            round,
+            replaced,
+        });
+        // end patch
         return Ok(());
     }
     Err(last)

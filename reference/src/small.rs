@@ -3,6 +3,7 @@
 
 use crate::grids::{counts, hash_on, BASIS};
 use crate::input::{Input, Lent};
+use crate::records::{records, WORDS};
 
 type Triangle = [u32; 3];
 
@@ -110,7 +111,7 @@ fn onto(slice: &mut [u64], list: impl Iterator<Item = u64>) {
 /// as `LENT[0]` says; the points of the position come first in theirs.
 fn returned(input: &Input, position: &[[f64; 2]], lent: Lent) -> Vec<u64> {
     let most = LENT[0];
-    let mut quads = vec![UNUSED; 4 * most.slots];
+    let mut quads = vec![UNUSED; WORDS * most.slots];
     let mut triangles = vec![UNUSED; 3 * most.slots];
     let mut components = vec![UNUSED; most.slots];
     let mut points = vec![0; 3 * most.points];
@@ -121,7 +122,7 @@ fn returned(input: &Input, position: &[[f64; 2]], lent: Lent) -> Vec<u64> {
     } else {
         let r = input.run_unchecked(lent);
         let wide = |&n: &usize| n as u64;
-        onto(&mut quads, r.quads.iter().flatten().map(wide));
+        onto(&mut quads, records(&r).iter().flatten().map(wide));
         onto(&mut points, r.points.iter().flatten().map(|x| x.to_bits()));
         if let Some(number) = r.refused {
             head[0] = number as u64;

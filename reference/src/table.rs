@@ -32,6 +32,8 @@ fn the_square_is_one_quad_under_both_rules() {
     for stop in 0..2 {
         let answer = reply(&asked(&["0 1 2", "0 2 3"], 4, ONE, stop));
         assert_eq!(counts(&answer), ["1 1 0 0 0 0 0 0 0", "1 0 4 0"]);
+        let quad = "\nn0 n1 n2 n3 u v round replaced\n0 1 2 3 0 1 1 2\nn0 n1 n2\n";
+        assert!(String::from_utf8_lossy(&answer).contains(quad));
     }
 }
 

@@ -2,6 +2,7 @@
 
 use crate::input::{Input, Lent, PROGRAM};
 use crate::patched::FrontResult;
+use crate::records::{records, NAMES};
 
 pub const MOST_BYTES: usize = 8192;
 pub const MOST_LISTED: u64 = 64;
@@ -176,8 +177,7 @@ fn finished(input: &Input, r: &FrontResult) -> Vec<u8> {
         r.points.len(),
         r.region_components.len(),
     ]);
-    out += "n0 n1 n2 n3\n";
-    r.quads.iter().for_each(|q| out += &line(q));
+    out += &quads(r);
     out += "n0 n1 n2\n";
     r.triangles.iter().for_each(|t| out += &line(t));
     out += &points(input, r);
@@ -190,10 +190,16 @@ fn finished(input: &Input, r: &FrontResult) -> Vec<u8> {
 pub fn left(input: &Input, r: &FrontResult) -> Vec<u8> {
     let mut out = String::from("quads points\n");
     out += &line(&[r.quads.len(), r.points.len()]);
-    out += "n0 n1 n2 n3\n";
-    r.quads.iter().for_each(|q| out += &line(q));
+    out += &quads(r);
     out += &points(input, r);
     out.into_bytes()
+}
+
+/// The records of all quads.
+fn quads(r: &FrontResult) -> String {
+    let mut out = format!("{NAMES}\n");
+    records(r).iter().for_each(|q| out += &line(q));
+    out
 }
 
 /// All points. The given ones are written with the bits that were read.

@@ -11,7 +11,7 @@ fn without_its_patches_the_patched_module_is_the_published_one() {
     assert_eq!(marks::take_back(PATCHED, |_| true).unwrap(), PUBLISHED);
 }
 
-const NAMES: [&str; 8] = [
+const NAMES: [&str; 9] = [
     "cosine",
     "limit",
     "off-front",
@@ -20,10 +20,11 @@ const NAMES: [&str; 8] = [
     "quality",
     "joints",
     "grid",
+    "birth",
 ];
 
 #[test]
-fn every_patch_is_one_of_eight() {
+fn every_patch_is_one_of_nine() {
     for name in marks::names(PATCHED) {
         assert!(NAMES.contains(&name));
     }
@@ -132,6 +133,25 @@ fn the_grid_profile_inserts_nothing_and_changes_nothing_else() {
     assert_eq!(added, ["if mesh.grid || !size_mismatch(span, target) {"; 2]);
     // Areas are added without sign as published.
     assert!(PUBLISHED.contains("area += cross(a, b, c).abs() / 2.0;"));
+}
+
+#[test]
+fn births_are_noted_and_change_nothing() {
+    let new = marks::take_back(PATCHED, |_| false).unwrap();
+    let old = marks::take_back(PATCHED, |patch| patch == "birth").unwrap();
+    assert!(fresh(&old, &new).is_empty());
+    let added = fresh(&new, &old);
+    let acts = |line: &&String| line.contains("mesh.") && !line.starts_with("//");
+    let added: Vec<&String> = added.iter().filter(acts).collect();
+    assert_eq!(
+        added,
+        [
+            "births: mesh.births,",
+            "mesh.round += 1;",
+            "let (round, replaced) = (mesh.round, region.len());",
+            "mesh.births.push(Birth {",
+        ]
+    );
 }
 
 #[test]

@@ -37,8 +37,8 @@ abbrev pt : Float → Float → Float → Node
 pt a b c = record { x = a; y = b; z = c }
 abbrev tr : ℕ → ℕ → ℕ → Tri
 tr a b c = record { n0 = a; n1 = b; n2 = c }
-abbrev qd : ℕ → ℕ → ℕ → ℕ → Quad
-qd a b c d = record { n0 = a; n1 = b; n2 = c; n3 = d }
+abbrev qd : ℕ → ℕ → ℕ → ℕ → Edge → ℕ → ℕ → Quad
+qd a b c d e r k = record { n0 = a; n1 = b; n2 = c; n3 = d; edge = e; round = r; replaced = k }
 abbrev lv : ℕ → Cell → Live
 lv n c = record { slot = n; cell = c }
 ''']

@@ -3,11 +3,20 @@ from dataclasses import dataclass, field
 
 
 @dataclass
+class Birth:
+    """How a quad came about."""
+    edge: tuple      # the front edge that it grew from, the smaller node first
+    round: int       # from 1
+    replaced: int    # triangles
+
+
+@dataclass
 class Mesh:
     source: object
     points: list = field(default_factory=list)          # (x, y, z)
     triangles: list = field(default_factory=list)       # three numbers of points, from 0
-    quads: list = field(default_factory=list)
+    quads: list = field(default_factory=list)           # four numbers of points
+    births: list = field(default_factory=list)          # of the quads of an answer
     names: list = field(default_factory=list)           # what the file calls each point
     point_lines: list = field(default_factory=list)
     triangle_lines: list = field(default_factory=list)
@@ -23,6 +32,10 @@ class Mesh:
     def add_triangle(self, nodes, line):
         self.triangles.append(tuple(nodes))
         self.triangle_lines.append(line)
+
+    def add_quad(self, nodes, edge, round, replaced):
+        self.quads.append(tuple(nodes))
+        self.births.append(Birth(edge, round, replaced))
 
     def cells(self):
         return self.quads + self.triangles

@@ -1,5 +1,6 @@
-"""A mesh as SVG: quads filled by their scaled Jacobian, leftover triangles, front edges, added points and points of no cell, a legend."""
+"""A mesh as SVG: quads filled by their scaled Jacobian or by their round, leftover triangles, front edges, added points and points of no cell, a legend."""
 import math
+from dataclasses import dataclass
 from xml.sax.saxutils import escape
 from mesh.metrics import front_edges, min_scaled_jacobian
 
@@ -7,6 +8,10 @@ from mesh.metrics import front_edges, min_scaled_jacobian
 LEAST = 0.3
 CLASSES = ['#254f9c', '#2176b4', '#2f9ec2', '#5bbfc0', '#97d6b9', '#d3edb3', '#ffffd9']
 BELOW = '#c51b7d'
+# rounds: the later the lighter
+ROUNDS = ['#472d7b', '#3b528b', '#2c728e', '#21918c', '#28ae80', '#5ec962', '#addc30', '#fde725']
+DARK = 4          # of them take white numbers
+NUMBERED = 150    # quads at most that have their round written into them
 TRIANGLE = '#d9d9d9'
 EDGE = '#333333'
 FRONT = '#d55e00'
@@ -32,6 +37,44 @@ def colour(jacobian):
     if not LEAST <= jacobian < math.inf:
         return BELOW
     return CLASSES[min(int((jacobian - LEAST) * 10 + 1e-9), len(CLASSES) - 1)]
+
+
+@dataclass
+class Shades:
+    """How the quads are filled: by what, the fill and the words of each, what is written into each, the legend's rows (label, fill, count) and a line below."""
+    title: str
+    fills: list
+    words: list
+    numbers: list
+    rows: list
+    foot: str
+
+
+def by_jacobian(mesh):
+    jacobians = [min_scaled_jacobian([mesh.points[node] for node in quad]) for quad in mesh.quads]
+    words = ['scaled Jacobian %.4f' % jacobian for jacobian in jacobians]
+    fills = [colour(jacobian) for jacobian in jacobians]
+    return Shades('Quads by scaled Jacobian', fills, words, [], classes(fills), 'least %.4f' % min(jacobians) if jacobians else 'no quad')
+
+
+def by_round(mesh):
+    """Bands of rounds, as many in each as can be."""
+    rounds, last = [birth.round for birth in mesh.births], max((birth.round for birth in mesh.births), default=0)
+    bands = min(last, len(ROUNDS))
+    band = lambda round: (round - 1) * bands // last
+    shade = lambda i: ROUNDS[i * (len(ROUNDS) - 1) // max(bands - 1, 1)]
+    words = ['round %d, grown from %d %d, in place of %s' % (birth.round, *birth.edge, counted(birth.replaced, 'triangle')) for birth in mesh.births]
+    rows = []
+    for i in range(bands):
+        own = [round for round in range(1, last + 1) if band(round) == i]
+        label = '%d to %d' % (own[0], own[-1]) if len(own) > 1 else '%d' % own[0]
+        rows.append((label, shade(i), sum(band(round) == i for round in rounds)))
+    replaced = sum(birth.replaced for birth in mesh.births)
+    return Shades('Quads by round', [shade(band(round)) for round in rounds], words, rounds if len(rounds) <= NUMBERED else [], rows,
+                  'in place of %s' % counted(replaced, 'triangle') if rounds else 'no quad')
+
+
+BY = {'jacobian': by_jacobian, 'round': by_round}
 
 
 class Frame:
@@ -88,17 +131,17 @@ class Picture:
         self.add('<polygon points="%s" fill="%s"><title>%s</title></polygon>', ' '.join(corners), fill, escape(title))
 
 
-def draw(mesh, title, given=None):
-    """The SVG of an input or of an answer, whose points from number `given` on are added ones."""
+def draw(mesh, title, given=None, by='jacobian'):
+    """The SVG of an input or of an answer, whose points from number `given` on are added ones; quads are filled as `by` says, a key of BY."""
     added = mesh.points[given:] if given is not None else []
     frame = Frame(mesh.points)
-    jacobians = [min_scaled_jacobian([mesh.points[node] for node in quad]) for quad in mesh.quads]
+    shades = BY[by](mesh)
     front = front_edges(mesh)
     loose = sorted(set(range(len(mesh.points))) - {node for cell in mesh.cells() for node in cell})
     picture = Picture()
     below = summary(mesh, len(added))
     width = max(LEFT + frame.width + RIGHT + LEGEND, LEFT + 8 * len(below), LEFT + 13 * len(title)) + RIGHT  # by the mean width of a letter
-    height = TOP + max(frame.height + BOTTOM, legend_height(mesh, jacobians))
+    height = TOP + max(frame.height + BOTTOM, legend_height(mesh, shades))
     picture.add('<svg xmlns="http://www.w3.org/2000/svg" width="%s" height="%s" viewBox="0 0 %s %s" font-family="DejaVu Sans, Verdana, Arial, sans-serif">',
                 *map(number, (width, height, width, height)))
     picture.add('<title>%s</title>', escape(title))
@@ -106,10 +149,11 @@ def draw(mesh, title, given=None):
     picture.text(LEFT, 32, title, size=18, weight='bold')
     picture.text(LEFT, 56, below, fill=GREY)
     axes(picture, frame)
-    cells(picture, frame, mesh, jacobians)
+    cells(picture, frame, mesh, shades)
     edges(picture, frame, mesh, front)
+    numbers(picture, frame, mesh, shades)
     marks(picture, frame, mesh, added, loose)
-    legend(picture, LEFT + frame.width + RIGHT, mesh, jacobians, (len(front), len(added), len(loose)))
+    legend(picture, LEFT + frame.width + RIGHT, mesh, shades, (len(front), len(added), len(loose)))
     picture.add('</svg>')
     return '\n'.join(picture.lines) + '\n'
 
@@ -151,13 +195,25 @@ def fineness(frame, mesh):
     return min(1.0, max(0.2, room / 60))
 
 
-def cells(picture, frame, mesh, jacobians):
+def cells(picture, frame, mesh, shades):
     picture.add('<g id="cells" stroke="%s" stroke-width="%s" stroke-linejoin="round">', EDGE, number(1.2 * fineness(frame, mesh)))
     for cell in mesh.triangles:
         picture.polygon([frame.at(mesh.points[node]) for node in cell], TRIANGLE, 'triangle %d %d %d' % cell)
-    for cell, jacobian in zip(mesh.quads, jacobians):
-        words = 'quad %d %d %d %d, scaled Jacobian %.4f' % (*cell, jacobian)
-        picture.polygon([frame.at(mesh.points[node]) for node in cell], colour(jacobian), words)
+    for cell, fill, words in zip(mesh.quads, shades.fills, shades.words):
+        picture.polygon([frame.at(mesh.points[node]) for node in cell], fill, 'quad %d %d %d %d, %s' % (*cell, words))
+    picture.add('</g>')
+
+
+def numbers(picture, frame, mesh, shades):
+    """What is written into the quads, in their middles."""
+    if not shades.numbers:
+        return
+    size = max(7, round(16 * fineness(frame, mesh)))
+    picture.add('<g id="numbers" font-size="%d" text-anchor="middle">', size)
+    for cell, fill, value in zip(mesh.quads, shades.fills, shades.numbers):
+        x, y = (sum(mesh.points[node][axis] for node in cell) / 4 for axis in (0, 1))
+        ink = '#ffffff' if fill in ROUNDS[:DARK] else INK
+        picture.add('<text x="%s" y="%s" fill="%s">%s</text>', number(frame.x(x)), number(frame.y(y) + size / 3), ink, value)
     picture.add('</g>')
 
 
@@ -187,30 +243,29 @@ def cross(picture, x, y, arm, title):
                 *map(number, (x - arm, y - arm, x + arm, y + arm, x - arm, y + arm, x + arm, y - arm)), title)
 
 
-def classes(jacobians):
+def classes(fills):
     """(label, colour, count), from the best class to the worst; one below 0.3 only where a quad is in it."""
-    fills = [colour(jacobian) for jacobian in jacobians]
     rows = [('%.1f to %.1f' % (LEAST + i / 10, LEAST + (i + 1) / 10), fill, fills.count(fill)) for i, fill in enumerate(CLASSES)]
     return rows[::-1] + [('below %.1f' % LEAST, BELOW, fills.count(BELOW))] * (BELOW in fills)
 
 
-def legend_height(mesh, jacobians):
-    rows = len(classes(jacobians)) + 3 if mesh.counts is not None else 0
+def legend_height(mesh, shades):
+    rows = len(shades.rows) + 3 if mesh.counts is not None else 0
     return (rows + 5) * ROW + 2 * ROW
 
 
-def legend(picture, left, mesh, jacobians, counts):
+def legend(picture, left, mesh, shades, counts):
     front, added, loose = counts
     y = TOP + 14
     picture.add('<g id="legend">')
     if mesh.counts is not None:
-        picture.text(left, y, 'Quads by scaled Jacobian', weight='bold')
-        for label, fill, count in classes(jacobians):
+        picture.text(left, y, shades.title, weight='bold')
+        for label, fill, count in shades.rows:
             y += ROW
             swatch(picture, left, y, fill)
             entry(picture, left, y, label, count)
         y += ROW
-        picture.text(left, y, 'least %.4f' % min(jacobians) if jacobians else 'no quad', fill=GREY)
+        picture.text(left, y, shades.foot, fill=GREY)
         y += 1.5 * ROW
     swatch(picture, left, y, TRIANGLE)
     entry(picture, left, y, 'triangle' if mesh.counts is None else 'leftover triangle', len(mesh.triangles))

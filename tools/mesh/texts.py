@@ -13,7 +13,7 @@ PROFILE = 'grid'
 COUNTS = 'front_empty attempts placement invalid_quad recovery region odd_region mismatch_insertions limit'
 LENGTHS = 'quads triangles points components'
 TRIANGLE = 'n0 n1 n2'
-QUAD = 'n0 n1 n2 n3'
+QUAD = 'n0 n1 n2 n3 u v round replaced'
 POINT = 'x y z'
 SIZES = 'size'
 REFUSED = 'refused'
@@ -96,9 +96,12 @@ class Form:
 
     def cell(self, names, points):
         nodes = self.numbers(names)
+        self.known(nodes, points)
+        return nodes
+
+    def known(self, nodes, points):
         if max(nodes) >= points:
             self.fail('node %d is not there: the text has %d points' % (max(nodes), points))
-        return nodes
 
     def point(self):
         words = self.line(POINT).split(b' ')
@@ -187,7 +190,8 @@ def answer(form):
     quads, triangles, points, components = form.numbers(LENGTHS)
     mesh = Mesh(form.source, counts=counts)
     form.names(QUAD)
-    mesh.quads = [form.cell(QUAD, points) for _ in range(quads)]
+    for _ in range(quads):
+        read_quad(form, mesh, points)
     read_triangles(form, mesh, triangles, points)
     read_points(form, mesh, points)
     form.names(SIZES)
@@ -195,6 +199,17 @@ def answer(form):
         form.numbers(SIZES)
     form.end()
     return mesh
+
+
+def read_quad(form, mesh, points):
+    """A quad's record: nodes, the front edge that it grew from, round, triangles replaced."""
+    *nodes, u, v, round, replaced = form.numbers(QUAD)
+    form.known(nodes, points)
+    if (u, v) != (min(nodes[:2]), max(nodes[:2])):
+        form.fail('the quad should have grown from the edge between its first two nodes, not from %d %d' % (u, v))
+    if round != len(mesh.quads) + 1:
+        form.fail('the quad should be of round %d, not %d' % (len(mesh.quads) + 1, round))
+    mesh.add_quad(nodes, (u, v), round, replaced)
 
 
 def read_triangles(form, mesh, count, points):

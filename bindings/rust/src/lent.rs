@@ -2,10 +2,13 @@
 
 use std::cmp::Ordering;
 
-use crate::{Counts, Refusal};
+use crate::{Counts, Quad, Refusal};
 
 /// Numbers that a finished run writes: nine counts and four lengths.
 const ANSWER: usize = 13;
+
+/// Numbers of a quad's record: four nodes, the edge's two, the round, the triangles replaced.
+pub const QUAD_WORDS: usize = 8;
 
 /// u32 of work for a triangle whose mesh is filed.
 pub const FILING_WORK: usize = 4;
@@ -116,6 +119,11 @@ impl Call {
             .saturating_add(8usize.saturating_mul(self.capacity))
     }
 
+    /// u32 that the quads need.
+    pub fn quads_len(&self) -> usize {
+        QUAD_WORDS.saturating_mul(self.slots)
+    }
+
     /// f64 of work.
     pub fn float_work_len(&self) -> usize {
         4usize.saturating_mul(self.slots)
@@ -165,7 +173,7 @@ pub struct Further<'a> {
 pub struct Memory<'a> {
     /// Three f64 a point of capacity: the given points first. Added points come behind them.
     pub points: &'a mut [f64],
-    /// Four u32 a slot: the quads come to its front.
+    /// Eight u32 a slot: the quads' records come to its front; `quads` reads them.
     pub quads: &'a mut [u32],
     /// Three u32 a slot: the triangles that are left come to its front.
     pub triangles: &'a mut [u32],
@@ -293,6 +301,17 @@ fn answered(number: usize, a: [usize; ANSWER]) -> Result<Answer, Refusal> {
         points: a[11],
         components: a[12],
     })
+}
+
+/// The first `count` quads of a slice.
+pub fn quads(records: &[u32], count: usize) -> impl Iterator<Item = Quad> + '_ {
+    let quad = |q: &[u32]| Quad {
+        nodes: [q[0], q[1], q[2], q[3]],
+        edge: [q[4], q[5]],
+        round: q[6],
+        replaced: q[7],
+    };
+    records.chunks_exact(QUAD_WORDS).take(count).map(quad)
 }
 
 /// A mesh that is filed. Any numbers are safe: those that do not fit are refused. Each slice may be longer than they need, and what the work holds does not

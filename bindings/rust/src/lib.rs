@@ -9,7 +9,8 @@
 //! let points = [[0.0, 0.0, 0.0], [1.0, 0.0, 0.0], [1.0, 1.0, 0.0], [0.0, 1.0, 0.0]];
 //! let triangles = [[0, 1, 2], [0, 2, 3]];
 //! let mesh = run_front(&points, &triangles, 1.0, Stop::Exhaust)?;
-//! assert_eq!(mesh.quads, [[0, 1, 2, 3]]);
+//! assert_eq!(mesh.quads[0].nodes, [0, 1, 2, 3]);
+//! assert_eq!((mesh.quads[0].edge, mesh.quads[0].round, mesh.quads[0].replaced), ([0, 1], 1, 2));
 //! assert!(mesh.triangles.is_empty());
 //! assert_eq!(mesh.counts.attempts, 1);
 //!
@@ -142,13 +143,26 @@ pub struct Counts {
     pub limit: usize,
 }
 
-/// A finished mesh.
+/// A quad, and how it came about.
+#[derive(Clone, Copy, Debug, PartialEq, Eq, Hash)]
+pub struct Quad {
+    /// Counterclockwise.
+    pub nodes: [u32; 4],
+    /// The front edge that it grew from, which is that between its first two nodes, the smaller one first.
+    pub edge: [u32; 2],
+    /// The round that placed it, counted from 1.
+    pub round: u32,
+    /// How many triangles it replaced.
+    pub replaced: u32,
+}
+
+/// A finished mesh. The triangles that are left are as many as the given ones and two for each added point, less what the quads replaced.
 #[derive(Clone, Debug, Default, PartialEq)]
 pub struct Mesh {
     /// The given points, then the added ones in order of insertion.
     pub points: Vec<[f64; 3]>,
     /// Each convex and counterclockwise, in the order in which they were placed.
-    pub quads: Vec<[u32; 4]>,
+    pub quads: Vec<Quad>,
     /// The triangles that are left.
     pub triangles: Vec<[u32; 3]>,
     /// The sizes of their components, descending.
@@ -223,7 +237,7 @@ fn attempt(
     };
     let mut xyz: Vec<f64> = points.iter().flatten().copied().collect();
     xyz.resize(xyz.len().max(3 * lend.capacity), 0.0);
-    let mut quads = vec![0; 4 * lend.slots];
+    let mut quads = vec![0; lend.quads_len()];
     let mut left = vec![0; 3 * lend.slots];
     let mut components = vec![0; lend.slots];
     let memory = Memory {
@@ -248,11 +262,7 @@ fn attempt(
             .take(answer.points)
             .map(|p| [p[0], p[1], p[2]])
             .collect(),
-        quads: quads
-            .chunks_exact(4)
-            .take(answer.quads)
-            .map(|q| [q[0], q[1], q[2], q[3]])
-            .collect(),
+        quads: lent::quads(&quads, answer.quads).collect(),
         triangles: left
             .chunks_exact(3)
             .take(answer.triangles)

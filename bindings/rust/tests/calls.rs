@@ -1,7 +1,7 @@
 //! Calls over the linked library: document 01's table, every refusal, and memory that grows.
 
 use sedgepick::lent::{self, Call, Memory};
-use sedgepick::{run_front, Refusal, Stop, MOST_CAPACITY, MOST_SLOTS};
+use sedgepick::{run_front, Mesh, Quad, Refusal, Stop, MOST_CAPACITY, MOST_SLOTS};
 
 const SQUARE: [[f64; 3]; 4] = [
     [0.0, 0.0, 0.0],
@@ -22,7 +22,13 @@ fn no_triangles() {
 fn the_square_under_both_rules() {
     for stop in [Stop::Exhaust, Stop::EvenComponents] {
         let mesh = run_front(&SQUARE, &HALVES, 1.0, stop).unwrap();
-        assert_eq!(mesh.quads, [[0, 1, 2, 3]]);
+        let quad = Quad {
+            nodes: [0, 1, 2, 3],
+            edge: [0, 1],
+            round: 1,
+            replaced: 2,
+        };
+        assert_eq!(mesh.quads, [quad]);
         assert_eq!(mesh.points, SQUARE);
         assert_eq!(
             (
@@ -86,6 +92,17 @@ fn refused_before_a_run() {
 
 /// The square with lent memory of so many points and slots, every slice so much shorter.
 fn lend(capacity: usize, slots: usize, stop: u32, less: usize) -> Result<lent::Answer, Refusal> {
+    lend_quads(capacity, slots, stop, less, less)
+}
+
+/// The same with another length of the quads' slice.
+fn lend_quads(
+    capacity: usize,
+    slots: usize,
+    stop: u32,
+    less: usize,
+    less_quads: usize,
+) -> Result<lent::Answer, Refusal> {
     let call = Call {
         given: 4,
         capacity,
@@ -99,7 +116,7 @@ fn lend(capacity: usize, slots: usize, stop: u32, less: usize) -> Result<lent::A
     let short = |n: usize| vec![7; n - less];
     let memory = Memory {
         points: &mut points,
-        quads: &mut short(4 * slots),
+        quads: &mut vec![7; call.quads_len() - less_quads],
         triangles: &mut short(3 * slots),
         components: &mut short(slots),
         work: &mut short(call.work_len()),
@@ -114,6 +131,8 @@ fn lent_memory() {
     assert_eq!(lend(4, 2, 0, 0), Err(Refusal::NoSlots));
     assert_eq!(lend(4, 3, 2, 0), Err(Refusal::BadStop));
     assert_eq!(lend(4, 3, 0, 1), Err(Refusal::TooShort));
+    assert_eq!(lend_quads(4, 3, 0, 0, 1), Err(Refusal::TooShort));
+    assert_eq!(lend_quads(4, 3, 0, 0, 12), Err(Refusal::TooShort));
     assert_eq!(lend(3, 3, 0, 0), Err(Refusal::TooShort));
     assert_eq!(lend(4, 1, 0, 0), Err(Refusal::TooShort));
     assert_eq!(lend(4, MOST_SLOTS + 1, 2, 0), Err(Refusal::OverLimit));
@@ -160,9 +179,10 @@ fn memory_grows() {
     };
     let mut most = vec![0.0; 3 * call.capacity];
     most[..360].copy_from_slice(points.as_flattened());
+    let mut records = vec![7; call.quads_len()];
     let memory = Memory {
         points: &mut most,
-        quads: &mut vec![0; 4 * call.slots],
+        quads: &mut records,
         triangles: &mut vec![0; 3 * call.slots],
         components: &mut vec![0; call.slots],
         work: &mut vec![0; call.work_len()],
@@ -179,6 +199,27 @@ fn memory_grows() {
         (mesh.counts, mesh.quads.len())
     );
     assert_eq!(&most[..3 * answer.points], mesh.points.as_flattened());
+    let quads: Vec<Quad> = lent::quads(&records, answer.quads).collect();
+    assert_eq!(quads, mesh.quads);
+    assert!(records[lent::QUAD_WORDS * answer.quads..]
+        .iter()
+        .all(|&n| n == 7));
+    births(&triangles, &mesh);
+}
+
+/// Edges and rounds of the quads, and how many triangles they replaced.
+fn births(triangles: &[[u32; 3]], mesh: &Mesh) {
+    for (k, quad) in mesh.quads.iter().enumerate() {
+        let [a, b, ..] = quad.nodes;
+        assert_eq!(quad.edge, [a.min(b), a.max(b)]);
+        assert_eq!(quad.round as usize, k + 1);
+        assert!(quad.replaced > 0);
+    }
+    let replaced: usize = mesh.quads.iter().map(|q| q.replaced as usize).sum();
+    assert_eq!(
+        mesh.triangles.len() + replaced,
+        triangles.len() + 2 * mesh.counts.mismatch_insertions
+    );
 }
 
 #[test]

@@ -42,7 +42,8 @@ fn areas<const N: usize>(points: &[[f64; 3]], cells: &[[u32; N]]) -> u64 {
 fn kept(points: &[[f64; 3]], triangles: &[[u32; 3]], options: &Options<'_>) -> Mesh {
     let mesh = run_front_with(points, triangles, options).unwrap();
     assert_eq!(mesh.points, points);
-    let after = areas(points, &mesh.quads) + areas(points, &mesh.triangles);
+    let quads: Vec<[u32; 4]> = mesh.quads.iter().map(|q| q.nodes).collect();
+    let after = areas(points, &quads) + areas(points, &mesh.triangles);
     assert_eq!(areas(points, triangles), after);
     mesh
 }

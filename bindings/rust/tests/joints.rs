@@ -24,7 +24,7 @@ fn stands(mesh: &Mesh, joint: [u32; 2]) -> bool {
         let is = |a: u32, b: u32| [a, b] == joint || [b, a] == joint;
         (0..cell.len()).any(|i| is(cell[i], next(i)))
     };
-    mesh.quads.iter().any(|q| beside(q)) || mesh.triangles.iter().any(|t| beside(t))
+    mesh.quads.iter().any(|q| beside(&q.nodes)) || mesh.triangles.iter().any(|t| beside(t))
 }
 
 fn with(joints: &[[u32; 2]], stop: Stop) -> Options<'_> {
@@ -95,7 +95,7 @@ fn lent_joints() {
         };
         let memory = Memory {
             points: &mut [x, 0.0, 0.0, 1.0, 0.0, 0.0, 0.0, 1.0, 0.0],
-            quads: &mut [7; 16],
+            quads: &mut [7; 32],
             triangles: &mut [7; 12],
             components: &mut [7; 4],
             work: &mut [7; 64 * 4 + 8 * 3],

@@ -1,7 +1,7 @@
 //! Quality sets over the linked library: the standard one, others, and those that are refused.
 
 use sedgepick::lent::{self, Call, Further, Memory, Set};
-use sedgepick::{run_front, run_front_with, Options, Quality, QualityBuilder, Refusal, Stop};
+use sedgepick::{run_front, run_front_with, Options, Quad, Quality, QualityBuilder, Refusal, Stop};
 use sedgepick::{COSINES, JACOBIANS, PAIRS, SIDES};
 
 /// A grid of so many squares a side, its inner points moved.
@@ -29,11 +29,11 @@ fn grid(side: u32) -> (Vec<[f64; 3]>, Vec<[u32; 3]>) {
 }
 
 /// Cosine and sine of each corner of the quads.
-fn corners(points: &[[f64; 3]], quads: &[[u32; 4]]) -> Vec<(f64, f64)> {
+fn corners(points: &[[f64; 3]], quads: &[Quad]) -> Vec<(f64, f64)> {
     let mut out = Vec::new();
     for quad in quads {
         for k in 0..4 {
-            let at = |i: usize| points[quad[(k + i) % 4] as usize];
+            let at = |i: usize| points[quad.nodes[(k + i) % 4] as usize];
             let (here, next, last) = (at(0), at(1), at(3));
             let u = [next[0] - here[0], next[1] - here[1]];
             let v = [last[0] - here[0], last[1] - here[1]];

@@ -37,7 +37,7 @@ fn mixed_run(start: u64, given: usize, list: Triangles, s: usize) -> u64
     let sizes = SIZES;
     let mut points = placed(s / 16);
     let triangles = list.nodes;
-    let mut quads = [UNUSED; 192];
+    let mut quads = [UNUSED; 384];
     let mut out = [UNUSED; 144];
     let mut components = [UNUSED; 48];
     let mut work = [0u32; 3264];

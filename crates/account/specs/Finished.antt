@@ -105,7 +105,7 @@ module _ (a : Asked) (l : Lent) (passed : find (λ c. c .1) (conditions a l) ≡
       ltb (length (l .points)) (3 * a .capacity)
       || ltb (length (l .triangles)) (3 * a .count)
       || ltb (length (l .joints)) (2 * a .joints)
-      || ltb (length (l .quads)) (4 * a .slots)
+      || ltb (length (l .quads)) (8 * a .slots)
       || ltb (length (l .triangles-out)) (3 * a .slots)
       || ltb (length (l .components)) (a .slots)
       || ltb (length (l .work)) (slot-words * a .slots + point-words * a .capacity)

@@ -16,6 +16,7 @@ use Rattle.account.specs.Start.{Proper, start-valid}
 use Rattle.account.specs.Parity.{triangles-good}
 use Rattle.account.specs.Rooms.{Fits, fits-rule, start-fits}
 use Rattle.account.specs.Quads.{All-rated, rated-rule}
+use Rattle.account.specs.Placed.{In-rounds, rounds-rule, start-rounds}
 use Rattle.account.specs.Fits.{triangles-number, sizes-number, quads-rule}
 use Rattle.account.specs.Tracked.{Tracked}
 use Rattle.account.specs.Records.{tracked-rule, start-tracked}
@@ -34,6 +35,8 @@ pub record Good (s : Settings) (lk : Edge → Bool) (given : ℕ) (m : Mesh) (qu
   pub quads-fit : given + length quads ≤ m .used
   -- every quad was rated by the points as they are
   pub rated : All-rated (s .quality) (m .points) quads
+  -- the quads were placed in the rounds 1, 2, ..
+  pub in-rounds : In-rounds m quads
   -- the different edges are at most three for each slot in use
   pub tracked : Tracked m es
 
@@ -51,8 +54,8 @@ module _ (s : Settings) (lk : Edge → Bool) (given : ℕ) (fs : List Edge) wher
   abbrev pub R : State → Type 0
   R st = Good s lk given (st .mesh) (st .quads) fs
 
-  all-of : {m : Mesh} {qs : List Quad} → Fits s m → m .locked ≡ lk → given + length qs ≤ m .used → All-rated (s .quality) (m .points) qs → Tracked m fs → Good s lk given m qs fs
-  all-of a k b c d = record { fits = a; locked = k; quads-fit = b; rated = c; tracked = d }
+  all-of : {m : Mesh} {qs : List Quad} → Fits s m → m .locked ≡ lk → given + length qs ≤ m .used → All-rated (s .quality) (m .points) qs → In-rounds m qs → Tracked m fs → Good s lk given m qs fs
+  all-of a k b c o d = record { fits = a; locked = k; quads-fit = b; rated = c; in-rounds = o; tracked = d }
 
   -- every state of a run is good
   pub good-rule : Rule s Q P R
@@ -61,18 +64,20 @@ module _ (s : Settings) (lk : Edge → Bool) (given : ℕ) (fs : List Edge) wher
       let a = fits-rule s in
       let b = quads-rule s given in
       let c = rated-rule s in
+      let o = rounds-rule s in
       let d = tracked-rule s fs in
       record {
-        opens = λ st es ok h o. h;
+        opens = λ st es ok h f. h;
         begins = λ st es h. h;
-        flips = λ st es n m m′ e ok h i f. all-of (a .flips st es n m m′ e ok (h .fits) i f) (flip-locked m e m′ f ∙ h .locked) (b .flips st es n m m′ e ok (h .quads-fit) i f) (c .flips st es n m m′ e ok (h .rated) i f) (d .flips st es n m m′ e ok (h .tracked) i f);
-        splits = λ st es n m x t p ok h w. all-of (a .splits st es n m x t p ok (h .fits) w) (split-locked m (x .slot) t p ∙ h .locked) (b .splits st es n m x t p ok (h .quads-fit) w) (c .splits st es n m x t p ok (h .rated) w) (d .splits st es n m x t p ok (h .tracked) w);
+        flips = λ st es n m m′ e ok h i f. all-of (a .flips st es n m m′ e ok (h .fits) i f) (flip-locked m e m′ f ∙ h .locked) (b .flips st es n m m′ e ok (h .quads-fit) i f) (c .flips st es n m m′ e ok (h .rated) i f) (o .flips st es n m m′ e ok (h .in-rounds) i f) (d .flips st es n m m′ e ok (h .tracked) i f);
+        splits = λ st es n m x t p ok h w. all-of (a .splits st es n m x t p ok (h .fits) w) (split-locked m (x .slot) t p ∙ h .locked) (b .splits st es n m x t p ok (h .quads-fit) w) (c .splits st es n m x t p ok (h .rated) w) (o .splits st es n m x t p ok (h .in-rounds) w) (d .splits st es n m x t p ok (h .tracked) w);
         refuses = λ st e es why n m h ok w. w;
         places = λ st e es n m q h w. all-of
             (a .places st e es n m q (h .fits) (made-weaker s _ _ (λ n m k. (k .0, k .1 .fits)) (n .insertions) m q w))
             (ap (λ k. k .locked) (w .after) ∙ replaced-locked (w .mesh) q (w .cells) ∙ w .before .1 .locked)
             (b .places st e es n m q (h .quads-fit) (made-weaker s _ _ (λ n m k. (k .0, k .1 .quads-fit)) (n .insertions) m q w))
             (c .places st e es n m q (h .rated) (made-weaker s _ _ (λ n m k. (k .0, k .1 .rated)) (n .insertions) m q w))
+            (o .places st e es n m q (h .in-rounds) (made-weaker s _ _ (λ n m k. (k .0, k .1 .in-rounds)) (n .insertions) m q w))
             (d .places st e es n m q (h .tracked) (made-weaker s _ _ (λ n m k. (k .0, k .1 .tracked)) (n .insertions) m q w));
         ends = λ st e es n m h ok w. w;
         limits = λ st es h. h;
@@ -84,7 +89,7 @@ pub start-good : (s : Settings) (lk : Edge → Bool) (ts : List Tri) (ps : List 
     → Sound (Q s lk (length ts) []) (start s lk ts ps) []
 unfolding start new-mesh
 start-good s lk ts ps h a b =
-    (start-valid s lk ts ps h, record { fits = start-fits s lk ts ps a b; locked = refl; quads-fit = omega arith; rated = λ q i. absurd i; tracked = start-tracked s lk ts ps })
+    (start-valid s lk ts ps h, record { fits = start-fits s lk ts ps a b; locked = refl; quads-fit = omega arith; rated = λ q i. absurd i; in-rounds = start-rounds s lk ts ps; tracked = start-tracked s lk ts ps })
 
 -- ---- what comes back fits its slices
 

@@ -18,6 +18,8 @@ use Rattle.account.specs.Start.{Proper}
 use Rattle.account.specs.Counting.{counted, points-given, points-added}
 use Rattle.account.specs.Parity.{leftover}
 use Rattle.account.specs.Quads.{quads-rated}
+use Rattle.account.specs.Births.{all-replaced, left-number}
+use Rattle.account.specs.Placed.{quads-in-rounds}
 use Rattle.account.specs.Geometry.{Geometry, All-within, points-within, Sound-quad, sound-quad}
 use Rattle.account.specs.Slices.{read-points, read-quads, read-triangles, read-sizes}
 use Rattle.account.specs.Finished.{behind, permitted, sized, given-proper, given-within}
@@ -27,7 +29,7 @@ module _ (geometry : Geometry) where
   pub result-kept : (a : Asked) (lk : Edge → Bool) (ts : List Tri) (ps : List Node) (r : Result) → Limit (a .quality .largest-cosine) → bad-size a ≡ false → Proper ps ts → All-within ps
       → run-front (settings a) lk ts ps ≡ ran r
       → Account ps ts (a .stop) (a .quality) (r .counts) (r .points) (r .quads) (r .triangles) (r .sizes)
-  unfolding settings
+  unfolding settings all-replaced
   result-kept a lk ts ps r limit size proper near e =
       let s = settings a in
       let c = counted s ps lk ts r proper e in
@@ -44,6 +46,9 @@ module _ (geometry : Geometry) where
         quads-convex = all-from (r .quads) (λ q i. sound q i .convex);
         quads-cosines = all-from (r .quads) (λ q i. sound q i .cosines);
         quads-corners = λ e. all-from (r .quads) (λ q i. sound q i .wide e);
+        quads-edges = all-from (r .quads) (λ q i. rated q i .grown);
+        quads-rounds = quads-in-rounds s lk ts ps r proper e;
+        left-over = left-number s lk ts ps r proper e;
         sizes-right = k .right;
         sizes-sum = k .adds-up;
         even = λ stop. k .even (eq-eqb (a .stop) 1 stop);

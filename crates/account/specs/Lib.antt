@@ -28,6 +28,8 @@ pub mod Rooms
 pub mod Quads
 pub mod Geometry
 pub mod Locked
+pub mod Births
+pub mod Placed
 -- a finished call
 pub mod Slices
 pub mod Finished
@@ -45,6 +47,7 @@ pub mod Refused
 pub mod Tracked
 pub mod Records
 pub mod Pairs
+pub mod Grown
 pub mod Owners
 -- for the proofs of the code
 pub mod Fits

@@ -139,7 +139,7 @@ module _ (s : Settings) (e : Edge) where
 
   -- what a pair leaves
   abbrev Fine : Tried → Type 0
-  Fine (made m) = Unit {0}
+  Fine (made q m) = Unit {0}
   Fine (failed why m) = (why ≢ Placement) × Owned 0 m
   Fine orphaned = ⊥
   Fine (no-slot m) = Unit {0}
@@ -166,7 +166,7 @@ module _ (s : Settings) (e : Edge) where
   pairs-case : (n : Spent) (m : Mesh) (last : Refusal) (t : Trial) (ts : List Trial) (r : Tried) → try-pair s m (t .nodes) (tri-owner m e) ≡ r → Fine r
       → ((why : Refusal) (m′ : Mesh) → why ≢ Placement → Owned 0 m′ → By-pair (try-pairs s n m′ e why ts)) → By-pair (try-pairs s n m e last (t ∷ ts))
   unfolding try-pairs
-  pairs-case n m last t ts (made m′) f h next = rw (f, try-pairs) tt
+  pairs-case n m last t ts (made q m′) f h next = rw (f, try-pairs) tt
   pairs-case n m last t ts (failed why m′) f h next = rw (f, try-pairs) (next why m′ (h .0) (h .1))
   pairs-case n m last t ts orphaned f h next = absurd h
   pairs-case n m last t ts (no-slot m′) f h next = rw (f, try-pairs) tt

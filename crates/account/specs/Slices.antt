@@ -9,9 +9,9 @@ use lib.Seq.{getD-append-add, take-append-seam}
 use Rattle.definition.specs.Lists.{flat-map, table, numbers, below}
 use Rattle.definition.specs.Floats.{0·0}
 use Rattle.definition.specs.Plane.{Node}
-use Rattle.definition.specs.Cells.{Tri, Quad, new-tri, tri-nodes, quad-nodes}
+use Rattle.definition.specs.Cells.{Tri, Quad, new-tri, tri-nodes}
 use Rattle.definition.specs.Front.{Result}
-use Rattle.definition.specs.Call.{Lent, Lengths, coordinates, onto, point-at, tri-at, quad-at, first-points, first-tris, first-quads, lengths, written}
+use Rattle.definition.specs.Call.{Lent, Lengths, coordinates, onto, point-at, tri-at, quad-at, quad-words, first-points, first-tris, first-quads, lengths, written}
 
 -- ---- rows of one width
 
@@ -61,16 +61,20 @@ tris-back = read-back 3 tri-at tri-nodes (λ t. refl)
     let e2 = entry 0 pre l (3 * i + 2) 2 (omega arith) in
     λ j. record { n0 = e0 j; n1 = e1 j; n2 = e2 j })
 
-pub quads-back : (qs : List Quad) (old : List ℕ) → first-quads (length qs) (onto (flat-map quad-nodes qs) old) ≡ qs
-unfolding first-quads quad-nodes quad-at
-quads-back = read-back 4 quad-at quad-nodes (λ q. refl)
+pub quads-back : (qs : List Quad) (old : List ℕ) → first-quads (length qs) (onto (flat-map quad-words qs) old) ≡ qs
+unfolding first-quads quad-words quad-at
+quads-back = read-back 8 quad-at quad-words (λ q. refl)
     (λ pre rest i q e.
-    let l = q .n0 ∷ q .n1 ∷ q .n2 ∷ q .n3 ∷ rest in
-    let e0 = entry 0 pre l (4 * i) 0 (omega arith) in
-    let e1 = entry 0 pre l (4 * i + 1) 1 (omega arith) in
-    let e2 = entry 0 pre l (4 * i + 2) 2 (omega arith) in
-    let e3 = entry 0 pre l (4 * i + 3) 3 (omega arith) in
-    λ j. record { n0 = e0 j; n1 = e1 j; n2 = e2 j; n3 = e3 j })
+    let l = q .n0 ∷ q .n1 ∷ q .n2 ∷ q .n3 ∷ q .edge .0 ∷ q .edge .1 ∷ q .round ∷ q .replaced ∷ rest in
+    let e0 = entry 0 pre l (8 * i) 0 (omega arith) in
+    let e1 = entry 0 pre l (8 * i + 1) 1 (omega arith) in
+    let e2 = entry 0 pre l (8 * i + 2) 2 (omega arith) in
+    let e3 = entry 0 pre l (8 * i + 3) 3 (omega arith) in
+    let e4 = entry 0 pre l (8 * i + 4) 4 (omega arith) in
+    let e5 = entry 0 pre l (8 * i + 5) 5 (omega arith) in
+    let e6 = entry 0 pre l (8 * i + 6) 6 (omega arith) in
+    let e7 = entry 0 pre l (8 * i + 7) 7 (omega arith) in
+    λ j. record { n0 = e0 j; n1 = e1 j; n2 = e2 j; n3 = e3 j; edge = (e4 j, e5 j); round = e6 j; replaced = e7 j })
 
 pub numbers-back : (ns old : List ℕ) → take (length ns) (onto ns old) ≡ ns
 unfolding onto

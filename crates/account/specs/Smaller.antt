@@ -94,7 +94,7 @@ module _ (k : ℕ) (s : Settings) where
   pairs-case : (n : Spent) (m : Mesh) (e : Edge) (last : Refusal) (t : Trial) (ts : List Trial) (r : Tried) → try-pair s m (t .nodes) (tri-owner m e) ≡ r
       → ((m : Mesh) (last : Refusal) → try-pairs s′ n m e last ts ≡ try-pairs s n m e last ts) → try-pairs s′ n m e last (t ∷ ts) ≡ try-pairs s n m e last (t ∷ ts)
   unfolding try-pairs
-  pairs-case n m e last t ts (made m′) f next = rw (pair-same m (t .nodes) (tri-owner m e), f, try-pairs) refl
+  pairs-case n m e last t ts (made q m′) f next = rw (pair-same m (t .nodes) (tri-owner m e), f, try-pairs) refl
   pairs-case n m e last t ts (failed why m′) f next = rw (pair-same m (t .nodes) (tri-owner m e), f, try-pairs) (next m′ why)
   pairs-case n m e last t ts orphaned f next = rw (pair-same m (t .nodes) (tri-owner m e), f, try-pairs) refl
   pairs-case n m e last t ts (no-slot m′) f next = rw (pair-same m (t .nodes) (tri-owner m e), f, try-pairs) refl

@@ -13,17 +13,18 @@ use lib.Ieee.{Float}
 use borrow.Author.Tests.{leb-false, ltb-false}
 use Rattle.definition.specs.Lists.{below}
 use Rattle.definition.specs.Floats.{_⊗_, _≼_}
-use Rattle.definition.specs.Numbers.{Settings, Turn, first-turn, second-turn, insert-shares, node-spacing, tiny-length}
+use Rattle.definition.specs.Numbers.{Quality, Settings, Turn, first-turn, second-turn, insert-shares, node-spacing, tiny-length}
 use Rattle.definition.specs.Counts.{Refusal, Recovery, Spent, nothing-spent, inserting}
 use Rattle.definition.specs.Plane.{Node, Vec, Edge, norm, from-to, edge-length, size-mismatch}
-use Rattle.definition.specs.Cells.{Tri, Quad, Cell, tri, quad, Live, Mesh, node-at, cell-of, tri-owner, has-edge, all-edges, with-live, set-cell, push-cell}
+use Rattle.definition.specs.Cells.{Tri, Quad, Cell, tri, quad, Live, Mesh, quad-nodes, quad-edges, born, node-at, cell-of, tri-owner, this-round, has-edge, all-edges, with-live, set-cell, push-cell}
 use Rattle.definition.specs.Flips.{flip, flip-first, first-crossing, recover-in, recover}
 use Rattle.definition.specs.Candidates.{candidates}
 use Rattle.definition.specs.Insertion.{Inserted, nowhere, inserted, full, holds, holder, point-clear, slot-clear, with-point, split-triangle, split, split-clear, insert-near, along, insert-by, insert-along}
 use Rattle.definition.specs.Components.{removing-leaves-odd-component}
-use Rattle.definition.specs.Region.{region}
+use Rattle.definition.specs.Region.{cell-inside, area-agrees, fills, may-go, spares-locked, if-filled, region-from, region}
 use Rattle.definition.specs.Trials.{Trial, trials}
 use Rattle.definition.specs.Attempt.{Tried, made, failed, orphaned, no-slot, recover-all, replaced, replace, try-region, try-recovered, open-sides, try-pair, Attempt, placed, refused, ended, try-pairs, try-trials, Stance, Sides, found, missing, overfull, sides-by, sides-from, side-nodes, try-both, try-first, target-of, inward-normal, stance, try-along, lies-left, try-seed, try-owner, try-quad}
+use Rattle.definition.specs.Account.{measures}
 use Rattle.laws.specs.Bools.{which, or-none, cond-ok}
 use Rattle.laws.specs.Lists.{In, in-filter, known, in-below}
 use Rattle.account.specs.Ends.{tri-owns}
@@ -67,6 +68,8 @@ pub record Made (s : Settings) (P : ℕ → Mesh → Type 0) (n : ℕ) (m′ : M
   pub none-odd : s .even ≡ true → removing-leaves-odd-component mesh cells ≡ false
   pub slot-left : mesh .used + 1 ≤ s .slots
   pub trial : Rated (s .quality) (mesh .points) q
+  pub in-round : q .round ≡ this-round mesh
+  pub in-place-of : q .replaced ≡ length cells
   pub after : m′ ≡ replaced mesh q cells
 
 -- what an insertion leaves
@@ -81,12 +84,12 @@ Sides-ok P (found vs n m) = P (n .insertions) m × Below vs m
 Sides-ok P (missing n m) = P (n .insertions) m
 Sides-ok P (overfull w n m) = P (n .insertions) m
 
--- ps are the points by which the quad was rated
-abbrev pub Tried-ok : Settings → (ℕ → Mesh → Type 0) → ℕ → List Node → Quad → Tried → Type 0
-Tried-ok s P n ps q (made m) = Made s P n m q
-Tried-ok s P n ps q (failed why m) = P n m × (m .points ≡ ps)
-Tried-ok s P n ps q orphaned = Unit {0}
-Tried-ok s P n ps q (no-slot m) = P n m
+-- ps are the points by which the pair's quad was rated
+abbrev pub Tried-ok : Settings → (ℕ → Mesh → Type 0) → ℕ → List Node → Tried → Type 0
+Tried-ok s P n ps (made q m) = Made s P n m q
+Tried-ok s P n ps (failed why m) = P n m × (m .points ≡ ps)
+Tried-ok s P n ps orphaned = Unit {0}
+Tried-ok s P n ps (no-slot m) = P n m
 
 -- what an attempt leaves
 abbrev pub Attempt-ok : Settings → (ℕ → Mesh → Type 0) → Attempt → Type 0
@@ -217,25 +220,57 @@ module _ (s : Settings) (start : Mesh) (P : ℕ → Mesh → Type 0) (splits : S
 
 -- ---- pairs
 
+-- the birth changes neither the region nor what the quad was rated by
+pub born-rated : (y : Quality) (ps : List Node) (r k : ℕ) (q : Quad) → Rated y ps q → Rated y ps (born r k q)
+unfolding born quad-nodes measures
+born-rated y ps r k q h = record { good = record { distinct = h .good .distinct; below = h .good .below }; passing = h .passing; grown = h .grown }
+
+born-filled : (m : Mesh) (r k : ℕ) (q : Quad) (o : Option (List Live)) → if-filled m (born r k q) o ≡ if-filled m q o
+unfolding born if-filled fills cell-inside area-agrees spares-locked may-go quad-edges
+born-filled m r k q none = refl
+born-filled m r k q (some cells) = refl
+
+born-from : (m : Mesh) (r k : ℕ) (q : Quad) (o : Option Live) → region-from m (born r k q) o ≡ region-from m q o
+unfolding born region-from quad-edges
+born-from m r k q none = refl
+born-from m r k q (some x) = born-filled m r k q _
+
+pub born-region : (m : Mesh) (seed r k : ℕ) (q : Quad) → region m seed (born r k q) ≡ region m seed q
+unfolding region
+born-region m seed r k q = born-from m r k q (cell-of m seed)
+
 module _ (s : Settings) (P : ℕ → Mesh → Type 0) (flips : Flips-keep P) where
   replace-ok : (k : ℕ) (m : Mesh) (q : Quad) (seed : ℕ) (cells : List Live) → P k m → Tri-at m seed → Rated (s .quality) (m .points) q
       → region m seed q ≡ some cells
-      → (s .even ≡ true → removing-leaves-odd-component m cells ≡ false) → Tried-ok s P k (m .points) q (replace s m q cells)
-  unfolding replace
+      → (s .even ≡ true → removing-leaves-odd-component m cells ≡ false) → Tried-ok s P k (m .points) (replace s m q cells)
+  unfolding replace born
   replace-ok k m q seed cells h sd r e f =
-      cond-ok (Tried-ok s P k (m .points) q) (ltb (s .slots) (m .used + 1)) _ _ (λ z. h)
-      (λ z. record { mesh = m; before = h; seed = seed; seed-tri = sd; cells = cells; reached = e; none-odd = f; slot-left = ltb-false (s .slots) (m .used + 1) z; trial = r; after = refl })
+      cond-ok (Tried-ok s P k (m .points)) (ltb (s .slots) (m .used + 1)) _ _ (λ z. h)
+      (λ z. record {
+        mesh = m;
+        before = h;
+        seed = seed;
+        seed-tri = sd;
+        cells = cells;
+        reached = born-region m seed (this-round m) (length cells) q ∙ e;
+        none-odd = f;
+        slot-left = ltb-false (s .slots) (m .used + 1) z;
+        trial = born-rated (s .quality) (m .points) (this-round m) (length cells) q r;
+        in-round = refl;
+        in-place-of = refl;
+        after = refl;
+      })
 
   try-region-ok : (k : ℕ) (m : Mesh) (q : Quad) (seed : ℕ) (o : Option (List Live)) → P k m → Tri-at m seed → Rated (s .quality) (m .points) q
-      → region m seed q ≡ o → Tried-ok s P k (m .points) q (try-region s m q o)
+      → region m seed q ≡ o → Tried-ok s P k (m .points) (try-region s m q o)
   unfolding try-region
   try-region-ok k m q seed none h sd r e = (h, refl)
   try-region-ok k m q seed (some cells) h sd r e =
-      cond-ok (Tried-ok s P k (m .points) q) (s .even && removing-leaves-odd-component m cells) _ _ (λ z. (h, refl))
+      cond-ok (Tried-ok s P k (m .points)) (s .even && removing-leaves-odd-component m cells) _ _ (λ z. (h, refl))
       (λ z. replace-ok k m q seed cells h sd r e (λ ev. rw ev at z))
 
   try-pair-ok : (k : ℕ) (m : Mesh) (q : Quad) (o : Option Live) → P k m → Rated (s .quality) (m .points) q → ((x : Live) → o ≡ some x → Tri-at m (x .slot))
-      → Tried-ok s P k (m .points) q (try-pair s m q o)
+      → Tried-ok s P k (m .points) (try-pair s m q o)
   unfolding try-pair try-recovered
   try-pair-ok k m q none h r sd = tt
   try-pair-ok k m q (some x) h r sd =
@@ -244,15 +279,15 @@ module _ (s : Settings) (P : ℕ → Mesh → Type 0) (flips : Flips-keep P) whe
       recover-all-ok (λ n a. P n a × Tri-at a (x .slot) × (a .points ≡ m .points))
       (λ n a b e h i f. (flips n a b e (h .0) i f, flip-tri-at a e b (x .slot) f (h .1), flip-points a e b f ∙ h .2)) k m (open-sides q) (h, sd x refl, refl) in
       let r′ = subst (λ ps. Rated (s .quality) ps q) (sym (kept .2)) r in
-      cond-ok (Tried-ok s P k (m .points) q) (w .there) _ _
-      (λ z. subst (λ ps. Tried-ok s P k ps q (try-region s (w .mesh) q (region (w .mesh) (x .slot) q))) (kept .2) (try-region-ok k (w .mesh) q (x .slot) (region (w .mesh) (x .slot) q) (kept .0) (kept .1) r′ refl))
+      cond-ok (Tried-ok s P k (m .points)) (w .there) _ _
+      (λ z. subst (λ ps. Tried-ok s P k ps (try-region s (w .mesh) q (region (w .mesh) (x .slot) q))) (kept .2) (try-region-ok k (w .mesh) q (x .slot) (region (w .mesh) (x .slot) q) (kept .0) (kept .1) r′ refl))
       (λ z. (kept .0, kept .2))
 
   try-pairs-case : (k : Spent) (m : Mesh) (e : Edge) (last : Refusal) (t : Trial) (ts : List Trial) (r : Tried) → P (k .insertions) m
-      → try-pair s m (t .nodes) (tri-owner m e) ≡ r → Tried-ok s P (k .insertions) (m .points) (t .nodes) r
+      → try-pair s m (t .nodes) (tri-owner m e) ≡ r → Tried-ok s P (k .insertions) (m .points) r
       → ((why : Refusal) (m′ : Mesh) → P (k .insertions) m′ → m′ .points ≡ m .points → Attempt-ok s P (try-pairs s k m′ e why ts)) → Attempt-ok s P (try-pairs s k m e last (t ∷ ts))
   unfolding try-pairs
-  try-pairs-case k m e last t ts (made m′) h f ok next = rw (f, try-pairs) ok
+  try-pairs-case k m e last t ts (made q m′) h f ok next = rw (f, try-pairs) ok
   try-pairs-case k m e last t ts (failed why m′) h f ok next = rw (f, try-pairs) (next why m′ (ok .0) (ok .1))
   try-pairs-case k m e last t ts orphaned h f ok next = rw (f, try-pairs) h
   try-pairs-case k m e last t ts (no-slot m′) h f ok next = rw (f, try-pairs) ok
@@ -291,7 +326,7 @@ module _ (s : Settings) (start : Mesh) (P : ℕ → Mesh → Type 0) (vs : List 
 -- what holds with more holds
 pub made-weaker : (s : Settings) (P R : ℕ → Mesh → Type 0) → ((n : ℕ) (m : Mesh) → P n m → R n m) → (n : ℕ) (m : Mesh) (q : Quad) → Made s P n m q → Made s R n m q
 made-weaker s P R f n m q w =
-    record { mesh = w .mesh; before = f n (w .mesh) (w .before); seed = w .seed; seed-tri = w .seed-tri; cells = w .cells; reached = w .reached; none-odd = w .none-odd; slot-left = w .slot-left; trial = w .trial; after = w .after }
+    record { mesh = w .mesh; before = f n (w .mesh) (w .before); seed = w .seed; seed-tri = w .seed-tri; cells = w .cells; reached = w .reached; none-odd = w .none-odd; slot-left = w .slot-left; trial = w .trial; in-round = w .in-round; in-place-of = w .in-place-of; after = w .after }
 
 -- of an attempt
 pub weaker : (s : Settings) (P R : ℕ → Mesh → Type 0) → ((n : ℕ) (m : Mesh) → P n m → R n m) → (a : Attempt) → Attempt-ok s P a → Attempt-ok s R a

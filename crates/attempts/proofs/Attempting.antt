@@ -4,7 +4,7 @@ use mathlib.Core.Bool.{Bool, true, false, not, _||_}
 use mathlib.Core.Logic.{inl, inr, _≢_}
 use mathlib.Core.List.{List, [], _∷_, _++_}
 use Prim.{⊥, absurd, tt}
-use Prim.Native.Nat.{ℕ, _+_, _-_, _*_, _^_, _<_, _≤_}
+use Prim.Native.Nat.{ℕ, suc, _+_, _-_, _*_, _^_, _<_, _≤_}
 use native.Mathlib.Omega.{arith}
 use lib.Dec.{ltb}
 use lib.Ieee.{Float}
@@ -15,9 +15,10 @@ use Rattle.definition.specs.Lists.{flat-map}
 use Rattle.definition.specs.Numbers.{max-attempts, max-triangles}
 use Rattle.definition.specs.Counts.{Counts, tally, _⊞_, one-attempt, Spent, nothing-spent, spending, at-limit, Refusal, Placement, refused-by, Want, of-points, of-slots}
 use Rattle.definition.specs.Plane.{Node, Edge}
-use Rattle.definition.specs.Cells.{Mesh, Quad, new-quad, quad-nodes, key, is-front, live-tris, same-edge, has-edge-in}
+use Rattle.definition.specs.Cells.{Mesh, Quad, new-quad, born, quad-nodes, key, is-front, live-tris, same-edge, has-edge-in}
 use Rattle.definition.specs.Attempt.{Attempt, placed, refused, ended, try-quad}
 use Rattle.definition.specs.Front.{State, counting, freed, after, make-attempt, past-limit, attempt}
+use Rattle.definition.specs.Call.{quad-words}
 use Rattle.definition.specs.Account.{All, Pairwise}
 use Rattle.laws.specs.Bools.{which, never}
 use Rattle.laws.specs.Lists.{In, all-from, in-right, none-in}
@@ -28,6 +29,8 @@ use Rattle.joints.specs.Table.{Locks}
 use Rattle.rules.specs.declared.Rules.{Rules}
 use Rattle.rules.specs.Settings.{settings-of}
 use Rattle.account.specs.Run.{Progress-ok}
+use Rattle.account.specs.Grown.{Grown, attempt-grown}
+use Rattle.account.specs.Placed.{last-round}
 use Rattle.account.specs.Reach.{by-refusal, by-quad, Reached-state, records-fit}
 use Rattle.cells.specs.Layout.{refused-at, mesh-end}
 use Rattle.cells.specs.Walk as Walk
@@ -42,7 +45,7 @@ use Rattle.blocked_edges.proofs.Edges.{with-old, with-new}
 use Rattle.blocked_edges.proofs.Room.{with-distinct}
 use Rattle.blocked_edges.proofs.Framing.{framed}
 use Rattle.outcomes.specs.Ready.{Ready, Behind, Beyond}
-use Rattle.outcomes.specs.Ends.{only-inserted, spent-of, end-of, Plain, Left, AttemptTo}
+use Rattle.outcomes.specs.Ends.{only-inserted, spent-of, end-of, quad-of, Grew, Plain, Left, AttemptTo}
 use Rattle.outcomes.specs.declared.Tried.{Tried}
 use Rattle.outcomes.specs.declared.End.the-variants as ends
 use Rattle.settling.specs.declared.standing.Standing.{Standing}
@@ -50,7 +53,7 @@ use Rattle.settling.specs.declared.standing.Step.{Step}
 use Rattle.settling.specs.declared.standing.Going.the-variants as goings
 use Rattle.try_quad.specs.Tries.{CanAttempt}
 use Rattle.settling.specs.Standings.{counts-of, sort-of, FewTally, CountedOne, CountsMore}
-use Rattle.settling.specs.Settles.{Kept-so-far, QuadFits, CanSettle, SettleTo}
+use Rattle.settling.specs.Settles.{Kept-so-far, QuadFits, next-quad, CanSettle, SettleTo}
 use Rattle.attempts.specs.Runs.{Setup, Fixed, Holds, Goes, FrontKept, Makes, Stepped, StepTo}
 use Rattle.settling.proofs.Texts.{numbers-length, onto-length}
 use Rattle.settling.proofs.Settling.{sort-of-refusal, sort-of-want, want-sort}
@@ -160,9 +163,13 @@ counted-number : (c : Counts) → (c ⊞ one-attempt) .mismatch-insertions ≡ c
 unfolding _⊞_ tally one-attempt
 counted-number c = omega arith
 
-quad-below : (n a b c d : ℕ) → All (λ i. i < n) (quad-nodes (new-quad a b c d)) → (a < n) × (b < n) × (c < n) × (d < n)
-unfolding quad-nodes new-quad
-quad-below n a b c d h = (h .0, h .1 .0, h .1 .1 .0, h .1 .1 .1 .0)
+quad-below : (n round : ℕ) (t : Tried) → All (λ i. i < n) (quad-nodes (quad-of round t)) → (t .n0 < n) × (t .n1 < n) × (t .n2 < n) × (t .n3 < n)
+unfolding quad-nodes born new-quad
+quad-below n round t h = (h .0, h .1 .0, h .1 .1 .0, h .1 .1 .1 .0)
+
+quad-edge : (round : ℕ) (t : Tried) → quad-of round t .edge ≡ key (t .n0) (t .n1)
+unfolding born new-quad
+quad-edge round t = refl
 
 last-in : {A : Type 0} (xs : List A) (a : A) → In a (xs ++ a ∷ [])
 last-in xs a = in-right a xs (a ∷ []) (inl refl)
@@ -202,6 +209,10 @@ module _ (x : Setup) (w : List ℕ) (q : List Float) (quads : List ℕ) (g : Sta
   pub can-attempt : CanAttempt w q (x .rules) (g .counters) u v (st .mesh)
   can-attempt = record { ready = ready; up = up; known = omega (arith, known, ready .counted .points); pairs = ready .small .pairs }
 
+  -- a quad of the attempt grows from its edge
+  pub grows : Grown (u, v) (try-quad (settings-of (x .rules)) (st .mesh) (u, v))
+  grows = attempt-grown (settings-of (x .rules)) (st .mesh) (u, v) up
+
   -- an attempt not past the limits is made
   made : attempt (settings-of (x .rules)) (x .rules .given) st (u, v) ≡ make-attempt (settings-of (x .rules)) (counting st one-attempt) (u, v)
   unfolding attempt settings-of
@@ -237,7 +248,7 @@ module _ (x : Setup) (w : List ℕ) (q : List Float) (quads : List ℕ) (g : Sta
 
   quads-long : length quads ≡ length (x .begun .old)
   unfolding counting
-  quads-long = ap length (k .holds .so-far .text) ∙ onto-length (flat-map quad-nodes (st .quads)) (x .begun .old) (omega (arith, numbers-length (st .quads), quads-few, fx .room))
+  quads-long = ap length (k .holds .so-far .text) ∙ onto-length (flat-map quad-words (st .quads)) (x .begun .old) (omega (arith, numbers-length (st .quads), quads-few, fx .room))
 
   -- ---- with its end
 
@@ -301,14 +312,30 @@ module _ (x : Setup) (w : List ℕ) (q : List Float) (quads : List ℕ) (g : Sta
     unfolding after counting
     placed-fine l = fine-few (m .points) (n .insertions) _ (fine (placed n m h) ran .1) (made-mismatch (st .counts) n) l
 
-    placed-fits : (a b c d : ℕ) → new-quad a b c d ≡ h → length (m .points) ≤ x .rules .capacity → QuadFits quads (x .rules .slots) (x .rules .capacity) (length (st .quads)) a b c d
+    after-quad : Reached-state (settings-of (x .rules)) (x .begun .locked) (x .begun .ts) (x .begun .ps) placed-state (k .reaches .old) []
+    after-quad = sound x fx placed-state (k .reaches .old) [] placed-reach
+
+    -- the quad's round is the one after those of the quads before
+    placed-next : (t : Tried) → Grew h t → next-quad (st .quads) t ≡ h
+    placed-next t w = ap (λ (z : ℕ). quad-of z t) (sym (last-round m (st .quads) h (after-quad .good .in-rounds))) ∙ w .quad
+
+    placed-fits : (t : Tried) → Grew h t → h .edge ≡ (u, v) → length (m .points) ≤ x .rules .capacity → QuadFits quads (x .rules .slots) (x .rules .capacity) (length (st .quads)) t u v
     unfolding settings-of
-    placed-fits a b c d e l =
-        let sp = sound x fx placed-state (k .reaches .old) [] placed-reach in
-        let below : All (λ i. i < length (m .points)) (quad-nodes (new-quad a b c d)) = subst (λ z. All (λ i. i < length (m .points)) (quad-nodes z)) (sym e) (sp .good .rated h (last-in (st .quads) h) .good .below) in
-        let four = quad-below (length (m .points)) a b c d below in
+    placed-fits t w e l =
+        let sp = after-quad in
+        let below : All (λ i. i < length (m .points)) (quad-nodes (quad-of (h .round) t)) = subst (λ z. All (λ i. i < length (m .points)) (quad-nodes z)) (sym (w .quad)) (sp .good .rated h (last-in (st .quads) h) .good .below) in
+        let four = quad-below (length (m .points)) (h .round) t below in
         let more : length (st .quads) < x .rules .slots = omega (arith, sp .good .quads-fit, sp .good .fits .slots, length-append (st .quads) (h ∷ [])) in
-        record { node0 = omega (arith, four .0); node1 = omega (arith, four .1); node2 = omega (arith, four .2); node3 = omega (arith, four .3); room = omega (arith, more, quads-long, fx .room); few = more }
+        record {
+          node0 = omega (arith, four .0);
+          node1 = omega (arith, four .1);
+          node2 = omega (arith, four .2);
+          node3 = omega (arith, four .3);
+          edge = sym (quad-edge (h .round) t) ∙ ap (λ (z : Quad). z .edge) (w .quad) ∙ e;
+          replaced = w .few;
+          room = omega (arith, more, quads-long, fx .room);
+          few = more;
+        }
 
   -- an end for want of lent memory
   module _ (wt : Want) (n : Spent) (m : Mesh) (ran : attempt (settings-of (x .rules)) (x .rules .given) st (u, v) ≡ after (counting st one-attempt) (u, v) (ended wt n m)) where
@@ -342,23 +369,23 @@ module _ (x : Setup) (w : List ℕ) (q : List Float) (quads : List ℕ) (g : Sta
     few = few-counted x st (k .reaches .old) ((u, v) ∷ es) fx (ready .small .points) before g (k .holds .counts)
 
     can-with : g .tally .«mismatch_insertions» + t .inserted < 2 ^ 32
-        → (t .end ≡ ends.Placed → QuadFits quads (x .rules .slots) (x .rules .capacity) (length (st .quads)) (t .n0) (t .n1) (t .n2) (t .n3))
+        → (t .end ≡ ends.Placed → QuadFits quads (x .rules .slots) (x .rules .capacity) (length (st .quads)) t u v)
         → ((why : Refusal) → t .end ≡ end-of why → length (with-edge (u, v) (k .ever)) ≤ 3 * x .rules .slots)
         → CanSettle w' quads (x .rules .slots) (x .rules .capacity) g t u v (k .ever) (st .blocked) (st .quads) (x .begun .old)
     can-with i p r = record { small-slots = ready .small .slots; small-points = ready .small .points; so-far = so-far; few = few; inserted = i; edge = is-edge; placed = p; refused = r }
 
-    pub can-settle : (a : Attempt) → attempt (settings-of (x .rules)) (x .rules .given) st (u, v) ≡ after (counting st one-attempt) (u, v) a
+    pub can-settle : (a : Attempt) → attempt (settings-of (x .rules)) (x .rules .given) st (u, v) ≡ after (counting st one-attempt) (u, v) a → Grown (u, v) a
         → AttemptTo w' q q' (x .rules) (g .counters) a t → CanSettle w' quads (x .rules .slots) (x .rules .capacity) g t u v (k .ever) (st .blocked) (st .quads) (x .begun .old)
-    can-settle (placed n m h) ran to =
+    can-settle (placed n m h) ran from to =
         let l = to .2 .ready .rep .points in
         can-with (inserted-few (n .insertions) (t .inserted) (ap (λ z. z .insertions) (to .2 .spent)) (placed-fine n m h ran l .0))
-        (λ e. placed-fits n m h ran (t .n0) (t .n1) (t .n2) (t .n3) (to .1) l)
+        (λ e. placed-fits n m h ran t (to .1) from l)
         (λ why e. absurd (omega (arith, sort-of-refusal (t .end) why e, ap sort-of (to .0))))
-    can-settle (refused why n m) ran to =
+    can-settle (refused why n m) ran from to =
         can-with (inserted-few (n .insertions) (t .inserted) (ap (λ z. z .insertions) (to .1 .spent)) (refused-fine why n m ran (to .1 .ready .rep .points) .0))
         (λ e. absurd (omega (arith, sort-of-refusal (t .end) why (to .0), ap sort-of e)))
         (λ why' e. refused-room why n m ran (to .1 .ready .rep .used))
-    can-settle (ended wt n m) ran to =
+    can-settle (ended wt n m) ran from to =
         can-with (inserted-few (n .insertions) (t .inserted) (ap (λ z. z .insertions) (to .1 .spent)) (ended-fine wt n m ran (to .1 .ready .rep .points) .0))
         (λ e. absurd (no-want wt (sort-of-want (t .end) wt (to .0)) 0 (ap sort-of e) (omega arith)))
         (λ why e. absurd (no-want wt (sort-of-want (t .end) wt (to .0)) 1 (sort-of-refusal (t .end) why e) (omega arith)))
@@ -391,7 +418,7 @@ module _ (x : Setup) (w : List ℕ) (q : List Float) (quads : List ℕ) (g : Sta
                 ready = ready-after n m l (r .standing .counters) (p .counted .counters);
                 counts = counts-after n _ (r .standing) (p .counted .counts (l .attempts)) refl (l .spent);
                 behind = behind-trans (x .begun .floats) q q' (length (st .mesh .points)) (length (m .points)) (placed-fine n m h ran (l .ready .rep .points) .1) behind-before (l .behind);
-                so-far = subst (λ (z : Quad). Kept-so-far w'' quads'' (x .rules .slots) (x .rules .capacity) (r .standing) (k .ever) (freed z (st .blocked)) (st .quads ++ z ∷ []) (x .begun .old)) (to .1) (p .so-far);
+                so-far = subst (λ (z : Quad). Kept-so-far w'' quads'' (x .rules .slots) (x .rules .capacity) (r .standing) (k .ever) (freed z (st .blocked)) (st .quads ++ z ∷ []) (x .begun .old)) (placed-next n m h ran t (to .1)) (p .so-far);
               };
               reaches = record { fixed = fx; old = k .reaches .old; reach = placed-reach n m h ran; sub = k .reaches .sub };
             },

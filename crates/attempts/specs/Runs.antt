@@ -10,9 +10,9 @@ use Rattle.definition.specs.Floats.{_≼_, 0·0}
 use Rattle.definition.specs.Numbers.{max-attempts}
 use Rattle.definition.specs.Counts.{one-attempt}
 use Rattle.definition.specs.Plane.{Node, Edge}
-use Rattle.definition.specs.Cells.{Tri, quad-nodes}
+use Rattle.definition.specs.Cells.{Tri}
 use Rattle.definition.specs.Front.{State, Progress, stuck, progressed, limited, stopped, counting, past-limit}
-use Rattle.definition.specs.Call.{onto, least-size, most-size}
+use Rattle.definition.specs.Call.{onto, quad-words, least-size, most-size}
 use Rattle.definition.specs.Account.{All}
 use Rattle.laws.specs.Lists.{In}
 use Rattle.laws.specs.Frames.{Stays}
@@ -60,14 +60,14 @@ pub record Fixed (x : Setup) : Type 0 where
   pub slots : length (x .begun .ts) ≤ x .rules .slots
   pub within : All Within (x .begun .ps)
   pub sized : Sized (x .rules .size)
-  pub room : 4 * x .rules .slots ≤ length (x .begun .old)
+  pub room : 8 * x .rules .slots ≤ length (x .begun .old)
 
 -- the memory stands for the state; no record of refusals
 pub record Leaves (w : List ℕ) (q : List Float) (quads : List ℕ) (x : Setup) (g : Standing) (st : State) : Type 0 where
   pub ready : Ready w q (x .rules) (g .counters) (st .mesh)
   pub counts : counts-of g ≡ st .counts
   pub number : g .quads ≡ length (st .quads)
-  pub text : quads ≡ onto (flat-map quad-nodes (st .quads)) (x .begun .old)
+  pub text : quads ≡ onto (flat-map quad-words (st .quads)) (x .begun .old)
   pub behind : Behind (x .begun .floats) q (length (st .mesh .points))
 
 -- the memory stands for the state, ever are the edges that have a record

@@ -1,20 +1,20 @@
 -- From the oracle's case fans-0005: one theorem for each attempt, and a chain of them. Made by tools/computed/chains.py.
 use mathlib.Core.Path.{_≡_, refl, ap, _∙_}
-use mathlib.Core.Bool.{true, false}
-use mathlib.Core.List.{List, [], _∷_}
-use Prim.Native.Nat.{ℕ}
-use lib.IntN.{pos, negsuc}
-use lib.Ieee.{Float, fin}
+use mathlib.Core.Bool.{Bool, true, false}
+use mathlib.Core.List.{List, [], _∷_, map}
+use Prim.Native.Nat.{ℕ, suc}
+use lib.IntN.{ℤ, pos, negsuc}
+use lib.Ieee.{Float, nan, inf, fin}
 use Rattle.vectors.specs.Opened.{opened-attempts}
-use Rattle.vectors.specs.Steps.{edges-none, edges-stuck, loops-none, loops-stuck, round-loops, run-stuck}
-use Rattle.definition.specs.Cells.{front, Tri, Quad, Cell, tri, Live}
+use Rattle.vectors.specs.Steps.{edges-none, edges-stuck, edges-progressed, edges-limited, edges-stopped, loops-none, loops-stuck, loops-progressed, loops-limited, loops-stopped, round-loops, run-progressed, run-stuck, run-limited, run-stopped}
+use Rattle.definition.specs.Cells.{front, Tri, Quad, Cell, tri, quad, Live, Mesh}
 use Rattle.definition.specs.Loops.{front-loops}
-use Rattle.definition.specs.Front.{attempt, open-edges, try-edges, round, front-loop, outcome, State, stuck}
+use Rattle.definition.specs.Front.{attempt, open-edges, try-edges, round, front-loop, outcome, counting, State, Progress, stuck, progressed, limited, stopped}
 use Rattle.definition.specs.Call.{after-run}
 use Rattle.definition.specs.Text.{bytes, reply, show-returned, lent-for, Bytes, Input}
-use Rattle.definition.specs.Plane.{Node}
+use Rattle.definition.specs.Plane.{Node, Edge}
 use Rattle.definition.specs.Numbers.{base, max-attempts, Settings}
-use Rattle.definition.specs.Counts.{tally}
+use Rattle.definition.specs.Counts.{tally, _⊞_, emptied, of-points, of-slots}
 
 abbrev pt : Float → Float → Float → Node
 pt a b c = record { x = a; y = b; z = c }
@@ -22,8 +22,8 @@ pt a b c = record { x = a; y = b; z = c }
 abbrev tr : ℕ → ℕ → ℕ → Tri
 tr a b c = record { n0 = a; n1 = b; n2 = c }
 
-abbrev qd : ℕ → ℕ → ℕ → ℕ → Quad
-qd a b c d = record { n0 = a; n1 = b; n2 = c; n3 = d }
+abbrev qd : ℕ → ℕ → ℕ → ℕ → Edge → ℕ → ℕ → Quad
+qd a b c d e r k = record { n0 = a; n1 = b; n2 = c; n3 = d; edge = e; round = r; replaced = k }
 
 abbrev lv : ℕ → Cell → Live
 lv n c = record { slot = n; cell = c }
@@ -128,7 +128,7 @@ input-text : Bytes
 input-text = bytes "triangles points size stop\n5 7 3ff3333333333333 1\nn0 n1 n2\n0 1 2\n0 1 3\n0 1 4\n4 0 5\n3 0 6\nx y z\n0000000000000000 0000000000000000 0000000000000000\n3ff0000000000000 0000000000000000 0000000000000000\n3fe8d86a12b5b7ab bff393caf6a5242a 0000000000000000\n3ff11e8e58960264 3ff11e8e58960264 0000000000000000\n3fe7bcdad995c148 bff4219293351f5c 0000000000000000\nbfd8757d2fec2abc bffdda3a2590cbf7 0000000000000000\n3fc88747d8c2da34 3ffcbebe7ff95ede 0000000000000000\n"
 
 output-text : Bytes
-output-text = bytes "front_empty attempts placement invalid_quad recovery region odd_region mismatch_insertions limit\n0 8 0 1 1 4 2 0 0\nquads triangles points components\n0 5 7 1\nn0 n1 n2 n3\nn0 n1 n2\n0 1 2\n1 6 0\n0 1 4\n4 0 5\n6 1 3\nx y z\n0000000000000000 0000000000000000 0000000000000000\n3ff0000000000000 0000000000000000 0000000000000000\n3fe8d86a12b5b7ab bff393caf6a5242a 0000000000000000\n3ff11e8e58960264 3ff11e8e58960264 0000000000000000\n3fe7bcdad995c148 bff4219293351f5c 0000000000000000\nbfd8757d2fec2abc bffdda3a2590cbf7 0000000000000000\n3fc88747d8c2da34 3ffcbebe7ff95ede 0000000000000000\nsize\n5\n"
+output-text = bytes "front_empty attempts placement invalid_quad recovery region odd_region mismatch_insertions limit\n0 8 0 1 1 4 2 0 0\nquads triangles points components\n0 5 7 1\nn0 n1 n2 n3 u v round replaced\nn0 n1 n2\n0 1 2\n1 6 0\n0 1 4\n4 0 5\n6 1 3\nx y z\n0000000000000000 0000000000000000 0000000000000000\n3ff0000000000000 0000000000000000 0000000000000000\n3fe8d86a12b5b7ab bff393caf6a5242a 0000000000000000\n3ff11e8e58960264 3ff11e8e58960264 0000000000000000\n3fe7bcdad995c148 bff4219293351f5c 0000000000000000\nbfd8757d2fec2abc bffdda3a2590cbf7 0000000000000000\n3fc88747d8c2da34 3ffcbebe7ff95ede 0000000000000000\nsize\n5\n"
 
 begins : reply input-text ≡ show-returned given (after-run (lent-for the-input) (outcome (front-loop 11002 s 5 st-0)))
 unfolding opened-attempts s points-0 given input-text st-0 the-input

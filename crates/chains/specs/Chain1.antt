@@ -1,20 +1,20 @@
 -- From the oracle's case ring-0001: one theorem for each attempt, and a chain of them. Made by tools/computed/chains.py.
 use mathlib.Core.Path.{_≡_, refl, ap, _∙_}
-use mathlib.Core.Bool.{true, false}
-use mathlib.Core.List.{List, [], _∷_}
-use Prim.Native.Nat.{ℕ}
-use lib.IntN.{pos, negsuc}
-use lib.Ieee.{Float, fin}
+use mathlib.Core.Bool.{Bool, true, false}
+use mathlib.Core.List.{List, [], _∷_, map}
+use Prim.Native.Nat.{ℕ, suc}
+use lib.IntN.{ℤ, pos, negsuc}
+use lib.Ieee.{Float, nan, inf, fin}
 use Rattle.vectors.specs.Opened.{opened-attempts}
-use Rattle.vectors.specs.Steps.{edges-stuck, edges-progressed, loops-progressed, round-loops, run-progressed, run-stuck}
-use Rattle.definition.specs.Cells.{front, Tri, Quad, Cell, tri, quad, Live}
+use Rattle.vectors.specs.Steps.{edges-none, edges-stuck, edges-progressed, edges-limited, edges-stopped, loops-none, loops-stuck, loops-progressed, loops-limited, loops-stopped, round-loops, run-progressed, run-stuck, run-limited, run-stopped}
+use Rattle.definition.specs.Cells.{front, Tri, Quad, Cell, tri, quad, Live, Mesh}
 use Rattle.definition.specs.Loops.{front-loops}
-use Rattle.definition.specs.Front.{attempt, open-edges, try-edges, round, front-loop, outcome, counting, State, stuck, progressed}
+use Rattle.definition.specs.Front.{attempt, open-edges, try-edges, round, front-loop, outcome, counting, State, Progress, stuck, progressed, limited, stopped}
 use Rattle.definition.specs.Call.{after-run}
 use Rattle.definition.specs.Text.{bytes, reply, show-returned, lent-for, Bytes, Input}
-use Rattle.definition.specs.Plane.{Node}
+use Rattle.definition.specs.Plane.{Node, Edge}
 use Rattle.definition.specs.Numbers.{base, max-attempts, Settings}
-use Rattle.definition.specs.Counts.{tally, _⊞_, emptied}
+use Rattle.definition.specs.Counts.{tally, _⊞_, emptied, of-points, of-slots}
 
 abbrev pt : Float → Float → Float → Node
 pt a b c = record { x = a; y = b; z = c }
@@ -22,8 +22,8 @@ pt a b c = record { x = a; y = b; z = c }
 abbrev tr : ℕ → ℕ → ℕ → Tri
 tr a b c = record { n0 = a; n1 = b; n2 = c }
 
-abbrev qd : ℕ → ℕ → ℕ → ℕ → Quad
-qd a b c d = record { n0 = a; n1 = b; n2 = c; n3 = d }
+abbrev qd : ℕ → ℕ → ℕ → ℕ → Edge → ℕ → ℕ → Quad
+qd a b c d e r k = record { n0 = a; n1 = b; n2 = c; n3 = d; edge = e; round = r; replaced = k }
 
 abbrev lv : ℕ → Cell → Live
 lv n c = record { slot = n; cell = c }
@@ -44,25 +44,25 @@ st-0 : State
 st-0 = record { mesh = record { points = points-0; used = 6; live = lv 0 (tri (tr 3 4 0)) ∷ lv 1 (tri (tr 4 1 0)) ∷ lv 2 (tri (tr 4 5 2)) ∷ lv 3 (tri (tr 4 2 1)) ∷ lv 4 (tri (tr 5 3 0)) ∷ lv 5 (tri (tr 5 0 2)) ∷ []; bucket = (fin false 5404319552844595 (negsuc 53)); locked = λ e. false }; quads = []; blocked = []; counts = tally 0 0 0 0 0 0 0 0 0 }
 
 st-1 : State
-st-1 = record { mesh = record { points = points-0; used = 7; live = lv 2 (tri (tr 4 5 2)) ∷ lv 3 (tri (tr 4 2 1)) ∷ lv 4 (tri (tr 5 3 0)) ∷ lv 5 (tri (tr 5 0 2)) ∷ lv 6 (quad (qd 1 0 3 4)) ∷ []; bucket = (fin false 5404319552844595 (negsuc 53)); locked = λ e. false }; quads = (qd 1 0 3 4) ∷ []; blocked = []; counts = tally 0 1 0 0 0 0 0 0 0 }
+st-1 = record { mesh = record { points = points-0; used = 7; live = lv 2 (tri (tr 4 5 2)) ∷ lv 3 (tri (tr 4 2 1)) ∷ lv 4 (tri (tr 5 3 0)) ∷ lv 5 (tri (tr 5 0 2)) ∷ lv 6 (quad (qd 1 0 3 4 (0, 1) 1 2)) ∷ []; bucket = (fin false 5404319552844595 (negsuc 53)); locked = λ e. false }; quads = (qd 1 0 3 4 (0, 1) 1 2) ∷ []; blocked = []; counts = tally 0 1 0 0 0 0 0 0 0 }
 
 st-2 : State
-st-2 = record { mesh = record { points = points-1; used = 9; live = lv 3 (tri (tr 4 2 1)) ∷ lv 4 (tri (tr 5 3 0)) ∷ lv 5 (tri (tr 5 0 2)) ∷ lv 6 (quad (qd 1 0 3 4)) ∷ lv 2 (tri (tr 4 5 6)) ∷ lv 7 (tri (tr 5 2 6)) ∷ lv 8 (tri (tr 2 4 6)) ∷ []; bucket = (fin false 5404319552844595 (negsuc 53)); locked = λ e. false }; quads = (qd 1 0 3 4) ∷ []; blocked = (1, 4) ∷ []; counts = tally 0 2 0 1 0 0 0 1 0 }
+st-2 = record { mesh = record { points = points-1; used = 9; live = lv 3 (tri (tr 4 2 1)) ∷ lv 4 (tri (tr 5 3 0)) ∷ lv 5 (tri (tr 5 0 2)) ∷ lv 6 (quad (qd 1 0 3 4 (0, 1) 1 2)) ∷ lv 2 (tri (tr 4 5 6)) ∷ lv 7 (tri (tr 5 2 6)) ∷ lv 8 (tri (tr 2 4 6)) ∷ []; bucket = (fin false 5404319552844595 (negsuc 53)); locked = λ e. false }; quads = (qd 1 0 3 4 (0, 1) 1 2) ∷ []; blocked = (1, 4) ∷ []; counts = tally 0 2 0 1 0 0 0 1 0 }
 
 st-3 : State
-st-3 = record { mesh = record { points = points-1; used = 9; live = lv 3 (tri (tr 4 2 1)) ∷ lv 4 (tri (tr 5 3 0)) ∷ lv 5 (tri (tr 5 0 2)) ∷ lv 6 (quad (qd 1 0 3 4)) ∷ lv 2 (tri (tr 4 5 6)) ∷ lv 7 (tri (tr 5 2 6)) ∷ lv 8 (tri (tr 2 4 6)) ∷ []; bucket = (fin false 5404319552844595 (negsuc 53)); locked = λ e. false }; quads = (qd 1 0 3 4) ∷ []; blocked = (0, 3) ∷ (1, 4) ∷ []; counts = tally 0 3 1 1 0 0 0 1 0 }
+st-3 = record { mesh = record { points = points-1; used = 9; live = lv 3 (tri (tr 4 2 1)) ∷ lv 4 (tri (tr 5 3 0)) ∷ lv 5 (tri (tr 5 0 2)) ∷ lv 6 (quad (qd 1 0 3 4 (0, 1) 1 2)) ∷ lv 2 (tri (tr 4 5 6)) ∷ lv 7 (tri (tr 5 2 6)) ∷ lv 8 (tri (tr 2 4 6)) ∷ []; bucket = (fin false 5404319552844595 (negsuc 53)); locked = λ e. false }; quads = (qd 1 0 3 4 (0, 1) 1 2) ∷ []; blocked = (0, 3) ∷ (1, 4) ∷ []; counts = tally 0 3 1 1 0 0 0 1 0 }
 
 st-4 : State
-st-4 = record { mesh = record { points = points-1; used = 10; live = lv 4 (tri (tr 5 3 0)) ∷ lv 5 (tri (tr 5 0 2)) ∷ lv 6 (quad (qd 1 0 3 4)) ∷ lv 9 (quad (qd 2 1 4 5)) ∷ []; bucket = (fin false 5404319552844595 (negsuc 53)); locked = λ e. false }; quads = (qd 1 0 3 4) ∷ (qd 2 1 4 5) ∷ []; blocked = (0, 3) ∷ []; counts = tally 0 4 1 1 0 0 0 1 0 }
+st-4 = record { mesh = record { points = points-1; used = 10; live = lv 4 (tri (tr 5 3 0)) ∷ lv 5 (tri (tr 5 0 2)) ∷ lv 6 (quad (qd 1 0 3 4 (0, 1) 1 2)) ∷ lv 9 (quad (qd 2 1 4 5 (1, 2) 2 4)) ∷ []; bucket = (fin false 5404319552844595 (negsuc 53)); locked = λ e. false }; quads = (qd 1 0 3 4 (0, 1) 1 2) ∷ (qd 2 1 4 5 (1, 2) 2 4) ∷ []; blocked = (0, 3) ∷ []; counts = tally 0 4 1 1 0 0 0 1 0 }
 
 st-5 : State
-st-5 = record { mesh = record { points = points-2; used = 12; live = lv 5 (tri (tr 5 0 2)) ∷ lv 6 (quad (qd 1 0 3 4)) ∷ lv 9 (quad (qd 2 1 4 5)) ∷ lv 4 (tri (tr 5 3 7)) ∷ lv 10 (tri (tr 3 0 7)) ∷ lv 11 (tri (tr 0 5 7)) ∷ []; bucket = (fin false 5404319552844595 (negsuc 53)); locked = λ e. false }; quads = (qd 1 0 3 4) ∷ (qd 2 1 4 5) ∷ []; blocked = (2, 5) ∷ (0, 3) ∷ []; counts = tally 0 5 1 2 0 0 0 2 0 }
+st-5 = record { mesh = record { points = points-2; used = 12; live = lv 5 (tri (tr 5 0 2)) ∷ lv 6 (quad (qd 1 0 3 4 (0, 1) 1 2)) ∷ lv 9 (quad (qd 2 1 4 5 (1, 2) 2 4)) ∷ lv 4 (tri (tr 5 3 7)) ∷ lv 10 (tri (tr 3 0 7)) ∷ lv 11 (tri (tr 0 5 7)) ∷ []; bucket = (fin false 5404319552844595 (negsuc 53)); locked = λ e. false }; quads = (qd 1 0 3 4 (0, 1) 1 2) ∷ (qd 2 1 4 5 (1, 2) 2 4) ∷ []; blocked = (2, 5) ∷ (0, 3) ∷ []; counts = tally 0 5 1 2 0 0 0 2 0 }
 
 st-6 : State
-st-6 = record { mesh = record { points = points-2; used = 13; live = lv 6 (quad (qd 1 0 3 4)) ∷ lv 9 (quad (qd 2 1 4 5)) ∷ lv 12 (quad (qd 0 2 5 3)) ∷ []; bucket = (fin false 5404319552844595 (negsuc 53)); locked = λ e. false }; quads = (qd 1 0 3 4) ∷ (qd 2 1 4 5) ∷ (qd 0 2 5 3) ∷ []; blocked = []; counts = tally 0 6 1 2 0 0 0 2 0 }
+st-6 = record { mesh = record { points = points-2; used = 13; live = lv 6 (quad (qd 1 0 3 4 (0, 1) 1 2)) ∷ lv 9 (quad (qd 2 1 4 5 (1, 2) 2 4)) ∷ lv 12 (quad (qd 0 2 5 3 (0, 2) 3 4)) ∷ []; bucket = (fin false 5404319552844595 (negsuc 53)); locked = λ e. false }; quads = (qd 1 0 3 4 (0, 1) 1 2) ∷ (qd 2 1 4 5 (1, 2) 2 4) ∷ (qd 0 2 5 3 (0, 2) 3 4) ∷ []; blocked = []; counts = tally 0 6 1 2 0 0 0 2 0 }
 
 st-7 : State
-st-7 = record { mesh = record { points = points-2; used = 13; live = lv 6 (quad (qd 1 0 3 4)) ∷ lv 9 (quad (qd 2 1 4 5)) ∷ lv 12 (quad (qd 0 2 5 3)) ∷ []; bucket = (fin false 5404319552844595 (negsuc 53)); locked = λ e. false }; quads = (qd 1 0 3 4) ∷ (qd 2 1 4 5) ∷ (qd 0 2 5 3) ∷ []; blocked = []; counts = tally 1 6 1 2 0 0 0 2 0 }
+st-7 = record { mesh = record { points = points-2; used = 13; live = lv 6 (quad (qd 1 0 3 4 (0, 1) 1 2)) ∷ lv 9 (quad (qd 2 1 4 5 (1, 2) 2 4)) ∷ lv 12 (quad (qd 0 2 5 3 (0, 2) 3 4)) ∷ []; bucket = (fin false 5404319552844595 (negsuc 53)); locked = λ e. false }; quads = (qd 1 0 3 4 (0, 1) 1 2) ∷ (qd 2 1 4 5 (1, 2) 2 4) ∷ (qd 0 2 5 3 (0, 2) 3 4) ∷ []; blocked = []; counts = tally 1 6 1 2 0 0 0 2 0 }
 
 front-is-0 : front (st-0 .mesh) ≡ (0, 1) ∷ (0, 2) ∷ (1, 2) ∷ (3, 4) ∷ (3, 5) ∷ (4, 5) ∷ []
 unfolding opened-attempts s points-0 points-1 points-2 st-0
@@ -160,7 +160,7 @@ input-text : Bytes
 input-text = bytes "triangles points size stop\n6 6 3fd3333333333333 1\nn0 n1 n2\n3 4 0\n4 1 0\n4 5 2\n4 2 1\n5 3 0\n5 0 2\nx y z\n3ff0000000000000 0000000000000000 0000000000000000\nbfdffffffffffffc 3febb67ae8584cab 0000000000000000\nbfe0000000000004 bfebb67ae8584ca8 0000000000000000\n3ff8000000000000 0000000000000000 0000000000000000\nbfe7fffffffffffd 3ff4c8dc2e423980 0000000000000000\nbfe8000000000006 bff4c8dc2e42397e 0000000000000000\n"
 
 output-text : Bytes
-output-text = bytes "front_empty attempts placement invalid_quad recovery region odd_region mismatch_insertions limit\n1 6 1 2 0 0 0 2 0\nquads triangles points components\n3 0 8 0\nn0 n1 n2 n3\n1 0 3 4\n2 1 4 5\n0 2 5 3\nn0 n1 n2\nx y z\n3ff0000000000000 0000000000000000 0000000000000000\nbfdffffffffffffc 3febb67ae8584cab 0000000000000000\nbfe0000000000004 bfebb67ae8584ca8 0000000000000000\n3ff8000000000000 0000000000000000 0000000000000000\nbfe7fffffffffffd 3ff4c8dc2e423980 0000000000000000\nbfe8000000000006 bff4c8dc2e42397e 0000000000000000\nbfe77b82770d99d0 3fe7648f63399459 0000000000000000\nbfd108fb11e4cc66 bff0043336bb827e 0000000000000000\nsize\n"
+output-text = bytes "front_empty attempts placement invalid_quad recovery region odd_region mismatch_insertions limit\n1 6 1 2 0 0 0 2 0\nquads triangles points components\n3 0 8 0\nn0 n1 n2 n3 u v round replaced\n1 0 3 4 0 1 1 2\n2 1 4 5 1 2 2 4\n0 2 5 3 0 2 3 4\nn0 n1 n2\nx y z\n3ff0000000000000 0000000000000000 0000000000000000\nbfdffffffffffffc 3febb67ae8584cab 0000000000000000\nbfe0000000000004 bfebb67ae8584ca8 0000000000000000\n3ff8000000000000 0000000000000000 0000000000000000\nbfe7fffffffffffd 3ff4c8dc2e423980 0000000000000000\nbfe8000000000006 bff4c8dc2e42397e 0000000000000000\nbfe77b82770d99d0 3fe7648f63399459 0000000000000000\nbfd108fb11e4cc66 bff0043336bb827e 0000000000000000\nsize\n"
 
 begins : reply input-text ≡ show-returned given (after-run (lent-for the-input) (outcome (front-loop 11202 s 6 st-0)))
 unfolding opened-attempts s points-0 points-1 points-2 given input-text st-0 the-input

@@ -4,12 +4,13 @@ use mathlib.Core.List.{List, [], _∷_}
 use mathlib.Core.Option.{Option, none, some}
 use Prim.Native.Nat.{ℕ, _+_}
 use lib.Dec.{ltb}
+use lib.ListN.{length}
 use lib.Ieee.{Float, neg}
 use Rattle.definition.specs.Floats.{_⊘_, _≺_, _≼_, 0·0}
 use Rattle.definition.specs.Numbers.{Settings, Turn, first-turn, second-turn, tiny-length}
 use Rattle.definition.specs.Counts.{Refusal, Placement, Shape, Recovery, Region, OddRegion, Want, of-slots, Spent, nothing-spent, inserting}
 use Rattle.definition.specs.Plane.{Vec, Edge, cross, norm, from-to, edge-length, size-mismatch}
-use Rattle.definition.specs.Cells.{Tri, Quad, Cell, tri, quad, Live, Mesh, node-at, tri-owner, remove-cells, push-cell}
+use Rattle.definition.specs.Cells.{Tri, Quad, Cell, tri, quad, Live, Mesh, born, node-at, tri-owner, this-round, remove-cells, push-cell}
 use Rattle.definition.specs.Flips.{third, Recovered, recover}
 use Rattle.definition.specs.Candidates.{candidates}
 use Rattle.definition.specs.Insertion.{Inserted, nowhere, inserted, full, insert-along}
@@ -22,7 +23,7 @@ use Rattle.definition.specs.Trials.{Trial, trials}
 -- the quad stands; the pair failed, and the next one's turn comes; no triangle owns the edge any more; no slot is left for the quad.
 -- The flips of a pair that failed stay.
 pub data Tried : Type 0 where
-  made : Mesh → Tried
+  made : Quad → Mesh → Tried
   failed : Refusal → Mesh → Tried
   orphaned : Tried
   no-slot : Mesh → Tried
@@ -38,10 +39,11 @@ recover-all m (e ∷ es) =
 unfoldable pub replaced : Mesh → Quad → List Live → Mesh
 replaced m q cells = push-cell (remove-cells m cells) (quad q)
 
--- if a slot is left
+-- with its birth, if a slot is left
 unfoldable pub replace : Settings → Mesh → Quad → List Live → Tried
 replace s m q cells =
-    let done = made (replaced m q cells) in
+    let b = born (this-round m) (length cells) q in
+    let done = made b (replaced m b cells) in
     cond (ltb (s .slots) (m .used + 1)) (no-slot m) done
 
 -- the region is refused, or is refused as odd, or gives way to the quad
@@ -79,7 +81,7 @@ unfoldable pub try-pairs : Settings → Spent → Mesh → Edge → Refusal → 
 try-pairs s n m e last [] = refused last n m
 try-pairs s n m e last (t ∷ ts) =
     elim (try-pair s m (t .nodes) (tri-owner m e)) [
-      | made m′ ↦ placed n m′ (t .nodes)
+      | made q m′ ↦ placed n m′ q
       | failed why m′ ↦ try-pairs s n m′ e why ts
       | orphaned ↦ refused Placement n m
       | no-slot m′ ↦ ended of-slots n m′

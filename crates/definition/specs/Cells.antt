@@ -15,12 +15,16 @@ pub record Tri : Type 0 where
   pub n1 : ℕ
   pub n2 : ℕ
 
--- a quad's nodes, in their order around it
+-- A quad's nodes, in their order around it; and its birth: the front edge it grew from, the round, counted from 1, and how many triangles it replaced.
+-- A quad that is not placed yet has round 0.
 pub record Quad : Type 0 where
   pub n0 : ℕ
   pub n1 : ℕ
   pub n2 : ℕ
   pub n3 : ℕ
+  pub edge : Edge
+  pub round : ℕ
+  pub replaced : ℕ
 
 -- a cell of the mesh is a triangle or a quad
 pub data Cell : Type 0 where
@@ -45,10 +49,6 @@ pub record Mesh : Type 0 where
 unfoldable pub new-tri : ℕ → ℕ → ℕ → Tri
 new-tri a b c = record { n0 = a; n1 = b; n2 = c }
 
--- the quad of four nodes
-unfoldable pub new-quad : ℕ → ℕ → ℕ → ℕ → Quad
-new-quad a b c d = record { n0 = a; n1 = b; n2 = c; n3 = d }
-
 -- a cell in its slot
 unfoldable pub new-live : ℕ → Cell → Live
 new-live id c = record { slot = id; cell = c }
@@ -58,6 +58,14 @@ new-live id c = record { slot = id; cell = c }
 -- the edge between two nodes
 unfoldable pub key : ℕ → ℕ → Edge
 key a b = (min a b, max a b)
+
+-- the quad of four nodes on the front edge between the first two
+unfoldable pub new-quad : ℕ → ℕ → ℕ → ℕ → Quad
+new-quad a b c d = record { n0 = a; n1 = b; n2 = c; n3 = d; edge = key a b; round = 0; replaced = 0 }
+
+-- placed in a round, in place of so many triangles
+unfoldable pub born : ℕ → ℕ → Quad → Quad
+born r k q = record { n0 = q .n0; n1 = q .n1; n2 = q .n2; n3 = q .n3; edge = q .edge; round = r; replaced = k }
 
 -- a triangle's nodes in order
 unfoldable pub tri-nodes : Tri → List ℕ
@@ -170,6 +178,10 @@ is-locked m e = m .locked e
 -- how many live triangles there are
 unfoldable pub live-tris : Mesh → ℕ
 live-tris m = length (filter live-tri (m .live))
+
+-- every round before this one placed a quad, and no quad is taken away
+unfoldable pub this-round : Mesh → ℕ
+this-round m = suc (length (filter (λ x. not (live-tri x)) (m .live)))
 
 -- the edges of the live cells, an edge once for each of its owners
 unfoldable pub all-edges : Mesh → List Edge

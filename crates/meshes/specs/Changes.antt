@@ -4,7 +4,8 @@ use mathlib.Core.List.{List, [], _∷_, _++_}
 use Prim.Native.Nat.{ℕ, _+_, _*_, _<_, _≤_}
 use lib.ListN.{length, getD}
 use Rattle.rings.specs.Rings.{Out, Family}
-use Rattle.definition.specs.Cells.{Cell, Mesh, tri, new-tri, quad, new-quad, new-live, with-live}
+use Rattle.definition.specs.Plane.{Edge}
+use Rattle.definition.specs.Cells.{Quad, Cell, Mesh, tri, new-tri, quad, new-quad, new-live, with-live}
 use Rattle.laws.specs.Frames.{Under, Keeps}
 use Rattle.cells.specs.Layout.{nodes-at, rings-at, codes, notes-at, fronts-at, mesh-end}
 use Rattle.cells.specs.Notes.{note, NoteAt}
@@ -26,6 +27,10 @@ tri-of-nodes a b c = tri (new-tri a b c)
 -- the quad of four
 abbrev pub quad-of-nodes : ℕ → ℕ → ℕ → ℕ → Cell
 quad-of-nodes a b c d = quad (new-quad a b c d)
+
+-- with the edge it grew from, its round and how many triangles it replaced. None of them is in the work slice: what is stored for a quad is right whatever its birth
+abbrev pub born-of-nodes : Edge → ℕ → ℕ → ℕ → ℕ → ℕ → ℕ → Quad
+born-of-nodes e round gone a b c d = record { n0 = a; n1 = b; n2 = c; n3 = d; edge = e; round = round; replaced = gone }
 
 -- the cell t may come into slot i, the next one
 pub record CanPush (m : Mesh) (s i : ℕ) (t : Cell) : Type 0 where

@@ -7,9 +7,10 @@ use rings::link;
 use rings::unlink;
 use rings::wide;
 ghost use Prim.Native.Nat.{ℕ, _<_};
-ghost use Rattle.definition.specs.Cells.{Mesh, push-cell, set-cell, remove-cell};
+ghost use Rattle.definition.specs.Plane.{Edge};
+ghost use Rattle.definition.specs.Cells.{Mesh, quad, push-cell, set-cell, remove-cell};
 ghost use Rattle.cells.specs.Rep.{Uneven, Rep};
-ghost use Rattle.meshes.specs.Changes.{Turns, tri-of-nodes, quad-of-nodes, CanPush, CanSet, CanPut, Puts, CanForget, Forgets, Fills, Placed, Anything};
+ghost use Rattle.meshes.specs.Changes.{Turns, tri-of-nodes, quad-of-nodes, born-of-nodes, CanPush, CanSet, CanPut, Puts, CanForget, Forgets, Fills, Placed, Anything};
 
 // Nothing is noted of node a any more.
 fn forget(w: &mut [u32], s: usize, p: usize, a: usize)
@@ -51,7 +52,7 @@ fn put_tri(w: &mut [u32], s: usize, p: usize, i: usize, a: usize, b: usize, c: u
 fn put_quad(w: &mut [u32], s: usize, p: usize, i: usize, a: usize, b: usize, c: usize, d: usize)
     requires { ⌜ ((m : Mesh) × (n : ℕ) × Rep (now w) s p m × CanPut m s i n (quad-of-nodes a b c d)) ⌝ }
     requires { ⌜ Uneven (now w) s p ⌝ }
-    ensures { λ r. ⌜ Puts (now (w .entry)) (now (w .exit)) s p i (quad-of-nodes a b c d) ⌝ }
+    ensures { λ r. ⌜ ((e : Edge) (round gone : ℕ) → Puts (now (w .entry)) (now (w .exit)) s p i (quad (born-of-nodes e round gone a b c d))) ⌝ }
 {
     w[i] = 4;
     place(w, s, p, i, 0, a);
@@ -81,7 +82,7 @@ pub fn push_quad(
     d: usize,
 )
     requires { ⌜ ((m : Mesh) × Rep (now w) s p m × CanPush m s i (quad-of-nodes a b c d)) ⌝ }
-    ensures { λ r. ⌜ Turns (now (w .entry)) (now (w .exit)) s p (λ m. CanPush m s i (quad-of-nodes a b c d)) (λ m. push-cell m (quad-of-nodes a b c d)) ⌝ }
+    ensures { λ r. ⌜ ((e : Edge) (round gone : ℕ) → Turns (now (w .entry)) (now (w .exit)) s p (λ m. CanPush m s i (quad-of-nodes a b c d)) (λ m. push-cell m (quad (born-of-nodes e round gone a b c d)))) ⌝ }
 {
     forget_even(w, s, p);
     put_quad(w, s, p, i, a, b, c, d);

@@ -1,11 +1,11 @@
 -- What an attempt hands back is the definition's.
 use mathlib.Core.Path.{_≡_}
 use mathlib.Core.List.{List}
-use Prim.Native.Nat.{ℕ}
+use Prim.Native.Nat.{ℕ, _≤_}
 use lib.Ieee.{Float}
 use lib.ListN.{length}
 use Rattle.definition.specs.Counts.{Spent, Refusal, Placement, Shape, Recovery, Region, OddRegion, Want, of-points, of-slots}
-use Rattle.definition.specs.Cells.{Quad, Mesh, new-quad}
+use Rattle.definition.specs.Cells.{Quad, Mesh, new-quad, born}
 use Rattle.definition.specs.Attempt.{Attempt, placed, refused, ended}
 use Rattle.rules.specs.declared.Rules.{Rules}
 use Rattle.cells.specs.declared.counters.Counters.{Counters}
@@ -37,9 +37,14 @@ unfoldable pub end-for : Want → End
 end-for of-points = ends.NoPoint
 end-for of-slots = ends.NoSlots
 
--- the quad that was placed
-abbrev pub quad-of : Tried → Quad
-quad-of r = new-quad (r .n0) (r .n1) (r .n2) (r .n3)
+-- the quad that was placed, in that round
+abbrev pub quad-of : ℕ → Tried → Quad
+quad-of round r = born round (r .replaced) (new-quad (r .n0) (r .n1) (r .n2) (r .n3))
+
+-- the quad k was placed: its round is for the run to say
+pub record Grew (k : Quad) (r : Tried) : Type 0 where
+  pub quad : quad-of (k .round) r ≡ k
+  pub few : r .replaced ≤ 16384
 
 -- what the attempt spent
 abbrev pub spent-of : Tried → Spent
@@ -54,6 +59,6 @@ pub record Left (w' : List ℕ) (q q' : List Float) (rules : Rules) (c : Counter
 
 -- the attempt's end, by cases
 abbrev pub AttemptTo : List ℕ → List Float → List Float → Rules → Counters → Attempt → Tried → Type 0
-AttemptTo w' q q' rules c (placed n m k) r = (r .end ≡ ends.Placed) × (quad-of r ≡ k) × Left w' q q' rules c n m r
+AttemptTo w' q q' rules c (placed n m k) r = (r .end ≡ ends.Placed) × Grew k r × Left w' q q' rules c n m r
 AttemptTo w' q q' rules c (refused why n m) r = (r .end ≡ end-of why) × Left w' q q' rules c n m r
 AttemptTo w' q q' rules c (ended wt n m) r = (r .end ≡ end-for wt) × Left w' q q' rules c n m r

@@ -15,7 +15,7 @@ pub enum End {
     NoSlots,
 }
 
-// The end of an attempt, the counters after it, the insertions that it made, and the nodes of the quad where one is placed.
+// The end of an attempt, the counters after it, the insertions that it made, and where a quad is placed its nodes and how many triangles it replaced.
 pub struct Tried {
     pub end: End,
     pub counters: Counters,
@@ -24,6 +24,7 @@ pub struct Tried {
     pub n1: usize,
     pub n2: usize,
     pub n3: usize,
+    pub replaced: usize,
 }
 
 // An end without a quad.
@@ -38,5 +39,6 @@ pub fn without_quad(end: End, counters: Counters, inserted: usize) -> Tried
         n1: 0,
         n2: 0,
         n3: 0,
+        replaced: 0,
     }
 }

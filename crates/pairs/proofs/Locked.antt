@@ -5,10 +5,11 @@ use mathlib.Core.List.{List}
 use mathlib.Core.Option.{Option, none, some}
 use Prim.Native.Nat.{ℕ, _+_}
 use lib.Dec.{ltb}
+use lib.ListN.{length}
 use Rattle.definition.specs.Numbers.{Settings}
 use Rattle.definition.specs.Counts.{Refusal}
 use Rattle.definition.specs.Plane.{Edge}
-use Rattle.definition.specs.Cells.{Quad, Live, Mesh}
+use Rattle.definition.specs.Cells.{Quad, Live, Mesh, born, this-round}
 use Rattle.definition.specs.Flips.{recover}
 use Rattle.definition.specs.Components.{removing-leaves-odd-component}
 use Rattle.definition.specs.Region.{region}
@@ -29,7 +30,7 @@ all-locks-stay j m es l = subst (Locks j) (sym (recover-all-locked m es)) l
 
 -- the locked edges are k afterwards
 abbrev Kept : (Edge → Bool) → Tried → Type 0
-Kept k (made m) = m .locked ≡ k
+Kept k (made q m) = m .locked ≡ k
 Kept k (failed why m) = m .locked ≡ k
 Kept k orphaned = Unit {0}
 Kept k (no-slot m) = m .locked ≡ k
@@ -39,7 +40,7 @@ module _ (s : Settings) (q : Quad) (k : Edge → Bool) where
   unfolding try-region replace
   region-kept m none h = h
   region-kept m (some xs) h =
-      cond-ok (Kept k) (s .even && removing-leaves-odd-component m xs) _ _ (λ z. h) (λ z. cond-ok (Kept k) (ltb (s .slots) (m .used + 1)) _ _ (λ y. h) (λ y. replaced-locked m q xs ∙ h))
+      cond-ok (Kept k) (s .even && removing-leaves-odd-component m xs) _ _ (λ z. h) (λ z. cond-ok (Kept k) (ltb (s .slots) (m .used + 1)) _ _ (λ y. h) (λ y. replaced-locked m (born (this-round m) (length xs) q) xs ∙ h))
 
   pair-kept : (m : Mesh) (o : Option Live) → m .locked ≡ k → Kept k (try-pair s m q o)
   unfolding try-pair try-recovered

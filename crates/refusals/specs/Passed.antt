@@ -81,7 +81,7 @@ pub record Roomy (a : Asked) (l : Lent) : Type 0 where
   pub points : 3 * a .capacity ≤ length (l .points)
   pub triangles : 3 * a .count ≤ length (l .triangles)
   pub joints : 2 * a .joints ≤ length (l .joints)
-  pub quads : 4 * a .slots ≤ length (l .quads)
+  pub quads : 8 * a .slots ≤ length (l .quads)
   pub triangles-out : 3 * a .slots ≤ length (l .triangles-out)
   pub components : a .slots ≤ length (l .components)
   pub work : 64 * a .slots + 8 * a .capacity ≤ length (l .work)
@@ -99,7 +99,7 @@ module _ (a : Asked) (l : Lent) where
       let h6 = or-none _ (ltb (length (l .work)) (64 * a .slots + 8 * a .capacity)) (h7 .0) in
       let h5 = or-none _ (ltb (length (l .components)) (a .slots)) (h6 .0) in
       let h4 = or-none _ (ltb (length (l .triangles-out)) (3 * a .slots)) (h5 .0) in
-      let h3 = or-none _ (ltb (length (l .quads)) (4 * a .slots)) (h4 .0) in
+      let h3 = or-none _ (ltb (length (l .quads)) (8 * a .slots)) (h4 .0) in
       let h2 = or-none _ (ltb (length (l .joints)) (2 * a .joints)) (h3 .0) in
       let h1 = or-none (ltb (length (l .points)) (3 * a .capacity)) (ltb (length (l .triangles)) (3 * a .count)) (h2 .0) in
       record {

@@ -56,6 +56,9 @@ const GRID: f64 = 1024.0;
 // Joints that a call may state.
 const MOST_JOINTS: usize = 256;
 
+// u32 of a quad.
+const QUAD_WORDS: usize = 8;
+
 // u32 of work for a slot and for a point of capacity, and f64 of work for a slot.
 const SLOT_WORDS: usize = 64;
 
@@ -217,7 +220,7 @@ fn too_short(points: &[f64], triangles: &[u32], joints: &[u32], a: Stated, n: Ro
     if joints.len() / 2 < a.joints {
         return true;
     }
-    if n.quads < 4 * slots {
+    if n.quads < QUAD_WORDS * slots {
         return true;
     }
     if n.out < 3 * slots {

@@ -7,14 +7,15 @@ use native.Mathlib.Omega.{arith}
 use lib.Dec.{eqb}
 use lib.ListN.{getD, drop}
 use Rattle.definition.specs.Lists.{filter, any}
-use Rattle.definition.specs.Cells.{Live, Mesh, with-live, in-slot, among, without, without-all, remove-cell, remove-cells, push-cell, new-live}
+use Rattle.definition.specs.Plane.{Edge}
+use Rattle.definition.specs.Cells.{quad, Live, Mesh, with-live, in-slot, among, without, without-all, remove-cell, remove-cells, push-cell, new-live}
 use Rattle.definition.specs.Attempt.{replaced}
 use Rattle.laws.specs.Numbers.{eqb-swap}
 use Rattle.laws.specs.Cells.{none-gone}
 use Rattle.laws.specs.Frames.{Keeps, keeps-trans}
 use Rattle.cells.specs.Layout.{mesh-end, list-at}
 use Rattle.cells.specs.Rep.{Rep}
-use Rattle.meshes.specs.Changes.{Turns, Anything, CanPush, quad-of-nodes}
+use Rattle.meshes.specs.Changes.{Turns, Anything, CanPush, quad-of-nodes, born-of-nodes}
 use Rattle.regions.specs.Listing.{Listed}
 use Rattle.regions.specs.Fill.{Gone, Replaced}
 use Rattle.regions.proofs.Visits.{tri-inside}
@@ -80,13 +81,14 @@ module _ (w₀ w : List ℕ) (s p n i : ℕ) (m : Mesh) (xs : List Live) (h : Li
 
 -- ---- the quad
 
-module _ (w w1 w2 : List ℕ) (s p i n a b c d : ℕ) (g : Gone w w1 s p n remove-cells) (t : Turns w1 w2 s p (λ m. CanPush m s i (quad-of-nodes a b c d)) (λ m. push-cell m (quad-of-nodes a b c d))) where
+module _ (w w1 w2 : List ℕ) (s p i n a b c d : ℕ) (g : Gone w w1 s p n remove-cells)
+    (t : (e : Edge) (round gone : ℕ) → Turns w1 w2 s p (λ m. CanPush m s i (quad-of-nodes a b c d)) (λ m. push-cell m (quad (born-of-nodes e round gone a b c d)))) where
   pub replacing : Replaced w w2 s p i n a b c d
   unfolding replaced remove-cells with-live
   replacing =
       record {
-        rep = λ m xs h k. t .rep (remove-cells m xs) (g .rep m xs h) (record { next = k .next; free = k .free; shape = k .shape });
-        keeps = keeps-trans w w1 w2 (mesh-end s p) (g .keeps) (t .keeps);
+        rep = λ m xs e round gone h k. t e round gone .rep (remove-cells m xs) (g .rep m xs h) (record { next = k .next; free = k .free; shape = k .shape });
+        keeps = keeps-trans w w1 w2 (mesh-end s p) (g .keeps) (t (0, 0) 0 0 .keeps);
       }
 
 pub can-push : (m : Mesh) (xs : List Live) (s i a b c d : ℕ) → CanPush m s i (quad-of-nodes a b c d) → CanPush (remove-cells m xs) s i (quad-of-nodes a b c d)

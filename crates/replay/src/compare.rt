@@ -1,13 +1,11 @@
 // A reply against a stored answer.
+use replies::WRITTEN;
 use replies::reply;
 ghost use mathlib.Core.Bool.{true};
 ghost use mathlib.Core.Path.{_≡_};
 ghost use Prim.Native.Nat.{_≤_};
 ghost use lib.ListN.{length, take};
 ghost use Rattle.definition.specs.Text as defined;
-
-// The bytes that a reply fits in.
-const ROOM: usize = 20480;
 
 // The first n bytes of a are b.
 fn same(a: &[u8], n: usize, b: &[u8]) -> bool
@@ -32,7 +30,7 @@ pub fn agrees(text: &[u8], answer: &[u8]) -> u64
     ensures { λ r. ⌜ r ≤ 1 ⌝ }
     ensures { λ r. ⌜ (r ≡ 1 → defined.reply (now (text .entry)) ≡ now (answer .entry)) ⌝ }
 {
-    let mut out = [0u8; ROOM];
+    let mut out = [0u8; WRITTEN];
     let n = reply(text, &mut out);
     if same(&out, n, answer) {
         return 1;

@@ -142,7 +142,7 @@ fn within(n: usize) -> usize
 fn answer_hash(size: f64, stop: u32) -> u64 {
     let mut points = [0.0; 1536];
     let mut triangles = [0u32; 1176];
-    let mut quads = [0u32; 4096];
+    let mut quads = [0u32; 8192];
     let mut out = [0u32; 3072];
     let mut components = [0u32; 1024];
     let mut work = [0u32; 69632];
@@ -161,7 +161,7 @@ fn answer_hash(size: f64, stop: u32) -> u64 {
         &mut floats,
         standard(NODES, CAPACITY, 2 * SQUARES, SLOTS, size, stop),
     );
-    let given = mixed_words(mixed_counts(a), &quads, 4 * within(a.quads));
+    let given = mixed_words(mixed_counts(a), &quads, 8 * within(a.quads));
     let cut = mixed_words(given, &out, 3 * within(a.triangles));
     let placed = mixed_floats(cut, &points, 3 * within(a.points));
     mixed_words(placed, &components, a.components)
@@ -181,7 +181,7 @@ fn agrees(size: f64, stop: u32, stored: u64) -> u64
 pub fn agreed() -> u64
     ensures { λ r. ⌜ r ≤ 4 ⌝ }
 {
-    let fine = agrees(0.125, 0, 0xf8331415ea075499) + agrees(0.125, 1, 0x637c24757f2b2854);
-    let coarse = agrees(0.25, 0, 0x06b61dee303ea326) + agrees(0.25, 1, 0xc814f3d306c42e63);
+    let fine = agrees(0.125, 0, 0x9334591a3280a61b) + agrees(0.125, 1, 0xe28f664745673052);
+    let coarse = agrees(0.25, 0, 0x223cf2c936833c6d) + agrees(0.25, 1, 0xecc4a878e0a41044);
     fine + coarse
 }

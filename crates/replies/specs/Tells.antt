@@ -7,6 +7,7 @@ use lib.ListN.{length, take}
 use Rattle.definition.specs.Floats.{f64}
 use Rattle.definition.specs.Call.{refusal, Returned, onto}
 use Rattle.reading.specs.declared.found.Header.{Header}
+use Rattle.writing.specs.Answer.{most-written}
 use Rattle.mesher.specs.declared.Answer.{Answer}
 use Rattle.mesher.specs.Promise.{Returns}
 
@@ -47,10 +48,10 @@ pub record Writable (a : Answer) (given : ℕ) : Type 0 where
 pub record Long (given : ℕ) (bits : List ℕ) (points : List Float) (quads triangles components out : List ℕ) : Type 0 where
   pub bits-long : 3 * given ≤ length bits
   pub points-long : 288 ≤ length points
-  pub quads-long : 640 ≤ length quads
+  pub quads-long : 1280 ≤ length quads
   pub triangles-long : 480 ≤ length triangles
   pub components-long : 160 ≤ length components
-  pub out-long : 20480 ≤ length out
+  pub out-long : most-written ≤ length out
 
 -- a call returned this answer and left these slices; its refusals have a number
 pub record Left (x : Returned) (a : Answer) (points : List Float) (quads triangles components : List ℕ) : Type 0 where

@@ -14,9 +14,12 @@ ghost use Rattle.definition.specs.Lists.{rows};
 ghost use Rattle.definition.specs.Call.{Returned};
 ghost use Rattle.definition.specs.Text.{show-returned, reply};
 ghost use Rattle.reading.specs.Whole.{input-of, answer};
-ghost use Rattle.writing.specs.Answer.{counts-of, Answered};
+ghost use Rattle.writing.specs.Answer.{most-written, counts-of, Answered};
 ghost use Rattle.mesher.specs.Promise.{counts-in};
 ghost use Rattle.replies.specs.Tells.{Was-read, Countable, Writable, Long, Left};
+
+// The bytes that a reply fits in.
+pub const WRITTEN: usize = 26624;
 
 // Points that the program lends.
 const POINTS: usize = 96;
@@ -74,7 +77,7 @@ fn told(
 
 // The reply to an input that was read: memory for 96 points and 160 slots is lent to the call, all zeros past the input.
 fn meshed(h: Header, tris: &[u32], bits: &[u64], out: &mut [u8]) -> usize
-    requires { ⌜ Was-read h (now tris) (now bits) × (20480 ≤ length (now out)) ⌝ }
+    requires { ⌜ Was-read h (now tris) (now bits) × (most-written ≤ length (now out)) ⌝ }
     ensures { λ r. ⌜ Answered (now (out .entry)) (now (out .exit)) (answer (some (input-of h (now (tris .entry)) (now (bits .entry))))) r ⌝ }
 {
     let given = h.points;
@@ -82,7 +85,7 @@ fn meshed(h: Header, tris: &[u32], bits: &[u64], out: &mut [u8]) -> usize
     let mut points = [0.0f64; 288];
     floats::fill(bits, 3 * given, &mut points);
     let size = floats::float_of(h.size);
-    let mut quads = [0u32; 640];
+    let mut quads = [0u32; 1280];
     let mut triangles = [0u32; 480];
     let mut components = [0u32; 160];
     let mut work = [0u32; 11008];
@@ -115,7 +118,7 @@ fn meshed(h: Header, tris: &[u32], bits: &[u64], out: &mut [u8]) -> usize
 
 // The reply to a text, at the front of `out`; how many bytes it has.
 pub fn reply(text: &[u8], out: &mut [u8]) -> usize
-    requires { ⌜ 20480 ≤ length (now out) ⌝ }
+    requires { ⌜ most-written ≤ length (now out) ⌝ }
     ensures { λ r. ⌜ Answered (now (out .entry)) (now (out .exit)) (reply (now (text .entry))) r ⌝ }
 {
     let mut tris = [0u32; 192];

@@ -9,9 +9,9 @@ use Rattle.definition.specs.Lists.{flat-map}
 use Rattle.definition.specs.Numbers.{max-attempts}
 use Rattle.definition.specs.Counts.{Want, of-points, of-slots}
 use Rattle.definition.specs.Plane.{Node, Edge}
-use Rattle.definition.specs.Cells.{Tri, quad-nodes}
+use Rattle.definition.specs.Cells.{Tri}
 use Rattle.definition.specs.Front.{State, Progress, stuck, progressed, limited, stopped, start}
-use Rattle.definition.specs.Call.{onto}
+use Rattle.definition.specs.Call.{onto, quad-words}
 use Rattle.definition.specs.Account.{All}
 use Rattle.rules.specs.declared.Rules.{Rules}
 use Rattle.rules.specs.Settings.{settings-of}
@@ -87,7 +87,7 @@ pub record CanRun (w : List ℕ) (q f : List Float) (quads : List ℕ) (rules : 
   pub within : All Within ps
   pub sized : Sized (rules .size)
   pub floats : 3 * rules .slots ≤ length f
-  pub room : 4 * rules .slots ≤ length quads
+  pub room : 8 * rules .slots ≤ length quads
 
 -- ---- the end
 
@@ -96,7 +96,7 @@ pub record LeftRun (w w' : List ℕ) (q q' f f' : List Float) (quads quads' : Li
   pub ready : Ready w' q' rules (r .standing .counters) (st .mesh)
   pub counts : counts-of (r .standing) ≡ st .counts
   pub number : r .standing .quads ≡ length (st .quads)
-  pub text : quads' ≡ onto (flat-map quad-nodes (st .quads)) quads
+  pub text : quads' ≡ onto (flat-map quad-words (st .quads)) quads
   pub behind : Behind q q' (length (st .mesh .points))
   pub words : length w' ≡ length w
   pub reals : length f' ≡ length f

@@ -1,10 +1,8 @@
 // Reads a mesh as text from standard input, and writes what run_front makes of it, or the number of a refusal.
+use replies::WRITTEN;
 
 // The bytes that are read: one more than a text may have, so that a longer one is seen to be longer.
 const READ: usize = 8193;
-
-// The bytes that an answer fits in.
-const WRITTEN: usize = 20480;
 
 // Standard input and standard output.
 const INPUT: i32 = 0;

@@ -82,10 +82,10 @@ module _ (w quads : List ℕ) (s p : ℕ) (g : Standing) (t : Tried) (u v : ℕ)
 
   -- ---- a quad
 
-  pub can-put : sort-of (t .end) ≡ 0 → CanPut w quads s p h (t .n0) (t .n1) (t .n2) (t .n3) ever bl qs old
+  pub can-put : sort-of (t .end) ≡ 0 → CanPut w quads s p h t u v ever bl qs old
   can-put e = record { small-slots = can .small-slots; small-points = can .small-points; so-far = so-far; fits = can .placed (sort-placed (t .end) e) }
 
-  pub put-settles : (w' quads' : List ℕ) (r : Step) → sort-of (t .end) ≡ 0 → PutTo w w' quads' s p h (t .n0) (t .n1) (t .n2) (t .n3) ever bl qs old r
+  pub put-settles : (w' quads' : List ℕ) (r : Step) → sort-of (t .end) ≡ 0 → PutTo w w' quads' s p h t ever bl qs old r
       → SettleTo w w' quads' s p g t u v ever bl qs old r
   put-settles w' quads' r e to =
       record {

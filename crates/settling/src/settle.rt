@@ -18,43 +18,46 @@ ghost use Prim.Native.Nat.{ℕ, _≤_};
 ghost use lib.ListN.{length, drop};
 ghost use Rattle.definition.specs.Plane.{Edge};
 ghost use Rattle.definition.specs.Cells.{Quad};
-ghost use Rattle.settling.specs.Settles.{four, Words, CanPut, PutTo, CanRecord, RecordTo, CanSettle, SettleTo};
+ghost use Rattle.settling.specs.Settles.{eight, Words, CanPut, PutTo, CanRecord, RecordTo, CanSettle, SettleTo};
 
 // Words a quad.
-pub const QUAD: usize = 4;
+pub const QUAD: usize = 8;
 
-// A quad's four numbers at the front of a part of the quad slice.
-fn write_quad(quads: &mut [u32], n0: usize, n1: usize, n2: usize, n3: usize)
-    requires { ⌜ 4 ≤ length (now quads) ⌝ }
-    requires { ⌜ Words n0 n1 n2 n3 ⌝ }
-    ensures { λ r. ⌜ now (quads .exit) ≡ four n0 n1 n2 n3 ++ drop 4 (now (quads .entry)) ⌝ }
+// The quad of the attempt t on the edge u-v, with its birth: eight numbers at the front of a part of the quad slice.
+fn write_quad(quads: &mut [u32], t: Tried, u: usize, v: usize, round: usize)
+    requires { ⌜ 8 ≤ length (now quads) ⌝ }
+    requires { ⌜ Words t u v round ⌝ }
+    ensures { λ r. ⌜ now (quads .exit) ≡ eight t u v round ++ drop 8 (now (quads .entry)) ⌝ }
 {
-    quads[0] = n0 as u32;
-    quads[1] = n1 as u32;
-    quads[2] = n2 as u32;
-    quads[3] = n3 as u32;
+    quads[0] = t.n0 as u32;
+    quads[1] = t.n1 as u32;
+    quads[2] = t.n2 as u32;
+    quads[3] = t.n3 as u32;
+    quads[4] = u as u32;
+    quads[5] = v as u32;
+    quads[6] = round as u32;
+    quads[7] = t.replaced as u32;
 }
 
-// The quad n0 n1 n2 n3 stands behind the others, and frees the blocked edges that touch it.
+// The quad of the attempt t on the edge u-v stands behind the others, and frees the blocked edges that touch it. Every round before placed one quad.
 fn put_quad(
     w: &mut [u32],
     quads: &mut [u32],
     s: usize,
     p: usize,
     g: Standing,
-    n0: usize,
-    n1: usize,
-    n2: usize,
-    n3: usize,
+    t: Tried,
+    u: usize,
+    v: usize,
 ) -> Step
-    requires { ⌜ ((ever : List Edge) × (bl : List Edge) × (qs : List Quad) × (old : List ℕ) × CanPut (now w) (now quads) s p g n0 n1 n2 n3 ever bl qs old) ⌝ }
-    ensures { λ r. ⌜ ((ever bl : List Edge) (qs : List Quad) (old : List ℕ) → CanPut (now (w .entry)) (now (quads .entry)) s p g n0 n1 n2 n3 ever bl qs old → PutTo (now (w .entry)) (now (w .exit)) (now (quads .exit)) s p g n0 n1 n2 n3 ever bl qs old r) ⌝ }
+    requires { ⌜ ((ever : List Edge) × (bl : List Edge) × (qs : List Quad) × (old : List ℕ) × CanPut (now w) (now quads) s p g t u v ever bl qs old) ⌝ }
+    ensures { λ r. ⌜ ((ever bl : List Edge) (qs : List Quad) (old : List ℕ) → CanPut (now (w .entry)) (now (quads .entry)) s p g t u v ever bl qs old → PutTo (now (w .entry)) (now (w .exit)) (now (quads .exit)) s p g t ever bl qs old r) ⌝ }
 {
     let k = g.quads;
     let at = QUAD * k;
-    write_quad(&mut quads[at..], n0, n1, n2, n3);
+    write_quad(&mut quads[at..], t, u, v, k + 1);
     let b = refused_at(s, p);
-    free(w, b, RECORDS * s, p, k, n0, n1, n2, n3);
+    free(w, b, RECORDS * s, p, k, t.n0, t.n1, t.n2, t.n3);
     let h = quadded(g);
     Step {
         kind: Going::Progressed,
@@ -95,7 +98,7 @@ pub fn settle(
     let h = tried(g, c, t.inserted);
     let sort = sort_of(end);
     if sort == 0 {
-        return put_quad(w, quads, s, p, h, t.n0, t.n1, t.n2, t.n3);
+        return put_quad(w, quads, s, p, h, t, u, v);
     }
     if sort == 1 {
         let k = refused(h, end);

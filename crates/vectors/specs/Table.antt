@@ -13,49 +13,49 @@ abbrev pub in-1 : String
 in-1 = "triangles points size stop\n0 0 3ff0000000000000 0\nn0 n1 n2\nx y z\n"
 
 abbrev pub out-1 : String
-out-1 = "front_empty attempts placement invalid_quad recovery region odd_region mismatch_insertions limit\n1 0 0 0 0 0 0 0 0\nquads triangles points components\n0 0 0 0\nn0 n1 n2 n3\nn0 n1 n2\nx y z\nsize\n"
+out-1 = "front_empty attempts placement invalid_quad recovery region odd_region mismatch_insertions limit\n1 0 0 0 0 0 0 0 0\nquads triangles points components\n0 0 0 0\nn0 n1 n2 n3 u v round replaced\nn0 n1 n2\nx y z\nsize\n"
 
 -- P2 S, the unit square
 abbrev pub in-2 : String
 in-2 = "triangles points size stop\n2 4 3ff0000000000000 0\nn0 n1 n2\n0 1 2\n0 2 3\nx y z\n0000000000000000 0000000000000000 0000000000000000\n3ff0000000000000 0000000000000000 0000000000000000\n3ff0000000000000 3ff0000000000000 0000000000000000\n0000000000000000 3ff0000000000000 0000000000000000\n"
 
 abbrev pub out-2 : String
-out-2 = "front_empty attempts placement invalid_quad recovery region odd_region mismatch_insertions limit\n1 1 0 0 0 0 0 0 0\nquads triangles points components\n1 0 4 0\nn0 n1 n2 n3\n0 1 2 3\nn0 n1 n2\nx y z\n0000000000000000 0000000000000000 0000000000000000\n3ff0000000000000 0000000000000000 0000000000000000\n3ff0000000000000 3ff0000000000000 0000000000000000\n0000000000000000 3ff0000000000000 0000000000000000\nsize\n"
+out-2 = "front_empty attempts placement invalid_quad recovery region odd_region mismatch_insertions limit\n1 1 0 0 0 0 0 0 0\nquads triangles points components\n1 0 4 0\nn0 n1 n2 n3 u v round replaced\n0 1 2 3 0 1 1 2\nn0 n1 n2\nx y z\n0000000000000000 0000000000000000 0000000000000000\n3ff0000000000000 0000000000000000 0000000000000000\n3ff0000000000000 3ff0000000000000 0000000000000000\n0000000000000000 3ff0000000000000 0000000000000000\nsize\n"
 
 -- P3 S under rule 1
 abbrev pub in-3 : String
 in-3 = "triangles points size stop\n2 4 3ff0000000000000 1\nn0 n1 n2\n0 1 2\n0 2 3\nx y z\n0000000000000000 0000000000000000 0000000000000000\n3ff0000000000000 0000000000000000 0000000000000000\n3ff0000000000000 3ff0000000000000 0000000000000000\n0000000000000000 3ff0000000000000 0000000000000000\n"
 
 abbrev pub out-3 : String
-out-3 = "front_empty attempts placement invalid_quad recovery region odd_region mismatch_insertions limit\n1 1 0 0 0 0 0 0 0\nquads triangles points components\n1 0 4 0\nn0 n1 n2 n3\n0 1 2 3\nn0 n1 n2\nx y z\n0000000000000000 0000000000000000 0000000000000000\n3ff0000000000000 0000000000000000 0000000000000000\n3ff0000000000000 3ff0000000000000 0000000000000000\n0000000000000000 3ff0000000000000 0000000000000000\nsize\n"
+out-3 = "front_empty attempts placement invalid_quad recovery region odd_region mismatch_insertions limit\n1 1 0 0 0 0 0 0 0\nquads triangles points components\n1 0 4 0\nn0 n1 n2 n3 u v round replaced\n0 1 2 3 0 1 1 2\nn0 n1 n2\nx y z\n0000000000000000 0000000000000000 0000000000000000\n3ff0000000000000 0000000000000000 0000000000000000\n3ff0000000000000 3ff0000000000000 0000000000000000\n0000000000000000 3ff0000000000000 0000000000000000\nsize\n"
 
 -- P4 T, size 1
 abbrev pub in-4 : String
 in-4 = "triangles points size stop\n1 3 3ff0000000000000 0\nn0 n1 n2\n0 1 2\nx y z\n0000000000000000 0000000000000000 0000000000000000\n3ff0000000000000 0000000000000000 0000000000000000\n0000000000000000 3ff0000000000000 0000000000000000\n"
 
 abbrev pub out-4 : String
-out-4 = "front_empty attempts placement invalid_quad recovery region odd_region mismatch_insertions limit\n0 3 0 3 0 0 0 0 0\nquads triangles points components\n0 1 3 1\nn0 n1 n2 n3\nn0 n1 n2\n0 1 2\nx y z\n0000000000000000 0000000000000000 0000000000000000\n3ff0000000000000 0000000000000000 0000000000000000\n0000000000000000 3ff0000000000000 0000000000000000\nsize\n1\n"
+out-4 = "front_empty attempts placement invalid_quad recovery region odd_region mismatch_insertions limit\n0 3 0 3 0 0 0 0 0\nquads triangles points components\n0 1 3 1\nn0 n1 n2 n3 u v round replaced\nn0 n1 n2\n0 1 2\nx y z\n0000000000000000 0000000000000000 0000000000000000\n3ff0000000000000 0000000000000000 0000000000000000\n0000000000000000 3ff0000000000000 0000000000000000\nsize\n1\n"
 
 -- P5 T, size 0
 abbrev pub in-5 : String
 in-5 = "triangles points size stop\n1 3 0000000000000000 0\nn0 n1 n2\n0 1 2\nx y z\n0000000000000000 0000000000000000 0000000000000000\n3ff0000000000000 0000000000000000 0000000000000000\n0000000000000000 3ff0000000000000 0000000000000000\n"
 
 abbrev pub out-5 : String
-out-5 = "front_empty attempts placement invalid_quad recovery region odd_region mismatch_insertions limit\n0 3 0 3 0 0 0 0 0\nquads triangles points components\n0 1 3 1\nn0 n1 n2 n3\nn0 n1 n2\n0 1 2\nx y z\n0000000000000000 0000000000000000 0000000000000000\n3ff0000000000000 0000000000000000 0000000000000000\n0000000000000000 3ff0000000000000 0000000000000000\nsize\n1\n"
+out-5 = "front_empty attempts placement invalid_quad recovery region odd_region mismatch_insertions limit\n0 3 0 3 0 0 0 0 0\nquads triangles points components\n0 1 3 1\nn0 n1 n2 n3 u v round replaced\nn0 n1 n2\n0 1 2\nx y z\n0000000000000000 0000000000000000 0000000000000000\n3ff0000000000000 0000000000000000 0000000000000000\n0000000000000000 3ff0000000000000 0000000000000000\nsize\n1\n"
 
 -- P6 T, size 8
 abbrev pub in-6 : String
 in-6 = "triangles points size stop\n1 3 4020000000000000 0\nn0 n1 n2\n0 1 2\nx y z\n0000000000000000 0000000000000000 0000000000000000\n3ff0000000000000 0000000000000000 0000000000000000\n0000000000000000 3ff0000000000000 0000000000000000\n"
 
 abbrev pub out-6 : String
-out-6 = "front_empty attempts placement invalid_quad recovery region odd_region mismatch_insertions limit\n0 3 3 0 0 0 0 0 0\nquads triangles points components\n0 1 3 1\nn0 n1 n2 n3\nn0 n1 n2\n0 1 2\nx y z\n0000000000000000 0000000000000000 0000000000000000\n3ff0000000000000 0000000000000000 0000000000000000\n0000000000000000 3ff0000000000000 0000000000000000\nsize\n1\n"
+out-6 = "front_empty attempts placement invalid_quad recovery region odd_region mismatch_insertions limit\n0 3 3 0 0 0 0 0 0\nquads triangles points components\n0 1 3 1\nn0 n1 n2 n3 u v round replaced\nn0 n1 n2\n0 1 2\nx y z\n0000000000000000 0000000000000000 0000000000000000\n3ff0000000000000 0000000000000000 0000000000000000\n0000000000000000 3ff0000000000000 0000000000000000\nsize\n1\n"
 
 -- P7 T given twice
 abbrev pub in-7 : String
 in-7 = "triangles points size stop\n2 3 3ff0000000000000 0\nn0 n1 n2\n0 1 2\n0 1 2\nx y z\n0000000000000000 0000000000000000 0000000000000000\n3ff0000000000000 0000000000000000 0000000000000000\n0000000000000000 3ff0000000000000 0000000000000000\n"
 
 abbrev pub out-7 : String
-out-7 = "front_empty attempts placement invalid_quad recovery region odd_region mismatch_insertions limit\n1 0 0 0 0 0 0 0 0\nquads triangles points components\n0 2 3 1\nn0 n1 n2 n3\nn0 n1 n2\n0 1 2\n0 1 2\nx y z\n0000000000000000 0000000000000000 0000000000000000\n3ff0000000000000 0000000000000000 0000000000000000\n0000000000000000 3ff0000000000000 0000000000000000\nsize\n2\n"
+out-7 = "front_empty attempts placement invalid_quad recovery region odd_region mismatch_insertions limit\n1 0 0 0 0 0 0 0 0\nquads triangles points components\n0 2 3 1\nn0 n1 n2 n3 u v round replaced\nn0 n1 n2\n0 1 2\n0 1 2\nx y z\n0000000000000000 0000000000000000 0000000000000000\n3ff0000000000000 0000000000000000 0000000000000000\n0000000000000000 3ff0000000000000 0000000000000000\nsize\n2\n"
 
 -- P8 size 1/128: refused with 2
 abbrev pub in-8 : String

@@ -42,7 +42,7 @@ two-tables f t a b = rw (lines-append f a b) (append-assoc t (lines-of f a) (lin
 pub joined : (k : ℕ) (bits : List ℕ) (c : def.Counts) (n : call.Lengths) (l : Lent)
     → (((((bytes "front_empty attempts placement invalid_quad recovery region odd_region mismatch_insertions limit\n" ++ line-of show (listed c))
     ++ (bytes "quads triangles points components\n" ++ line-of show (lengths-listed n)))
-    ++ (bytes "n0 n1 n2 n3\n" ++ lines-of show (rows 4 (n .quads) (l .quads))))
+    ++ (bytes "n0 n1 n2 n3 u v round replaced\n" ++ lines-of show (rows 8 (n .quads) (l .quads))))
     ++ (bytes "n0 n1 n2\n" ++ lines-of show (rows 3 (n .triangles) (l .triangles-out))))
     ++ (bytes "x y z\n" ++ lines-of show-bits (rows 3 k bits ++ points-between k (n .points) (l .points))))
     ++ (bytes "size\n" ++ lines-of show (rows 1 (n .components) (l .components)))

@@ -45,6 +45,10 @@ pub only-shown : (given : List (List ℕ)) (c : def.Counts) (n : call.Lengths) (
 unfolding show-lists shown
 only-shown given c n l = refl
 
+-- the bytes that an answer fits in: at most 26,341 where every list is as long as what the program lends
+abbrev pub most-written : ℕ
+most-written = 26624
+
 -- the program's lists are no longer than what it lends
 pub record Few (n : Lengths) : Type 0 where
   pub quads : n .quads ≤ 160
@@ -57,7 +61,7 @@ pub record Held (n : Lengths) (given : ℕ) (bits : List ℕ) (points : List Flo
   pub given-few : given ≤ n .points
   pub given-held : 3 * given ≤ length bits
   pub points-held : 3 * n .points ≤ length points
-  pub quads-held : 4 * n .quads ≤ length quads
+  pub quads-held : 8 * n .quads ≤ length quads
   pub triangles-held : 3 * n .triangles ≤ length triangles
   pub components-held : n .components ≤ length components
 

@@ -8,7 +8,7 @@ ghost use lib.ListN.{length};
 ghost use Rattle.definition.specs.Lists.{rows};
 ghost use Rattle.definition.specs.Text.{bytes, show, show-bits, line-of, lines-of, listed, points-between, show-refusal, show-lists};
 ghost use Rattle.writing.specs.Put.{Within};
-ghost use Rattle.writing.specs.Answer.{counts-of, lengths-of, lengths-listed, shown, Few, Held, Answered};
+ghost use Rattle.writing.specs.Answer.{most-written, counts-of, lengths-of, lengths-listed, shown, Few, Held, Answered};
 
 // What a finished run counted.
 pub struct Counts {
@@ -102,7 +102,7 @@ pub fn answer(
     triangles: &[u32],
     components: &[u32],
 ) -> usize
-    requires { ⌜ Few n × Held n given (now bits) (now points) (now quads) (now triangles) (now components) × (20480 ≤ length (now out)) ⌝ }
+    requires { ⌜ Few n × Held n given (now bits) (now points) (now quads) (now triangles) (now components) × (most-written ≤ length (now out)) ⌝ }
     ensures { λ r. ⌜ Answered (now (out .entry)) (now (out .exit)) (show-lists (rows 3 given (now (bits .entry))) (counts-of c) (lengths-of n) (shown (now (points .entry)) (now (quads .entry)) (now (triangles .entry)) (now (components .entry)))) r ⌝ }
 {
     let nq = n.quads;
@@ -111,7 +111,7 @@ pub fn answer(
     let nc = n.components;
     let a = counted(out, c);
     let b = sized(out, a, n);
-    let d = named(out, b, b"n0 n1 n2 n3\n", quads, 4, nq);
+    let d = named(out, b, b"n0 n1 n2 n3 u v round replaced\n", quads, 8, nq);
     let e = named(out, d, b"n0 n1 n2\n", triangles, 3, nt);
     let f = places(out, e, bits, given, points, np);
     named(out, f, b"size\n", components, 1, nc)

@@ -56,7 +56,7 @@ told-requires c κs =
       record {
         bits-long = omega (arith, w);
         points-long = omega (arith, k .0, f .kept .1 .1 .0, length-replicate 288 (ofBits binary64 0));
-        quads-long = omega (arith, k .1 .1 .1 .0, length-replicate {A = ℕ} 640 0);
+        quads-long = omega (arith, k .1 .1 .1 .0, length-replicate {A = ℕ} 1280 0);
         triangles-long = omega (arith, k .1 .1 .1 .1 .0, length-replicate {A = ℕ} 480 0);
         components-long = omega (arith, k .1 .1 .1 .1 .1 .0, length-replicate {A = ℕ} 160 0);
         out-long = start .pre .1;

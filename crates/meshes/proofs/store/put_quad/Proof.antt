@@ -4,10 +4,10 @@ use mathlib.Core.List.{[], _∷_}
 use native.Mathlib.Omega.{arith}
 use borrow.Author.Needs.{needs}
 use lib.ListN.{set, length-set}
-use Rattle.definition.specs.Cells.{nodes, quad-nodes, new-quad}
+use Rattle.definition.specs.Cells.{quad, nodes, quad-nodes, new-quad}
 use Rattle.laws.specs.Frames.{keeps-trans, keeps-more, keeps-set}
 use Rattle.cells.specs.Layout.{fronts-at, mesh-end}
-use Rattle.meshes.specs.Changes.{quad-of-nodes}
+use Rattle.meshes.specs.Changes.{quad-of-nodes, born-of-nodes}
 use Rattle.meshes.proofs.Puts.{put-start, put-done, known-at}
 use Rattle.meshes.proofs.store.put_quad.Statement.{statement}
 use Rattle.meshes.proofs.store.put_quad.Tie as tie
@@ -75,11 +75,11 @@ same-length c =
     c .before .before .place4 .ensures .keeps .len ∙ c .before .before .before .before .before .before .place3 .ensures .keeps .len ∙ c .before .before .before .before .before .before .before .before .before .before .place2 .ensures .keeps .len ∙ c .before .before .before .before .before .before .before .before .before .before .before .before .before .before .place .ensures .keeps .len ∙ simp length-set
 
 returns : tie.Need-returns
-unfolding nodes quad-nodes new-quad
-returns c =
+unfolding nodes quad-nodes
+returns c e₀ round gone =
     let t = c .before .before .before .before .before .before .before .before .before .before .before .before .before .before .before .before .before in
     let a = t .args in
-    let cell = quad-of-nodes (a .a) (a .b) (a .c) (a .d) in
+    let cell = quad (born-of-nodes e₀ round gone (a .a) (a .b) (a .c) (a .d)) in
     let e = fronts-at (a .s) (a .p) in
     let k = keeps-trans (a .w .now) (c .before .before .before .before .before .before .place3 .last .0) (c .before .before .place4 .last .0) e (keeps-trans (a .w .now) (c .before .before .before .before .before .before .before .before .before .before .place2 .last .0) (c .before .before .before .before .before .before .place3 .last .0) e (keeps-trans (a .w .now) (c .before .before .before .before .before .before .before .before .before .before .before .before .before .before .place .last .0) (c .before .before .before .before .before .before .before .before .before .before .place2 .last .0) e (keeps-trans (a .w .now) (set (a .w .now) (a .i) 4) (c .before .before .before .before .before .before .before .before .before .before .before .before .before .before .place .last .0) e (keeps-set (a .w .now) e (a .i) 4 (omega (arith, t .pre .0 .3 .given, t .pre .0 .3 .fits))) (c .before .before .before .before .before .before .before .before .before .before .before .before .before .before .place .ensures .keeps)) (c .before .before .before .before .before .before .before .before .before .before .place2 .ensures .keeps)) (c .before .before .before .before .before .before .place3 .ensures .keeps)) (c .before .before .place4 .ensures .keeps) in
     record {
