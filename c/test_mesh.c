@@ -84,6 +84,7 @@ static void test_births(void) {
     sedgepick_mesh mesh;
     CHECK(sedgepick_mesh_run(corners, 4, halves, 2, 1, 0, &mesh) == SEDGEPICK_FINISHED);
     CHECK(mesh.answer[SEDGEPICK_QUAD_COUNT] == 1 && !memcmp(mesh.quads, record, sizeof record));
+    CHECK(mesh.answer[SEDGEPICK_TRIALS] == 1);
     sedgepick_mesh_free(&mesh);
     for (int i = 0; i < 2; i++) {
         const size_t *answer = alone[i].answer;
@@ -95,6 +96,20 @@ static void test_births(void) {
             replaced += quad[SEDGEPICK_REPLACED];
         }
         CHECK(answer[SEDGEPICK_TRIANGLE_COUNT] + replaced == TRIANGLES + 2 * answer[SEDGEPICK_MISMATCH_INSERTIONS]);
+    }
+}
+
+/* An attempt with pairs tries one of them at least and the set's number at most; without pairs it tries none. */
+static void test_trials(void) {
+    for (size_t pairs = 1; pairs <= 8; pairs += 7) {
+        sedgepick_options options = sedgepick_standard_options(0.25, 0);
+        sedgepick_mesh mesh;
+        options.quality.pairs = pairs;
+        CHECK(sedgepick_mesh_run_with(points[0], POINTS, triangles[0], TRIANGLES, &options, &mesh) == SEDGEPICK_FINISHED);
+        const size_t *answer = mesh.answer;
+        size_t with_pairs = answer[SEDGEPICK_QUAD_COUNT] + answer[SEDGEPICK_RECOVERY] + answer[SEDGEPICK_REGION] + answer[SEDGEPICK_ODD_REGION];
+        CHECK(with_pairs > 0 && with_pairs <= answer[SEDGEPICK_TRIALS] && answer[SEDGEPICK_TRIALS] <= pairs * with_pairs);
+        sedgepick_mesh_free(&mesh);
     }
 }
 
@@ -310,6 +325,7 @@ int main(void) {
     test_threads();
     test_growth();
     test_births();
+    test_trials();
     test_refusals();
     test_ranges();
     test_sets();

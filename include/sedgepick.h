@@ -117,11 +117,13 @@ enum sedgepick_answer {
     SEDGEPICK_REGION,              /* the triangles inside the quad do not fill it */
     SEDGEPICK_ODD_REGION,          /* they do, and without them some component would be odd */
     SEDGEPICK_MISMATCH_INSERTIONS, /* points added */
-    SEDGEPICK_LIMIT,               /* 1 when a limit on attempts or triangles ended the run */
+    SEDGEPICK_LIMIT,               /* 1 when a limit on attempts or triangles ended the run; that on attempts is 200 for each given triangle and 10,000, and one more is counted */
     SEDGEPICK_QUAD_COUNT,          /* lengths of the four lists */
     SEDGEPICK_TRIANGLE_COUNT,
     SEDGEPICK_POINT_COUNT,
     SEDGEPICK_COMPONENT_COUNT,
+    SEDGEPICK_TRIALS,              /* pairs of side nodes tried, over all attempts: in one that was refused all the pairs it had, up to the set's number; in one
+                                      that placed a quad those up to the quad's. So at most the set's number for each attempt */
     SEDGEPICK_ANSWER               /* how many they are */
 };
 
@@ -144,7 +146,7 @@ enum sedgepick_answer {
  * slots          slots for cells, from the triangles to 16,384. Each given triangle takes one, each quad one more, each added point two more.
  * size           target length of an edge: 0 for none, otherwise from 1/64 to 8.
  * stop           stop rule: 0 or 1.
- * answer         13 numbers (SEDGEPICK_ANSWER), written only where 0 is returned; after a refusal all counts and lengths are zero, and the slice is as it was.
+ * answer         14 numbers (SEDGEPICK_ANSWER), written only where 0 is returned; after a refusal all counts and lengths are zero, and the slice is as it was.
  *
  * Entries past a list's length are as they were. 1 to 7 and 13 to 15 touch no slice. 8 and 9 leave the points added and the quads written before them, clear both
  * work slices and touch nothing else; with more capacity, or more slots, the same call goes further.

@@ -401,6 +401,7 @@ class Texts(Case):
             given = given_of(path[:-4])
             replaced = sum(birth.replaced for birth in mesh.births)
             self.assertEqual(len(mesh.triangles) + replaced, len(given.triangles) + 2 * mesh.counts['mismatch_insertions'], path)
+            self.assertEqual('trials' in mesh.counts, path.startswith(ROOT + '/answers/calls'))
             asked = least_jacobian(path[:-4] + '.call')
             for quad in mesh.quads:
                 corners = [mesh.points[node] for node in quad]

@@ -46,6 +46,7 @@ pub struct Tally {
     pub refused: [u64; REFUSALS],
     pub quads: u64,
     pub inserted: u64,
+    pub trials: u64,
     pub differ: u64,
 }
 
@@ -68,6 +69,7 @@ impl Tally {
             .for_each(|(to, n)| *to += n);
         self.quads += other.quads;
         self.inserted += other.inserted;
+        self.trials += other.trials;
         self.differ += other.differ;
     }
 }
@@ -412,6 +414,7 @@ impl Case<'_> {
                 t.limited += a.counts.limit as u64;
                 t.quads += a.quads as u64;
                 t.inserted += a.counts.mismatch_insertions as u64;
+                t.trials += a.counts.trials as u64;
             }
             Err(why) => t.refused[why.number() as usize] += 1,
         }

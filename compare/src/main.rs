@@ -94,14 +94,14 @@ impl Work {
 
 /// A line a kind, then the sums.
 fn print(kinds: &BTreeMap<&'static str, Tally>) -> Tally {
-    println!("kind | meshes | runs | sets | changed | joined | changed | standing | saved | grids | finished | by limit | refused 1 2 3 14 4 5 6 7 15 13 | 8 | 9 | quads | insertions | differ");
+    println!("kind | meshes | runs | sets | changed | joined | changed | standing | saved | grids | finished | by limit | refused 1 2 3 14 4 5 6 7 15 13 | 8 | 9 | quads | insertions | trials | differ");
     let mut all = Tally::default();
     let line = |kind: &str, t: &Tally| {
         let early = [1, 2, 3, 14, 4, 5, 6, 7, 15, 13]
             .map(|k| t.refused[k].to_string())
             .join(" ");
         println!(
-            "{kind} | {} | {} | {} | {} | {} | {} | {} | {} | {} | {} | {} | {early} | {} | {} | {} | {} | {}",
+            "{kind} | {} | {} | {} | {} | {} | {} | {} | {} | {} | {} | {} | {early} | {} | {} | {} | {} | {} | {}",
             t.meshes,
             t.runs,
             t.sets,
@@ -117,6 +117,7 @@ fn print(kinds: &BTreeMap<&'static str, Tally>) -> Tally {
             t.refused[9],
             t.quads,
             t.inserted,
+            t.trials,
             t.differ
         );
     };

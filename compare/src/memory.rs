@@ -208,6 +208,7 @@ pub fn answer(rust: &FrontResult) -> Result<Answer, Refusal> {
             odd_region: c.odd_region,
             mismatch_insertions: c.mismatch_insertions,
             limit: c.limit,
+            trials: c.trials,
         },
         quads: rust.quads.len(),
         triangles: rust.triangles.len(),

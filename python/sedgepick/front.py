@@ -93,6 +93,7 @@ class Counts:
     odd_region: int           # they do, and without them some component would be odd
     mismatch_insertions: int  # points added
     limit: int                # 1 when a limit ended the run
+    trials: int               # pairs of side nodes tried, over all attempts: at most the set's number in each
 
 
 class Quad(NamedTuple):
@@ -201,15 +202,15 @@ def attempt(run, points, triangles, call):
     given, joints = lent(triangles), lent(call.joints)
     quads, left, components, work = ((ctypes.c_uint32 * n)() for n in (QUAD_WORDS * slots, 3 * slots, slots, 64 * slots + 8 * capacity))
     float_work = (ctypes.c_double * (4 * slots))()
-    answer = (ctypes.c_size_t * 13)()
+    answer = (ctypes.c_size_t * 14)()
     q = call.quality
     refusal = run(xyz, len(xyz), given, len(triangles), joints, len(call.joints), quads, len(quads), left, len(left), components, len(components),
                   work, len(work), float_work, len(float_work), call.given, call.capacity, call.count, call.slots, len(call.joints) // 2, call.size, call.stop,
                   q.least_jacobian, q.largest_cosine, q.side_low, q.side_high, int(q.pairs), call.grid, answer, len(answer))
     if refusal:
         return refusal, None
-    lengths = answer[9:]
-    return 0, Mesh(rows(xyz, lengths[2], 3), Quads(rows(quads, lengths[0], QUAD_WORDS)), rows(left, lengths[1], 3), rows(components, lengths[3], 1), Counts(*answer[:9]))
+    counts, lengths, trials = answer[:9], answer[9:13], answer[13]
+    return 0, Mesh(rows(xyz, lengths[2], 3), Quads(rows(quads, lengths[0], QUAD_WORDS)), rows(left, lengths[1], 3), rows(components, lengths[3], 1), Counts(*counts, trials))
 
 
 def lent(numbers):

@@ -82,7 +82,7 @@ def sections(job):
                  ('coordinates rounded', '%d of given nodes on their way to the library, %d of added ones on their way back' % result.rounded),
                  ('library', 'sedgepick %s' % library.VERSION), ('commit', library.commit()), ('meshio', meshio.__version__), ('seconds', '%.1f' % job.seconds)]),
         ('Result', counted),
-        ('Attempts', [('attempts', total('attempts'))] + [('refused: ' + words, total(name)) for name, words in REFUSED] + [('ended by a limit', total('limit'))]),
+        ('Attempts', [('attempts', total('attempts')), ('pairs of side nodes tried', total('trials'))] + [('refused: ' + words, total(name)) for name, words in REFUSED] + [('ended by a limit', total('limit'))]),
         ('Area', [('before', '%.15g' % job.areas[0]), ('after', '%.15g' % job.areas[1]), ('boundary', 'every edge found')] + exact_words(job)),
         ('Quads', [('least scaled Jacobian', '%.4f' % jacobians.min()), ('least angle', '%.2f degrees' % least.min()), replaced] + list(map(place, quad_rows))
          if len(result.quads) else [('none', '')]),

@@ -33,7 +33,7 @@ class Runs(unittest.TestCase):
         mesh = sedgepick.run_front(SQUARE, HALVES, 1.0, 0)
         self.assertEqual(list(mesh.quads), [((0, 1, 2, 3), (0, 1), 1, 2)])
         self.assertEqual((mesh.quads[-1].nodes, mesh.quads[0].edge, mesh.quads[0].round, mesh.quads[0].replaced), ((0, 1, 2, 3), (0, 1), 1, 2))
-        self.assertEqual((len(mesh.triangles), len(mesh.points), len(mesh.components), mesh.counts.attempts), (0, 4, 0, 1))
+        self.assertEqual((len(mesh.triangles), len(mesh.points), len(mesh.components), mesh.counts.attempts, mesh.counts.trials), (0, 4, 0, 1, 1))
 
     def test_nothing(self):
         mesh = sedgepick.run_front([], [], 0.0, 0)
@@ -50,6 +50,8 @@ class Runs(unittest.TestCase):
         mesh = sedgepick.run_front(points, triangles, 0.5)
         c = mesh.counts
         self.assertEqual(c.attempts, len(mesh.quads) + c.placement + c.invalid_quad + c.recovery + c.region + c.odd_region + c.limit)
+        with_pairs = len(mesh.quads) + c.recovery + c.region + c.odd_region
+        self.assertTrue(with_pairs <= c.trials <= 8 * with_pairs)
         self.assertEqual(len(mesh.points), len(points) + c.mismatch_insertions)
         self.assertEqual([tuple(map(float, p)) for p in mesh.points[:len(points)]], points)
         self.assertEqual(sum(int(n) for n in mesh.components), len(mesh.triangles))
@@ -120,6 +122,7 @@ class Qualities(unittest.TestCase):
             mesh = sedgepick.run_front(points, triangles, 0.5, quality=quality)
             self.assertGreater(len(mesh.quads), 0)
             self.assertNotEqual(mesh.quads, usual.quads, quality)
+            self.assertLessEqual(mesh.counts.trials, quality.pairs * mesh.counts.attempts)
             for cosine, sine in corners(mesh):
                 self.assertLessEqual(cosine, quality.largest_cosine + 1e-9)
                 self.assertGreaterEqual(sine, quality.least_jacobian - 1e-9)

@@ -1,6 +1,6 @@
 //! What holds of every finished run: the account of demand 3, in floats where it
-//! speaks of exact arithmetic, the births of quads, that joints are kept, and the area
-//! of the grid profile.
+//! speaks of exact arithmetic, the trials, the births of quads, that joints are kept, and
+//! the area of the grid profile.
 
 use std::collections::BTreeSet;
 
@@ -39,6 +39,7 @@ pub fn check(input: &Input, r: &FrontResult) {
     let refused = c.placement + c.invalid_quad + c.recovery + c.region + c.odd_region;
     assert_eq!(c.attempts, r.quads.len() + refused + c.limit, "attempts");
     assert!(c.limit <= 1 && c.front_empty <= 1, "limit, front_empty");
+    check_trials(input, r);
     assert_eq!(
         r.points.len(),
         input.points.len() + c.mismatch_insertions,
@@ -95,6 +96,26 @@ fn check_quad(r: &FrontResult, set: &Quality, quad: &[usize; 4]) {
         );
         let sine = (u[0] * v[1] - u[1] * v[0]) / squares.sqrt();
         assert!(sine >= set.least_jacobian - 1e-4, "a corner's Jacobian");
+    }
+}
+
+/// An attempt that placed a quad, or was refused after its pairs, tried one at least and the set's
+/// number at most; any other tried none. The limit on attempts lets all but the last be made.
+fn check_trials(input: &Input, r: &FrontResult) {
+    let c = &r.refusals;
+    let with_pairs = r.quads.len() + c.recovery + c.region + c.odd_region;
+    assert!(with_pairs <= c.trials, "an attempt without its trial");
+    assert!(
+        c.trials <= input.quality.pairs * with_pairs,
+        "more trials than pairs"
+    );
+    if c.limit == 1 {
+        let given = input.triangles.len();
+        let by_triangles = r.triangles.len() > 4 * given + 100;
+        assert!(
+            by_triangles || c.attempts == 200 * given + 10_001,
+            "the limit's attempts"
+        );
     }
 }
 

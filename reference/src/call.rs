@@ -1,7 +1,7 @@
 //! Calls of the library in files: the capacities, the quality set where it is not
 //! document 01's, the joints where there are such, the grid profile where it is chosen,
 //! then the program's text form without its limits. An answer also says what refusals 8
-//! and 9 leave.
+//! and 9 leave, and the trials of a finished run.
 
 use std::io::Result;
 use std::path::Path;
@@ -17,6 +17,7 @@ const QUALITY: &str = "least_jacobian largest_cosine side_low side_high pairs";
 const JOINTS: &str = "joints";
 const JOINT: &str = "u v";
 const PROFILE: &str = "grid";
+const TRIALS: &str = "trials";
 
 /// A call's text.
 pub fn write(lent: Lent, input: &Input) -> Vec<u8> {
@@ -127,8 +128,18 @@ pub fn reply(bytes: &[u8]) -> Option<Vec<u8>> {
     read(bytes).map(|(lent, input)| answer(&input, lent))
 }
 
-/// The program's answer; after 8 and 9 the quads and points that they leave.
+/// The program's answer; after 8 and 9 the quads and points that they leave, after a finished run
+/// its trials.
 pub fn answer(input: &Input, lent: Lent) -> Vec<u8> {
+    let mut out = shown(input, lent);
+    if let Ok(result) = input.run(lent) {
+        out.extend(format!("{TRIALS}\n{}\n", result.refusals.trials).bytes());
+    }
+    out
+}
+
+/// What is made or left.
+fn shown(input: &Input, lent: Lent) -> Vec<u8> {
     let mut out = text::answer(input, lent);
     if input.refusal(lent).is_none() {
         let result = input.run_unchecked(lent);
@@ -201,7 +212,7 @@ pub fn further_calls(what: Further, seed: u64, count: u64, folder: &Path) -> Res
         let wanted = match (input.refusal(lent), what) {
             (Some(number), _) => refused && number == what.refusal(),
             (None, Further::Grid) => !refused && !input.run_unchecked(lent).quads.is_empty(),
-            (None, _) => !refused && said != answer(&plain, lent),
+            (None, _) => !refused && shown(&input, lent) != shown(&plain, lent),
         };
         if !wanted {
             continue;

@@ -49,8 +49,8 @@ fn grid(size: f64, stop: u32) -> Input {
     }
 }
 
-/// The counts and the lengths of a finished run.
-pub fn counts(r: &FrontResult) -> [usize; 13] {
+/// The counts, the lengths and the trials of a finished run.
+pub fn counts(r: &FrontResult) -> [usize; 14] {
     let c = &r.refusals;
     [
         c.front_empty,
@@ -66,10 +66,11 @@ pub fn counts(r: &FrontResult) -> [usize; 13] {
         r.triangles.len(),
         r.points.len(),
         r.region_components.len(),
+        c.trials,
     ]
 }
 
-/// An answer as numbers: the counts, the lengths, the lists.
+/// An answer as numbers: the counts, the lengths, the trials, the lists.
 fn numbers(r: &FrontResult) -> Vec<u64> {
     let quads = records(r);
     let triangles = r.triangles.iter().flatten();

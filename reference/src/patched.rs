@@ -1404,6 +1404,10 @@ pub struct Refusals {
     /// 1 when a runaway bound ended the run.
     pub limit: usize,
     // end patch
+    // patch: trials
+    /// Pairs tried, over all attempts: their turn came, and a triangle owned the edge.
+    pub trials: usize,
+    // end patch
 }
 
 /// How the front decides it has finished.
@@ -1833,6 +1837,9 @@ fn try_quad(
     for &(_, quad) in pairs.iter().take(mesh.quality.pairs) {
         // end patch
         let seed = mesh.tri_owner(edge.0, edge.1).ok_or(Refusal::Placement)?;
+        // patch: trials
+        refusals.trials += 1;
+        // end patch
         let mut recovered = true;
         for (u, v) in [(quad[0], quad[3]), (quad[1], quad[2]), (quad[2], quad[3])] {
             if !mesh.has_edge(u, v) && !mesh.recover(u, v) {

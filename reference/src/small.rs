@@ -106,8 +106,8 @@ fn onto(slice: &mut [u64], list: impl Iterator<Item = u64>) {
     slice.iter_mut().zip(list).for_each(|(old, new)| *old = new);
 }
 
-/// What a call returns, as numbers: the refusal, 0 where there is none, the counts, the lengths;
-/// then the whole slices at exit: quads, triangles, components, points. They are lent for as much
+/// What a call returns, as numbers: the refusal, 0 where there is none, the counts, the lengths,
+/// the trials; then the whole slices at exit: quads, triangles, components, points. They are lent for as much
 /// as `LENT[0]` says; the points of the position come first in theirs.
 fn returned(input: &Input, position: &[[f64; 2]], lent: Lent) -> Vec<u64> {
     let most = LENT[0];
@@ -116,7 +116,7 @@ fn returned(input: &Input, position: &[[f64; 2]], lent: Lent) -> Vec<u64> {
     let mut components = vec![UNUSED; most.slots];
     let mut points = vec![0; 3 * most.points];
     onto(&mut points, position.iter().flat_map(bits));
-    let mut head = vec![0; 14];
+    let mut head = vec![0; 15];
     if let Some(number) = input.refusal(lent) {
         head[0] = number as u64;
     } else {

@@ -11,7 +11,7 @@ fn without_its_patches_the_patched_module_is_the_published_one() {
     assert_eq!(marks::take_back(PATCHED, |_| true).unwrap(), PUBLISHED);
 }
 
-const NAMES: [&str; 9] = [
+const NAMES: [&str; 10] = [
     "cosine",
     "limit",
     "off-front",
@@ -21,10 +21,11 @@ const NAMES: [&str; 9] = [
     "joints",
     "grid",
     "birth",
+    "trials",
 ];
 
 #[test]
-fn every_patch_is_one_of_nine() {
+fn every_patch_is_one_of_ten() {
     for name in marks::names(PATCHED) {
         assert!(NAMES.contains(&name));
     }
@@ -152,6 +153,21 @@ fn births_are_noted_and_change_nothing() {
             "mesh.births.push(Birth {",
         ]
     );
+}
+
+#[test]
+fn trials_are_counted_in_one_place_and_change_nothing() {
+    let new = marks::take_back(PATCHED, |_| false).unwrap();
+    let old = marks::take_back(PATCHED, |patch| patch == "trials").unwrap();
+    assert!(fresh(&old, &new).is_empty());
+    let mut added = fresh(&new, &old);
+    added.retain(|line| !line.starts_with("//"));
+    assert_eq!(added, ["pub trials: usize,", "refusals.trials += 1;"]);
+    // Once the owner of the edge is found, and before anything can end the trial.
+    let owner = "let seed = mesh.tri_owner(edge.0, edge.1).ok_or(Refusal::Placement)?;";
+    let lines: Vec<&str> = new.lines().map(str::trim).collect();
+    let place = lines.iter().position(|l| *l == "refusals.trials += 1;");
+    assert_eq!(lines[place.unwrap() - 1], owner);
 }
 
 #[test]

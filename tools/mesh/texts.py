@@ -16,6 +16,7 @@ TRIANGLE = 'n0 n1 n2'
 QUAD = 'n0 n1 n2 n3 u v round replaced'
 POINT = 'x y z'
 SIZES = 'size'
+TRIALS = 'trials'
 REFUSED = 'refused'
 
 NUMBER = re.compile(rb'0|[1-9][0-9]{0,17}')
@@ -197,6 +198,9 @@ def answer(form):
     form.names(SIZES)
     for _ in range(components):
         form.numbers(SIZES)
+    if form.lines[form.number:form.number + 1] == [TRIALS.encode()]:  # the answer to a call
+        form.names(TRIALS)
+        counts[TRIALS], = form.numbers(TRIALS)
     form.end()
     return mesh
 

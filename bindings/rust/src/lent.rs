@@ -4,8 +4,8 @@ use std::cmp::Ordering;
 
 use crate::{Counts, Quad, Refusal};
 
-/// Numbers that a finished run writes: nine counts and four lengths.
-const ANSWER: usize = 13;
+/// Numbers that a finished run writes: nine counts, four lengths and the trials.
+const ANSWER: usize = 14;
 
 /// Numbers of a quad's record: four nodes, the edge's two, the round, the triangles replaced.
 pub const QUAD_WORDS: usize = 8;
@@ -295,6 +295,7 @@ fn answered(number: usize, a: [usize; ANSWER]) -> Result<Answer, Refusal> {
             odd_region: a[6],
             mismatch_insertions: a[7],
             limit: a[8],
+            trials: a[13],
         },
         quads: a[9],
         triangles: a[10],

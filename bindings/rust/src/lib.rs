@@ -12,7 +12,7 @@
 //! assert_eq!(mesh.quads[0].nodes, [0, 1, 2, 3]);
 //! assert_eq!((mesh.quads[0].edge, mesh.quads[0].round, mesh.quads[0].replaced), ([0, 1], 1, 2));
 //! assert!(mesh.triangles.is_empty());
-//! assert_eq!(mesh.counts.attempts, 1);
+//! assert_eq!((mesh.counts.attempts, mesh.counts.trials), (1, 1));
 //!
 //! let refused = run_front(&points, &[[0, 1, 4]], 1.0, Stop::Exhaust);
 //! assert_eq!(refused, Err(Refusal::UnknownNode));
@@ -141,6 +141,9 @@ pub struct Counts {
     pub mismatch_insertions: usize,
     /// 1 when a limit ended the run.
     pub limit: usize,
+    /// Pairs of side nodes tried, over all attempts: at most the set's number in each. A refused attempt tried all the pairs it had, up to that number, one
+    /// that placed a quad those up to the quad's.
+    pub trials: usize,
 }
 
 /// A quad, and how it came about.

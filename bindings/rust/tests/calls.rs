@@ -34,9 +34,10 @@ fn the_square_under_both_rules() {
             (
                 mesh.counts.front_empty,
                 mesh.counts.attempts,
+                mesh.counts.trials,
                 mesh.triangles.len()
             ),
-            (1, 1, 0)
+            (1, 1, 1, 0)
         );
     }
 }
@@ -205,6 +206,15 @@ fn memory_grows() {
         .iter()
         .all(|&n| n == 7));
     births(&triangles, &mesh);
+    trials(8, &mesh);
+}
+
+/// With so many pairs at most.
+fn trials(pairs: usize, mesh: &Mesh) {
+    let c = &mesh.counts;
+    let with_pairs = mesh.quads.len() + c.recovery + c.region + c.odd_region;
+    assert!(with_pairs <= c.trials && c.trials <= pairs * with_pairs);
+    assert!(c.trials <= pairs * c.attempts);
 }
 
 /// Edges and rounds of the quads, and how many triangles they replaced.

@@ -83,6 +83,10 @@ fn a_stricter_set_is_kept_and_gives_another_mesh() {
         let mesh = run_front_with(&points, &triangles, &with(quality)).unwrap();
         assert!(!mesh.quads.is_empty());
         assert_ne!(mesh.quads, plain.quads);
+        let c = &mesh.counts;
+        let with_pairs = mesh.quads.len() + c.recovery + c.region + c.odd_region;
+        let most = quality.set().pairs * with_pairs;
+        assert!(with_pairs <= c.trials && c.trials <= most);
         let set = quality.set();
         for (cosine, sine) in corners(&mesh.points, &mesh.quads) {
             assert!(cosine <= set.largest_cosine + 1e-9);

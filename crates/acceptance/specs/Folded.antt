@@ -1,4 +1,4 @@
--- What is folded of a call: the refusal's number, the counts and the lengths, then the lists, the sizes and the points as the whole slices hold them at exit.
+-- What is folded of a call: the refusal's number, the counts, the lengths and the trials, then the lists, the sizes and the points as the whole slices hold them at exit.
 use mathlib.Core.List.{List, [], _∷_}
 use Prim.Native.Nat.{ℕ}
 use lib.Ieee.{Float, binary64, toBits}
@@ -7,7 +7,7 @@ use Rattle.definition.specs.Call.{Answer, Lengths, Returned, counts-of, lengths
 use Rattle.hashing.specs.Hash.{hash, word}
 use Rattle.mesher.specs.Promise.{number-of}
 
--- the counts and the lengths
+-- the nine counts that are written, the lengths and the trials
 unfoldable pub counted : Counts → Lengths → List ℕ
 counted c n =
     c .front-empty
@@ -23,6 +23,7 @@ counted c n =
     ∷ n .triangles
     ∷ n .points
     ∷ n .components
+    ∷ c .trials
     ∷ []
 
 -- the numbers of an answer; all but the first are 0 in a refusal

@@ -9,7 +9,7 @@ ghost use Rattle.hashing.specs.Hash.{hash, word};
 ghost use Rattle.mesher.specs.Promise.{counts-in, lengths-in};
 ghost use Rattle.acceptance.specs.Folded.{counted, with-slices};
 
-// The hash with the refusal's number, the counts and the lengths.
+// The hash with the refusal's number, the counts, the lengths and the pairs tried.
 pub fn mixed_answer(start: u64, a: Answer) -> u64
     ensures { λ r. ⌜ r ≡ hash word start (a .refusal ∷ counted (counts-in a) (lengths-in a)) ⌝ }
 {
@@ -26,7 +26,8 @@ pub fn mixed_answer(start: u64, a: Answer) -> u64
     h = mixed(h, a.quads as u64);
     h = mixed(h, a.triangles as u64);
     h = mixed(h, a.points as u64);
-    mixed(h, a.components as u64)
+    h = mixed(h, a.components as u64);
+    mixed(h, a.trials as u64)
 }
 
 // The hash with four whole slices.

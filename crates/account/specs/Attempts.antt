@@ -134,20 +134,30 @@ module _ (s : Settings) (lk : Edge → Bool) (ts : List Tri) (ps : List Node) wh
   pub begun-within : (w : Want) (st : State) → rounds-of ≡ stopped w st → st .counts .attempts ≤ s .attempts
   begun-within w st e = let g : Going (s .attempts) st = subst (λ p. Ends (Going (s .attempts)) (Limited (s .attempts) (length ts)) p) e ending in g .made
 
+-- A run that the limit on attempts ended reports exactly one more; one that a limit ended with fewer has more leftover triangles than their limit.
+pub result-limit : (s : Settings) (lk : Edge → Bool) (ts : List Tri) (ps : List Node) (r : Result) → run-front s lk ts ps ≡ ran r → r .counts .limit ≡ 1
+    → (r .counts .attempts ≡ s .attempts + 1) ⊎ (max-triangles (length ts) < length (r .triangles))
+unfolding result
+result-limit s lk ts ps r e f =
+    elim (at-the-limit s lk ts ps r e f) [
+      | inl h ↦ inl h
+      | inr h ↦
+          let m = h .0 .mesh in
+          let u : length (r .triangles) ≡ length (triangles m) = ap (λ r. length (r .triangles)) (h .1) in
+          inr (omega (arith, h .2, u, live-tris-is m, same-length (tris-of (m .live)) (triangles m) (triangles-same m)))
+    ]
+
 -- ---- a call
 
 -- A call that the limit on attempts ended reports exactly 200 times the triangles plus 10,001 attempts; one that a limit ended with fewer has more leftover triangles than their limit.
 pub limit-exact : (a : Asked) (l : Lent) (c : Counts) (n : Lengths) → call a l .answer ≡ finished c n → c .limit ≡ 1
     → (c .attempts ≡ 200 * a .count + 10001) ⊎ (4 * a .count + 100 < n .triangles)
-unfolding settings max-attempts max-triangles result lengths
+unfolding settings lengths max-attempts max-triangles
 limit-exact a l c n done e =
     let b = behind a l c n done in
     let k = b .counts-are in
     let t = tris-number a l (b .passed) in
-    elim (at-the-limit (settings a) (given-locks a l) (given-tris a l) (given-points a l) (b .run) (b .ended) (sym (ap (λ z. z .limit) k) ∙ e)) [
-      | inl h ↦ inl (omega (arith, ap (λ z. z .attempts) k, h))
-      | inr h ↦
-          let m = h .0 .mesh in
-          let u : n .triangles ≡ length (triangles m) = ap (λ z. z .triangles) (b .lengths-are) ∙ ap (λ r. length (r .triangles)) (h .1) in
-          inr (omega (arith, h .2, u, live-tris-is m, same-length (tris-of (m .live)) (triangles m) (triangles-same m), t))
+    elim (result-limit (settings a) (given-locks a l) (given-tris a l) (given-points a l) (b .run) (b .ended) (sym (ap (λ z. z .limit) k) ∙ e)) [
+      | inl h ↦ inl (omega (arith, ap (λ z. z .attempts) k, h, t))
+      | inr h ↦ inr (omega (arith, h, ap (λ z. z .triangles) (b .lengths-are), t))
     ]

@@ -11,7 +11,7 @@ use lib.Dec.{ltb}
 use Rattle.definition.specs.Lists.{flat-map, contains}
 use Rattle.definition.specs.Floats.{_≼_}
 use Rattle.definition.specs.Numbers.{Settings, Quality, first-turn, second-turn, tiny-length}
-use Rattle.definition.specs.Counts.{Refusal, Recovery, Spent, nothing-spent}
+use Rattle.definition.specs.Counts.{Refusal, Recovery, Spent, nothing-spent, trying}
 use Rattle.definition.specs.Plane.{Edge, norm, from-to}
 use Rattle.definition.specs.Metrics.{passes}
 use Rattle.definition.specs.Cells.{Quad, Cell, tri, quad, Live, Mesh, key, new-quad, born, node-at, tri-owner}
@@ -61,7 +61,7 @@ module _ (s : Settings) (e : Edge) where
       cond-ok (Gave e) (w .there) _ _ (λ z. region-gave (w .mesh) q (region (w .mesh) (x .slot) q) h) (λ z. tt)
 
   pairs-case : (n : Spent) (m : Mesh) (f : Edge) (last : Refusal) (t : Trial) (ts : List Trial) (r : Tried) → try-pair s m (t .nodes) (tri-owner m f) ≡ r → Gave e r
-      → ((m′ : Mesh) (why : Refusal) → Grown e (try-pairs s n m′ f why ts)) → Grown e (try-pairs s n m f last (t ∷ ts))
+      → ((m′ : Mesh) (why : Refusal) → Grown e (try-pairs s (trying n) m′ f why ts)) → Grown e (try-pairs s n m f last (t ∷ ts))
   unfolding try-pairs
   pairs-case n m f last t ts (made q m′) g h next = rw (g, try-pairs) h
   pairs-case n m f last t ts (failed why m′) g h next = rw (g, try-pairs) (next m′ why)
@@ -72,7 +72,7 @@ module _ (s : Settings) (e : Edge) where
   unfolding try-pairs
   pairs-grown n m f last [] h = tt
   pairs-grown n m f last (t ∷ ts) h =
-      pairs-case n m f last t ts (try-pair s m (t .nodes) (tri-owner m f)) refl (pair-gave m (t .nodes) (tri-owner m f) (h t (inl refl))) (λ m′ why. pairs-grown n m′ f why ts (λ u i. h u (inr i)))
+      pairs-case n m f last t ts (try-pair s m (t .nodes) (tri-owner m f)) refl (pair-gave m (t .nodes) (tri-owner m f) (h t (inl refl))) (λ m′ why. pairs-grown (trying n) m′ f why ts (λ u i. h u (inr i)))
 
   trials-grown : (n : Spent) (m : Mesh) (f : Edge) (ts : List Trial) → From e ts → Grown e (try-trials s n m f ts)
   unfolding try-trials

@@ -21,6 +21,7 @@ use Rattle.definition.specs.Job.{Job, most-meshes, most-allowance, share, entit
 use Rattle.laws.specs.Bools.{which, or-none}
 use Rattle.laws.specs.Lists.{known}
 use Rattle.account.specs.Slices.{read-quads}
+use Rattle.account.specs.Kept.{usual-limit}
 use Rattle.account.specs.Finished.{behind}
 use Rattle.account.specs.Walks.{Ends}
 use Rattle.account.specs.Attempts.{Going, Limited, ending}
@@ -142,11 +143,6 @@ usual : (j : Job) (a : Asked) → job-limit j a ≤ max-attempts (a .count)
 unfolding job-limit
 usual j a = omega arith
 
--- the usual limit makes no other settings
-usual-settings : (a : Asked) → limited-to (max-attempts (a .count)) (settings a) ≡ settings a
-unfolding limited-to settings
-usual-settings a = refl
-
 -- where nothing refuses the call, the mesh in the job returns what its run leads to
 job-returns : (j : Job) (a : Asked) (l : Lent) → bad-job j ≡ false → find (λ c. c .1) (conditions a l) ≡ none
     → job j a l .returned ≡ after-run l (run-front (in-job j a) (given-locks a l) (given-tris a l) (given-points a l))
@@ -166,7 +162,7 @@ pub job-first : (j : Job) (a : Asked) (l : Lent) (c : Counts) (n : Lengths) → 
 unfolding after-run
 job-first j a l c n h done =
     let b = behind a l c n done in
-    let ended = ap (λ s. run-front s (given-locks a l) (given-tris a l) (given-points a l)) (usual-settings a) ∙ b .ended in
+    let ended = ap (λ s. run-front s (given-locks a l) (given-tris a l) (given-points a l)) (usual-limit a) ∙ b .ended in
     let w = smaller-finished (settings a) (job-limit j a) (max-attempts (a .count)) (usual j a) (given-locks a l) (given-tris a l) (given-points a l) (b .run) ended in
     let r = w .0 in
     let is : job j a l .returned ≡ after-run l (ran r) = job-returns j a l h (b .passed) ∙ ap (after-run l) (w .1) in

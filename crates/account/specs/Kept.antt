@@ -1,16 +1,17 @@
 -- Every finished call keeps its account, given what is asked of exact geometry.
-use mathlib.Core.Path.{_≡_, sym, subst, refl}
+use mathlib.Core.Path.{_≡_, sym, ap, _∙_, subst, refl}
 use mathlib.Core.Bool.{Bool, false}
 use mathlib.Core.List.{List}
 use Prim.Native.Nat.{ℕ}
 use lib.ListN.{length}
 use borrow.Author.Tests.{eq-eqb}
-use Rattle.definition.specs.Numbers.{Quality}
+use Rattle.definition.specs.Numbers.{Quality, max-attempts}
 use Rattle.definition.specs.Counts.{Counts}
 use Rattle.definition.specs.Plane.{Edge, Node}
 use Rattle.definition.specs.Cells.{Tri, Quad}
 use Rattle.definition.specs.Front.{Result, ran, run-front}
 use Rattle.definition.specs.Call.{Asked, Lent, given-points, given-tris, given-locks, settings, bad-size, call}
+use Rattle.definition.specs.Job.{limited-to}
 use Rattle.definition.specs.Account.{Account, Keeps-account}
 use Rattle.laws.specs.Lists.{In, all-from}
 use Rattle.exact.specs.Limits.{Limit}
@@ -20,18 +21,25 @@ use Rattle.account.specs.Parity.{leftover}
 use Rattle.account.specs.Quads.{quads-rated}
 use Rattle.account.specs.Births.{all-replaced, left-number}
 use Rattle.account.specs.Placed.{quads-in-rounds}
+use Rattle.account.specs.Attempts.{result-limit}
+use Rattle.account.specs.Trials.{trials-within}
 use Rattle.account.specs.Geometry.{Geometry, All-within, points-within, Sound-quad, sound-quad}
 use Rattle.account.specs.Slices.{read-points, read-quads, read-triangles, read-sizes}
 use Rattle.account.specs.Finished.{behind, permitted, sized, given-proper, given-within}
 
+-- the usual limit makes no other settings
+pub usual-limit : (a : Asked) → limited-to (max-attempts (a .count)) (settings a) ≡ settings a
+unfolding limited-to settings
+usual-limit a = refl
+
 module _ (geometry : Geometry) where
-  -- the lists and counts of a run that ended
-  pub result-kept : (a : Asked) (lk : Edge → Bool) (ts : List Tri) (ps : List Node) (r : Result) → Limit (a .quality .largest-cosine) → bad-size a ≡ false → Proper ps ts → All-within ps
-      → run-front (settings a) lk ts ps ≡ ran r
-      → Account ps ts (a .stop) (a .quality) (r .counts) (r .points) (r .quads) (r .triangles) (r .sizes)
-  unfolding settings all-replaced
-  result-kept a lk ts ps r limit size proper near e =
-      let s = settings a in
+  -- the lists and counts of a run that ended, whatever its limit on attempts
+  pub result-kept : (a : Asked) (most : ℕ) (lk : Edge → Bool) (ts : List Tri) (ps : List Node) (r : Result) → Limit (a .quality .largest-cosine) → bad-size a ≡ false → Proper ps ts → All-within ps
+      → run-front (limited-to most (settings a)) lk ts ps ≡ ran r
+      → Account ps ts (a .stop) (a .quality) most (r .counts) (r .points) (r .quads) (r .triangles) (r .sizes)
+  unfolding limited-to settings all-replaced
+  result-kept a most lk ts ps r limit size proper near e =
+      let s = limited-to most (settings a) in
       let c = counted s ps lk ts r proper e in
       let k = leftover s lk ts ps r proper e in
       let rated = quads-rated s lk ts ps r proper e in
@@ -41,6 +49,8 @@ module _ (geometry : Geometry) where
         points-given = points-given ps (r .points) (r .counts) (length (r .quads)) c;
         points-added = points-added ps (r .points) (r .counts) (length (r .quads)) c;
         attempts-sum = c .adds-up;
+        trials-within = trials-within s lk ts ps r e;
+        limit-exact = result-limit s lk ts ps r e;
         quads-points = all-from (r .quads) (λ q i. sound q i .names);
         quads-pass = all-from (r .quads) (λ q i. sound q i .passing);
         quads-convex = all-from (r .quads) (λ q i. sound q i .convex);
@@ -62,8 +72,9 @@ module _ (geometry : Geometry) where
       let limit = geometry .limit (a .quality) (permitted a l (b .passed)) double in
       moved (sym (b .counts-are)) (sym (read-points (b .run) l exit n (b .lengths-are) (b .exit))) (sym (read-quads (b .run) l exit n (b .lengths-are) (b .exit)))
       (sym (read-triangles (b .run) l exit n (b .lengths-are) (b .exit))) (sym (read-sizes (b .run) l exit n (b .lengths-are) (b .exit)))
-      (result-kept a (given-locks a l) (given-tris a l) (given-points a l) (b .run) limit (sized a l (b .passed)) (given-proper a l (b .passed)) (given-within a l (b .passed)) (b .ended))
+      (result-kept a (max-attempts (a .count)) (given-locks a l) (given-tris a l) (given-points a l) (b .run) limit (sized a l (b .passed)) (given-proper a l (b .passed)) (given-within a l (b .passed))
+      (ap (λ s. run-front s (given-locks a l) (given-tris a l) (given-points a l)) (usual-limit a) ∙ b .ended))
     where
-      moved : {given : List Node} {tris : List Tri} {stop : ℕ} {y : Quality} {c d : Counts} {ps qs : List Node} {us vs : List Quad} {ks ls : List Tri} {ns os : List ℕ}
-          → c ≡ d → ps ≡ qs → us ≡ vs → ks ≡ ls → ns ≡ os → Account given tris stop y c ps us ks ns → Account given tris stop y d qs vs ls os
-      moved {given} {tris} {stop} {y} e0 e1 e2 e3 e4 h = subst (λ (z : Type 0). z) (λ i. Account given tris stop y (e0 i) (e1 i) (e2 i) (e3 i) (e4 i)) h
+      moved : {given : List Node} {tris : List Tri} {stop most : ℕ} {y : Quality} {c d : Counts} {ps qs : List Node} {us vs : List Quad} {ks ls : List Tri} {ns os : List ℕ}
+          → c ≡ d → ps ≡ qs → us ≡ vs → ks ≡ ls → ns ≡ os → Account given tris stop y most c ps us ks ns → Account given tris stop y most d qs vs ls os
+      moved {given} {tris} {stop} {most} {y} e0 e1 e2 e3 e4 h = subst (λ (z : Type 0). z) (λ i. Account given tris stop y most (e0 i) (e1 i) (e2 i) (e3 i) (e4 i)) h

@@ -55,6 +55,7 @@ pub mod Floods
 pub mod Rounds
 pub mod Walks
 pub mod Attempts
+pub mod Trials
 pub mod Smaller
 pub mod Jobs
 pub mod Listed

@@ -12,7 +12,7 @@ use lib.Dec.{ltb}
 use lib.ListN.{length}
 use Rattle.definition.specs.Lists.{filter, first}
 use Rattle.definition.specs.Numbers.{Settings}
-use Rattle.definition.specs.Counts.{Refusal, Placement, Shape, Recovery, Region, OddRegion, Spent}
+use Rattle.definition.specs.Counts.{Refusal, Placement, Shape, Recovery, Region, OddRegion, Spent, trying}
 use Rattle.definition.specs.Plane.{Node, Edge}
 use Rattle.definition.specs.Cells.{Tri, Quad, tri, Live, Mesh, live-tri, is-tri, has-side, owns, owners, tri-owners, tri-owner, all-edges, tris-of, is-front}
 use Rattle.definition.specs.Flips.{third, flip}
@@ -164,7 +164,7 @@ module _ (s : Settings) (e : Edge) where
   never-orphaned m q h f = subst Fine f (pair-fine m q h)
 
   pairs-case : (n : Spent) (m : Mesh) (last : Refusal) (t : Trial) (ts : List Trial) (r : Tried) → try-pair s m (t .nodes) (tri-owner m e) ≡ r → Fine r
-      → ((why : Refusal) (m′ : Mesh) → why ≢ Placement → Owned 0 m′ → By-pair (try-pairs s n m′ e why ts)) → By-pair (try-pairs s n m e last (t ∷ ts))
+      → ((why : Refusal) (m′ : Mesh) → why ≢ Placement → Owned 0 m′ → By-pair (try-pairs s (trying n) m′ e why ts)) → By-pair (try-pairs s n m e last (t ∷ ts))
   unfolding try-pairs
   pairs-case n m last t ts (made q m′) f h next = rw (f, try-pairs) tt
   pairs-case n m last t ts (failed why m′) f h next = rw (f, try-pairs) (next why m′ (h .0) (h .1))
@@ -174,7 +174,7 @@ module _ (s : Settings) (e : Edge) where
   pairs-by : (n : Spent) (m : Mesh) (last : Refusal) (ts : List Trial) → last ≢ Placement → Owned 0 m → By-pair (try-pairs s n m e last ts)
   unfolding try-pairs
   pairs-by n m last [] l h = l
-  pairs-by n m last (t ∷ ts) l h = pairs-case n m last t ts (try-pair s m (t .nodes) (tri-owner m e)) refl (pair-fine m (t .nodes) h) (λ why m′ l′ h′. pairs-by n m′ why ts l′ h′)
+  pairs-by n m last (t ∷ ts) l h = pairs-case n m last t ts (try-pair s m (t .nodes) (tri-owner m e)) refl (pair-fine m (t .nodes) h) (λ why m′ l′ h′. pairs-by (trying n) m′ why ts l′ h′)
 
   trials-by : (n : Spent) (m : Mesh) (ts : List Trial) → Owned 0 m → By-pair (try-trials s n m e ts)
   unfolding try-trials

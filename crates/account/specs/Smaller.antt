@@ -12,7 +12,7 @@ use lib.Ieee.{Float}
 use borrow.Author.Tests.{ltb-false, le-ltb}
 use Rattle.definition.specs.Floats.{_⊗_, _≼_}
 use Rattle.definition.specs.Numbers.{Settings, Turn, first-turn, second-turn, insert-shares, node-spacing, tiny-length, max-triangles}
-use Rattle.definition.specs.Counts.{one-attempt, Refusal, Placement, Recovery, OddRegion, Spent, nothing-spent}
+use Rattle.definition.specs.Counts.{one-attempt, Refusal, Placement, Recovery, OddRegion, Spent, nothing-spent, trying}
 use Rattle.definition.specs.Plane.{Node, Vec, Edge, norm, from-to}
 use Rattle.definition.specs.Cells.{Tri, Quad, Cell, tri, quad, Live, Mesh, node-at, cell-of, tri-owner, is-front, live-tris, front}
 use Rattle.definition.specs.Flips.{Recovered}
@@ -92,7 +92,7 @@ module _ (k : ℕ) (s : Settings) where
   pair-same m q (some x) = recovered-same (x .slot) q (recover-all m (open-sides q))
 
   pairs-case : (n : Spent) (m : Mesh) (e : Edge) (last : Refusal) (t : Trial) (ts : List Trial) (r : Tried) → try-pair s m (t .nodes) (tri-owner m e) ≡ r
-      → ((m : Mesh) (last : Refusal) → try-pairs s′ n m e last ts ≡ try-pairs s n m e last ts) → try-pairs s′ n m e last (t ∷ ts) ≡ try-pairs s n m e last (t ∷ ts)
+      → ((m : Mesh) (last : Refusal) → try-pairs s′ (trying n) m e last ts ≡ try-pairs s (trying n) m e last ts) → try-pairs s′ n m e last (t ∷ ts) ≡ try-pairs s n m e last (t ∷ ts)
   unfolding try-pairs
   pairs-case n m e last t ts (made q m′) f next = rw (pair-same m (t .nodes) (tri-owner m e), f, try-pairs) refl
   pairs-case n m e last t ts (failed why m′) f next = rw (pair-same m (t .nodes) (tri-owner m e), f, try-pairs) (next m′ why)
@@ -102,7 +102,7 @@ module _ (k : ℕ) (s : Settings) where
   pairs-same : (n : Spent) (m : Mesh) (e : Edge) (last : Refusal) (ts : List Trial) → try-pairs s′ n m e last ts ≡ try-pairs s n m e last ts
   unfolding try-pairs
   pairs-same n m e last [] = refl
-  pairs-same n m e last (t ∷ ts) = pairs-case n m e last t ts (try-pair s m (t .nodes) (tri-owner m e)) refl (λ m last. pairs-same n m e last ts)
+  pairs-same n m e last (t ∷ ts) = pairs-case n m e last t ts (try-pair s m (t .nodes) (tri-owner m e)) refl (λ m last. pairs-same (trying n) m e last ts)
 
   trials-same : (n : Spent) (m : Mesh) (e : Edge) (ts : List Trial) → try-trials s′ n m e ts ≡ try-trials s n m e ts
   unfolding try-trials

@@ -14,7 +14,7 @@ use borrow.Author.Tests.{leb-false, ltb-false}
 use Rattle.definition.specs.Lists.{below}
 use Rattle.definition.specs.Floats.{_⊗_, _≼_}
 use Rattle.definition.specs.Numbers.{Quality, Settings, Turn, first-turn, second-turn, insert-shares, node-spacing, tiny-length}
-use Rattle.definition.specs.Counts.{Refusal, Recovery, Spent, nothing-spent, inserting}
+use Rattle.definition.specs.Counts.{Refusal, Recovery, Spent, nothing-spent, inserting, trying}
 use Rattle.definition.specs.Plane.{Node, Vec, Edge, norm, from-to, edge-length, size-mismatch}
 use Rattle.definition.specs.Cells.{Tri, Quad, Cell, tri, quad, Live, Mesh, quad-nodes, quad-edges, born, node-at, cell-of, tri-owner, this-round, has-edge, all-edges, with-live, set-cell, push-cell}
 use Rattle.definition.specs.Flips.{flip, flip-first, first-crossing, recover-in, recover}
@@ -285,8 +285,8 @@ module _ (s : Settings) (P : ℕ → Mesh → Type 0) (flips : Flips-keep P) whe
 
   try-pairs-case : (k : Spent) (m : Mesh) (e : Edge) (last : Refusal) (t : Trial) (ts : List Trial) (r : Tried) → P (k .insertions) m
       → try-pair s m (t .nodes) (tri-owner m e) ≡ r → Tried-ok s P (k .insertions) (m .points) r
-      → ((why : Refusal) (m′ : Mesh) → P (k .insertions) m′ → m′ .points ≡ m .points → Attempt-ok s P (try-pairs s k m′ e why ts)) → Attempt-ok s P (try-pairs s k m e last (t ∷ ts))
-  unfolding try-pairs
+      → ((why : Refusal) (m′ : Mesh) → P (k .insertions) m′ → m′ .points ≡ m .points → Attempt-ok s P (try-pairs s (trying k) m′ e why ts)) → Attempt-ok s P (try-pairs s k m e last (t ∷ ts))
+  unfolding try-pairs trying
   try-pairs-case k m e last t ts (made q m′) h f ok next = rw (f, try-pairs) ok
   try-pairs-case k m e last t ts (failed why m′) h f ok next = rw (f, try-pairs) (next why m′ (ok .0) (ok .1))
   try-pairs-case k m e last t ts orphaned h f ok next = rw (f, try-pairs) h
@@ -297,11 +297,11 @@ module _ (s : Settings) (P : ℕ → Mesh → Type 0) (flips : Flips-keep P) whe
 
   try-pairs-ok : (k : Spent) (m : Mesh) (e : Edge) (last : Refusal) (ts : List Trial) → P (k .insertions) m → ((t : Trial) → In t ts → Rated (s .quality) (m .points) (t .nodes))
       → Attempt-ok s P (try-pairs s k m e last ts)
-  unfolding try-pairs
+  unfolding try-pairs trying
   try-pairs-ok k m e last [] h r = h
   try-pairs-ok k m e last (t ∷ ts) h r =
       try-pairs-case k m e last t ts (try-pair s m (t .nodes) (tri-owner m e)) h refl (try-pair-ok (k .insertions) m (t .nodes) (tri-owner m e) h (r t (inl refl)) (owner-at m e))
-      (λ why m′ h′ same. try-pairs-ok k m′ e why ts h′ (λ u i. subst (λ ps. Rated (s .quality) ps (u .nodes)) (sym same) (r u (inr i))))
+      (λ why m′ h′ same. try-pairs-ok (trying k) m′ e why ts h′ (λ u i. subst (λ ps. Rated (s .quality) ps (u .nodes)) (sym same) (r u (inr i))))
 
   -- the pairs in their order
   pub try-trials-ok : (k : Spent) (m : Mesh) (e : Edge) (ts : List Trial) → P (k .insertions) m → ((t : Trial) → In t ts → Rated (s .quality) (m .points) (t .nodes))

@@ -5,6 +5,7 @@ use mathlib.Core.Logic.{inl, inr, _≢_}
 use mathlib.Core.List.{List, [], _∷_, _++_}
 use Prim.{⊥, absurd, tt}
 use Prim.Native.Nat.{ℕ, suc, _+_, _-_, _*_, _^_, _<_, _≤_}
+use native.Mathlib.Nat.{mul-le-mul-right}
 use native.Mathlib.Omega.{arith}
 use lib.Dec.{ltb}
 use lib.Ieee.{Float}
@@ -31,6 +32,8 @@ use Rattle.rules.specs.Settings.{settings-of}
 use Rattle.account.specs.Run.{Progress-ok}
 use Rattle.account.specs.Grown.{Grown, attempt-grown}
 use Rattle.account.specs.Placed.{last-round}
+use Rattle.account.specs.Trials as Trials
+use Rattle.account.specs.Trials.{Few-trials}
 use Rattle.account.specs.Reach.{by-refusal, by-quad, Reached-state, records-fit}
 use Rattle.cells.specs.Layout.{refused-at, mesh-end}
 use Rattle.cells.specs.Walk as Walk
@@ -44,8 +47,8 @@ use Rattle.blocked_edges.specs.Blocks.{Blocks, with-edge}
 use Rattle.blocked_edges.proofs.Edges.{with-old, with-new}
 use Rattle.blocked_edges.proofs.Room.{with-distinct}
 use Rattle.blocked_edges.proofs.Framing.{framed}
-use Rattle.outcomes.specs.Ready.{Ready, Behind, Beyond}
-use Rattle.outcomes.specs.Ends.{only-inserted, spent-of, end-of, quad-of, Grew, Plain, Left, AttemptTo}
+use Rattle.outcomes.specs.Ready.{Small, Ready, Behind, Beyond}
+use Rattle.outcomes.specs.Ends.{spent, spent-of, end-of, quad-of, Grew, Plain, Left, AttemptTo}
 use Rattle.outcomes.specs.declared.Tried.{Tried}
 use Rattle.outcomes.specs.declared.End.the-variants as ends
 use Rattle.settling.specs.declared.standing.Standing.{Standing}
@@ -110,8 +113,8 @@ with-in e ever f i = elim (which (has-edge-in ever e)) [
 -- ---- counts
 
 few-from : (g : Standing) (c : Counts) → counts-of g ≡ c → (n : ℕ) → n < 2 ^ 32 → c .front-empty ≤ n → c .placement ≤ n → c .invalid-quad ≤ n → c .recovery ≤ n → c .region ≤ n → c .odd-region ≤ n
-    → c .mismatch-insertions ≤ n → c .limit ≤ n → FewTally (g .tally)
-few-from g c e n h l1 l2 l3 l4 l5 l6 l7 l8 =
+    → c .mismatch-insertions ≤ n → c .limit ≤ n → c .trials ≤ n → FewTally (g .tally)
+few-from g c e n h l1 l2 l3 l4 l5 l6 l7 l8 l9 =
     record {
       front = omega (arith, ap (λ z. z .front-empty) e);
       placement = omega (arith, ap (λ z. z .placement) e);
@@ -121,9 +124,13 @@ few-from g c e n h l1 l2 l3 l4 l5 l6 l7 l8 =
       odd = omega (arith, ap (λ z. z .odd-region) e);
       insertions = omega (arith, ap (λ z. z .mismatch-insertions) e);
       limit = omega (arith, ap (λ z. z .limit) e);
+      trials = omega (arith, ap (λ z. z .trials) e);
     }
 
-module _ (x : Setup) (st : State) (old es : List Edge) (f : Fixed x) (small : x .rules .capacity ≤ 8192) (reach : Gets x f st old es) where
+product-few : (p a t : ℕ) → p ≤ 64 → a ≤ 829200 → t ≤ p * a → t ≤ 53068800
+product-few p a t h k l = let m : p * a ≤ 64 * a = mul-le-mul-right a h in omega arith
+
+module _ (x : Setup) (st : State) (old es : List Edge) (f : Fixed x) (small : Small (x .rules)) (reach : Gets x f st old es) where
   sd : Reached-state (settings-of (x .rules)) (x .begun .locked) (x .begun .ts) (x .begun .ps) st old es
   sd = sound x f st old es reach
 
@@ -138,14 +145,20 @@ module _ (x : Setup) (st : State) (old es : List Edge) (f : Fixed x) (small : x 
       let h = ap length (sd .counted .points-are) ∙ length-append (x .begun .ps) (sd .counted .added) in
       omega (arith, h, sd .counted .number, sd .good .fits .points)
 
+  -- and so are the trials: at most the permitted number for each attempt
+  pub trials-few : st .counts .trials ≤ 53068800
+  unfolding settings-of
+  trials-few = product-few (x .rules .quality .pairs) (st .counts .attempts) (st .counts .trials) (small .pairs) tries-few (sd .trials)
+
   pub few-tally : (g : Standing) → counts-of g ≡ st .counts → FewTally (g .tally)
   few-tally g e =
       let u = sd .counted .adds-up in
       let b : st .counts .attempts ≤ 829200 = tries-few in
       let z : st .counts .front-empty ≡ 0 = reach-never x f st old es reach in
-      let i : st .counts .mismatch-insertions ≤ 829200 = let j : st .counts .mismatch-insertions ≤ x .rules .capacity = insertions-few in omega arith in
-      few-from g (st .counts) e 829200 (omega arith) (omega arith) (omega arith) (omega arith) (omega arith)
-      (omega arith) (omega arith) (omega arith) (omega arith)
+      let i : st .counts .mismatch-insertions ≤ 829200 = let j : st .counts .mismatch-insertions ≤ x .rules .capacity = insertions-few in let c = small .points in omega arith in
+      let t : st .counts .trials ≤ 53068800 = trials-few in
+      few-from g (st .counts) e 53068800 (omega arith) (omega arith) (omega arith) (omega arith) (omega arith)
+      (omega arith) (omega arith) (omega arith) (omega arith) (omega arith)
 
   pub few-counted : (g : Standing) → counts-of g ≡ counting st one-attempt .counts → FewTally (g .tally)
   unfolding counting _⊞_ tally one-attempt
@@ -153,15 +166,20 @@ module _ (x : Setup) (st : State) (old es : List Edge) (f : Fixed x) (small : x 
       let u = sd .counted .adds-up in
       let b : st .counts .attempts ≤ 829200 = tries-few in
       let z : st .counts .front-empty ≡ 0 = reach-never x f st old es reach in
-      let i : st .counts .mismatch-insertions ≤ 829200 = let j : st .counts .mismatch-insertions ≤ x .rules .capacity = insertions-few in omega arith in
-      few-from g (counting st one-attempt .counts) e 829200 (omega arith) (omega arith) (omega arith) (omega arith) (omega arith)
-      (omega arith) (omega arith) (omega arith) (omega arith)
+      let i : st .counts .mismatch-insertions ≤ 829200 = let j : st .counts .mismatch-insertions ≤ x .rules .capacity = insertions-few in let c = small .points in omega arith in
+      let t : st .counts .trials ≤ 53068800 = trials-few in
+      few-from g (counting st one-attempt .counts) e 53068800 (omega arith) (omega arith) (omega arith) (omega arith) (omega arith)
+      (omega arith) (omega arith) (omega arith) (omega arith) (omega arith)
 
 -- ---- the attempt
 
 counted-number : (c : Counts) → (c ⊞ one-attempt) .mismatch-insertions ≡ c .mismatch-insertions
 unfolding _⊞_ tally one-attempt
 counted-number c = omega arith
+
+counted-trials : (c : Counts) → (c ⊞ one-attempt) .trials ≡ c .trials
+unfolding _⊞_ tally one-attempt
+counted-trials c = omega arith
 
 quad-below : (n round : ℕ) (t : Tried) → All (λ i. i < n) (quad-nodes (quad-of round t)) → (t .n0 < n) × (t .n1 < n) × (t .n2 < n) × (t .n3 < n)
 unfolding quad-nodes born new-quad
@@ -212,6 +230,14 @@ module _ (x : Setup) (w : List ℕ) (q : List Float) (quads : List ℕ) (g : Sta
   -- a quad of the attempt grows from its edge
   pub grows : Grown (u, v) (try-quad (settings-of (x .rules)) (st .mesh) (u, v))
   grows = attempt-grown (settings-of (x .rules)) (st .mesh) (u, v) up
+
+  -- and it tries at most the permitted number of pairs
+  pub tries : Few-trials (settings-of (x .rules)) (try-quad (settings-of (x .rules)) (st .mesh) (u, v))
+  tries = Trials.trials-few (settings-of (x .rules)) (st .mesh) (u, v)
+
+  pub tries-none : Few-trials (settings-of (x .rules)) (refused Placement nothing-spent (st .mesh))
+  unfolding nothing-spent
+  tries-none = omega arith
 
   -- an attempt not past the limits is made
   made : attempt (settings-of (x .rules)) (x .rules .given) st (u, v) ≡ make-attempt (settings-of (x .rules)) (counting st one-attempt) (u, v)
@@ -348,11 +374,19 @@ module _ (x : Setup) (w : List ℕ) (q : List Float) (quads : List ℕ) (g : Sta
   mismatch-few : g .tally .«mismatch_insertions» ≤ x .rules .capacity
   mismatch-few =
       let e : g .tally .«mismatch_insertions» ≡ st .counts .mismatch-insertions = ap (λ c. c .mismatch-insertions) counts-before ∙ counted-number (st .counts) in
-      let i : st .counts .mismatch-insertions ≤ x .rules .capacity = insertions-few x st (k .reaches .old) ((u, v) ∷ es) fx (ready .small .points) before in
+      let i : st .counts .mismatch-insertions ≤ x .rules .capacity = insertions-few x st (k .reaches .old) ((u, v) ∷ es) fx (ready .small) before in
       omega arith
 
   inserted-few : (n r : ℕ) → r ≡ n → n ≤ x .rules .capacity → g .tally .«mismatch_insertions» + r < 2 ^ 32
   inserted-few n r e l = let i : g .tally .«mismatch_insertions» ≤ x .rules .capacity = mismatch-few in let p = ready .small .points in omega arith
+
+  tried-few : (n r : ℕ) → r ≡ n → n ≤ settings-of (x .rules) .quality .pairs → g .tally .trials + r < 2 ^ 32
+  unfolding settings-of
+  tried-few n r e l =
+      let f : g .tally .trials ≡ st .counts .trials = ap (λ c. c .trials) counts-before ∙ counted-trials (st .counts) in
+      let i : st .counts .trials ≤ 53068800 = trials-few x st (k .reaches .old) ((u, v) ∷ es) fx (ready .small) before in
+      let p = ready .small .pairs in
+      omega arith
 
   module _ (w' : List ℕ) (q' : List Float) (t : Tried) (by : Beyond w w' (x .rules .slots) (x .rules .capacity)) where
     so-far : Kept-so-far w' quads (x .rules .slots) (x .rules .capacity) g (k .ever) (st .blocked) (st .quads) (x .begun .old)
@@ -366,27 +400,31 @@ module _ (x : Setup) (w : List ℕ) (q : List Float) (quads : List ℕ) (g : Sta
         }
 
     few : FewTally (g .tally)
-    few = few-counted x st (k .reaches .old) ((u, v) ∷ es) fx (ready .small .points) before g (k .holds .counts)
+    few = few-counted x st (k .reaches .old) ((u, v) ∷ es) fx (ready .small) before g (k .holds .counts)
 
     can-with : g .tally .«mismatch_insertions» + t .inserted < 2 ^ 32
+        → g .tally .trials + t .trials < 2 ^ 32
         → (t .end ≡ ends.Placed → QuadFits quads (x .rules .slots) (x .rules .capacity) (length (st .quads)) t u v)
         → ((why : Refusal) → t .end ≡ end-of why → length (with-edge (u, v) (k .ever)) ≤ 3 * x .rules .slots)
         → CanSettle w' quads (x .rules .slots) (x .rules .capacity) g t u v (k .ever) (st .blocked) (st .quads) (x .begun .old)
-    can-with i p r = record { small-slots = ready .small .slots; small-points = ready .small .points; so-far = so-far; few = few; inserted = i; edge = is-edge; placed = p; refused = r }
+    can-with i j p r = record { small-slots = ready .small .slots; small-points = ready .small .points; so-far = so-far; few = few; inserted = i; trials = j; edge = is-edge; placed = p; refused = r }
 
-    pub can-settle : (a : Attempt) → attempt (settings-of (x .rules)) (x .rules .given) st (u, v) ≡ after (counting st one-attempt) (u, v) a → Grown (u, v) a
+    pub can-settle : (a : Attempt) → attempt (settings-of (x .rules)) (x .rules .given) st (u, v) ≡ after (counting st one-attempt) (u, v) a → Grown (u, v) a → Few-trials (settings-of (x .rules)) a
         → AttemptTo w' q q' (x .rules) (g .counters) a t → CanSettle w' quads (x .rules .slots) (x .rules .capacity) g t u v (k .ever) (st .blocked) (st .quads) (x .begun .old)
-    can-settle (placed n m h) ran from to =
+    can-settle (placed n m h) ran from few-tried to =
         let l = to .2 .ready .rep .points in
         can-with (inserted-few (n .insertions) (t .inserted) (ap (λ z. z .insertions) (to .2 .spent)) (placed-fine n m h ran l .0))
+        (tried-few (n .trials) (t .trials) (ap (λ z. z .trials) (to .2 .spent)) few-tried)
         (λ e. placed-fits n m h ran t (to .1) from l)
         (λ why e. absurd (omega (arith, sort-of-refusal (t .end) why e, ap sort-of (to .0))))
-    can-settle (refused why n m) ran from to =
+    can-settle (refused why n m) ran from few-tried to =
         can-with (inserted-few (n .insertions) (t .inserted) (ap (λ z. z .insertions) (to .1 .spent)) (refused-fine why n m ran (to .1 .ready .rep .points) .0))
+        (tried-few (n .trials) (t .trials) (ap (λ z. z .trials) (to .1 .spent)) few-tried)
         (λ e. absurd (omega (arith, sort-of-refusal (t .end) why (to .0), ap sort-of e)))
         (λ why' e. refused-room why n m ran (to .1 .ready .rep .used))
-    can-settle (ended wt n m) ran from to =
+    can-settle (ended wt n m) ran from few-tried to =
         can-with (inserted-few (n .insertions) (t .inserted) (ap (λ z. z .insertions) (to .1 .spent)) (ended-fine wt n m ran (to .1 .ready .rep .points) .0))
+        (tried-few (n .trials) (t .trials) (ap (λ z. z .trials) (to .1 .spent)) few-tried)
         (λ e. absurd (no-want wt (sort-of-want (t .end) wt (to .0)) 0 (ap sort-of e) (omega arith)))
         (λ why e. absurd (no-want wt (sort-of-want (t .end) wt (to .0)) 1 (sort-of-refusal (t .end) why e) (omega arith)))
       where
@@ -464,13 +502,13 @@ module _ (x : Setup) (w : List ℕ) (q : List Float) (quads : List ℕ) (g : Sta
   was-front b h e = sym (front-as b h) ∙ not-false b e
 
   -- off the front nothing is tried
-  pub off-to : (t : Tried) → Plain ends.Placement (g .counters) 0 t → AttemptTo w q q (x .rules) (g .counters) (refused Placement nothing-spent (st .mesh)) t
+  pub off-to : (t : Tried) → Plain ends.Placement (g .counters) 0 0 t → AttemptTo w q q (x .rules) (g .counters) (refused Placement nothing-spent (st .mesh)) t
   unfolding end-of nothing-spent
   off-to t h = (
     h .end,
     record {
       ready = subst (λ (z : Counters). Ready w q (x .rules) z (st .mesh)) (sym (h .counters)) (ready x w q quads g st u v es k);
-      spent = ap only-inserted (h .inserted);
+      spent = ap (λ (z : ℕ). spent z (t .trials)) (h .inserted) ∙ ap (spent 0) (h .trials);
       attempts = ap (λ c. c .attempts) (h .counters);
       behind = record { len = refl; rest = refl };
     },
@@ -506,7 +544,7 @@ module _ (x : Setup) (w : List ℕ) (q : List Float) (quads : List ℕ) (g₀ : 
   unfolding counting
   counted-holds =
       let h = k .holds in
-      let tr : st .counts .attempts ≤ 829200 = tries-few x st (k .reaches .old) (e ∷ es) (k .reaches .fixed) (h .ready .small .points) (k .reaches .reach) in
+      let tr : st .counts .attempts ≤ 829200 = tries-few x st (k .reaches .old) (e ∷ es) (k .reaches .fixed) (h .ready .small) (k .reaches .reach) in
       let same : g₀ .counters .attempts ≡ st .counts .attempts = ap (λ c. c .attempts) (h .counts) in
       record {
         ready = live-as w q (x .rules) (g₀ .counters) (g .counters) (st .mesh) (one .counters) (omega arith) (h .ready);
@@ -529,7 +567,7 @@ module _ (x : Setup) (w : List ℕ) (q : List Float) (quads : List ℕ) (g₀ : 
   makes b = record { ever = k .ever; holds = counted-holds; reaches = k .reaches; below = b }
 
   pub few-now : FewTally (g .tally)
-  few-now = few-counted x st (k .reaches .old) (e ∷ es) (k .reaches .fixed) (k .holds .ready .small .points) (k .reaches .reach) g (counted-holds .counts)
+  few-now = few-counted x st (k .reaches .old) (e ∷ es) (k .reaches .fixed) (k .holds .ready .small) (k .reaches .reach) g (counted-holds .counts)
 
   -- past a limit the attempt is not made
   pub limited-step : past-limit (settings-of (x .rules)) (x .rules .given) (counting st one-attempt) ≡ true → (h : Standing) → CountsMore g at-limit h

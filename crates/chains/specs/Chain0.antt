@@ -35,31 +35,31 @@ points-0 : List Node
 points-0 = pt (fin false 0 (pos 0)) (fin false 0 (pos 0)) (fin false 0 (pos 0)) ∷ pt (fin false 1 (pos 0)) (fin false 0 (pos 0)) (fin false 0 (pos 0)) ∷ pt (fin false 6993349533087659 (negsuc 52)) (fin true 2755262244098581 (negsuc 50)) (fin false 0 (pos 0)) ∷ pt (fin false 1204667831124121 (negsuc 49)) (fin false 1204667831124121 (negsuc 49)) (fin false 0 (pos 0)) ∷ pt (fin false 835196575463465 (negsuc 49)) (fin true 1416603238221783 (negsuc 49)) (fin false 0 (pos 0)) ∷ pt (fin true 1721144994106031 (negsuc 51)) (fin true 8402717597813751 (negsuc 51)) (fin false 0 (pos 0)) ∷ pt (fin false 1726035522533005 (negsuc 52)) (fin false 4045512374005615 (negsuc 50)) (fin false 0 (pos 0)) ∷ []
 
 st-0 : State
-st-0 = record { mesh = record { points = points-0; used = 5; live = lv 0 (tri (tr 0 1 2)) ∷ lv 1 (tri (tr 0 1 3)) ∷ lv 2 (tri (tr 0 1 4)) ∷ lv 3 (tri (tr 4 0 5)) ∷ lv 4 (tri (tr 3 0 6)) ∷ []; bucket = (fin false 5404319552844595 (negsuc 51)); locked = λ e. false }; quads = []; blocked = []; counts = tally 0 0 0 0 0 0 0 0 0 }
+st-0 = record { mesh = record { points = points-0; used = 5; live = lv 0 (tri (tr 0 1 2)) ∷ lv 1 (tri (tr 0 1 3)) ∷ lv 2 (tri (tr 0 1 4)) ∷ lv 3 (tri (tr 4 0 5)) ∷ lv 4 (tri (tr 3 0 6)) ∷ []; bucket = (fin false 5404319552844595 (negsuc 51)); locked = λ e. false }; quads = []; blocked = []; counts = tally 0 0 0 0 0 0 0 0 0 0 }
 
 st-1 : State
-st-1 = record { mesh = record { points = points-0; used = 5; live = lv 0 (tri (tr 0 1 2)) ∷ lv 1 (tri (tr 0 1 3)) ∷ lv 2 (tri (tr 0 1 4)) ∷ lv 3 (tri (tr 4 0 5)) ∷ lv 4 (tri (tr 3 0 6)) ∷ []; bucket = (fin false 5404319552844595 (negsuc 51)); locked = λ e. false }; quads = []; blocked = (4, 5) ∷ []; counts = tally 0 1 0 1 0 0 0 0 0 }
+st-1 = record { mesh = record { points = points-0; used = 5; live = lv 0 (tri (tr 0 1 2)) ∷ lv 1 (tri (tr 0 1 3)) ∷ lv 2 (tri (tr 0 1 4)) ∷ lv 3 (tri (tr 4 0 5)) ∷ lv 4 (tri (tr 3 0 6)) ∷ []; bucket = (fin false 5404319552844595 (negsuc 51)); locked = λ e. false }; quads = []; blocked = (4, 5) ∷ []; counts = tally 0 1 0 1 0 0 0 0 0 0 }
 
 st-2 : State
-st-2 = record { mesh = record { points = points-0; used = 5; live = lv 0 (tri (tr 0 1 2)) ∷ lv 2 (tri (tr 0 1 4)) ∷ lv 3 (tri (tr 4 0 5)) ∷ lv 1 (tri (tr 1 6 0)) ∷ lv 4 (tri (tr 6 1 3)) ∷ []; bucket = (fin false 5404319552844595 (negsuc 51)); locked = λ e. false }; quads = []; blocked = (1, 4) ∷ (4, 5) ∷ []; counts = tally 0 2 0 1 0 1 0 0 0 }
+st-2 = record { mesh = record { points = points-0; used = 5; live = lv 0 (tri (tr 0 1 2)) ∷ lv 2 (tri (tr 0 1 4)) ∷ lv 3 (tri (tr 4 0 5)) ∷ lv 1 (tri (tr 1 6 0)) ∷ lv 4 (tri (tr 6 1 3)) ∷ []; bucket = (fin false 5404319552844595 (negsuc 51)); locked = λ e. false }; quads = []; blocked = (1, 4) ∷ (4, 5) ∷ []; counts = tally 0 2 0 1 0 1 0 0 0 3 }
 
 st-3 : State
-st-3 = record { mesh = record { points = points-0; used = 5; live = lv 0 (tri (tr 0 1 2)) ∷ lv 2 (tri (tr 0 1 4)) ∷ lv 3 (tri (tr 4 0 5)) ∷ lv 1 (tri (tr 0 1 3)) ∷ lv 4 (tri (tr 3 6 0)) ∷ []; bucket = (fin false 5404319552844595 (negsuc 51)); locked = λ e. false }; quads = []; blocked = (0, 5) ∷ (1, 4) ∷ (4, 5) ∷ []; counts = tally 0 3 0 1 1 1 0 0 0 }
+st-3 = record { mesh = record { points = points-0; used = 5; live = lv 0 (tri (tr 0 1 2)) ∷ lv 2 (tri (tr 0 1 4)) ∷ lv 3 (tri (tr 4 0 5)) ∷ lv 1 (tri (tr 0 1 3)) ∷ lv 4 (tri (tr 3 6 0)) ∷ []; bucket = (fin false 5404319552844595 (negsuc 51)); locked = λ e. false }; quads = []; blocked = (0, 5) ∷ (1, 4) ∷ (4, 5) ∷ []; counts = tally 0 3 0 1 1 1 0 0 0 5 }
 
 st-4 : State
-st-4 = record { mesh = record { points = points-0; used = 5; live = lv 0 (tri (tr 0 1 2)) ∷ lv 2 (tri (tr 0 1 4)) ∷ lv 3 (tri (tr 4 0 5)) ∷ lv 1 (tri (tr 0 1 3)) ∷ lv 4 (tri (tr 3 6 0)) ∷ []; bucket = (fin false 5404319552844595 (negsuc 51)); locked = λ e. false }; quads = []; blocked = (1, 3) ∷ (0, 5) ∷ (1, 4) ∷ (4, 5) ∷ []; counts = tally 0 4 0 1 1 1 1 0 0 }
+st-4 = record { mesh = record { points = points-0; used = 5; live = lv 0 (tri (tr 0 1 2)) ∷ lv 2 (tri (tr 0 1 4)) ∷ lv 3 (tri (tr 4 0 5)) ∷ lv 1 (tri (tr 0 1 3)) ∷ lv 4 (tri (tr 3 6 0)) ∷ []; bucket = (fin false 5404319552844595 (negsuc 51)); locked = λ e. false }; quads = []; blocked = (1, 3) ∷ (0, 5) ∷ (1, 4) ∷ (4, 5) ∷ []; counts = tally 0 4 0 1 1 1 1 0 0 6 }
 
 st-5 : State
-st-5 = record { mesh = record { points = points-0; used = 5; live = lv 0 (tri (tr 0 1 2)) ∷ lv 2 (tri (tr 0 1 4)) ∷ lv 3 (tri (tr 4 0 5)) ∷ lv 1 (tri (tr 0 1 3)) ∷ lv 4 (tri (tr 3 6 0)) ∷ []; bucket = (fin false 5404319552844595 (negsuc 51)); locked = λ e. false }; quads = []; blocked = (3, 6) ∷ (1, 3) ∷ (0, 5) ∷ (1, 4) ∷ (4, 5) ∷ []; counts = tally 0 5 0 1 1 1 2 0 0 }
+st-5 = record { mesh = record { points = points-0; used = 5; live = lv 0 (tri (tr 0 1 2)) ∷ lv 2 (tri (tr 0 1 4)) ∷ lv 3 (tri (tr 4 0 5)) ∷ lv 1 (tri (tr 0 1 3)) ∷ lv 4 (tri (tr 3 6 0)) ∷ []; bucket = (fin false 5404319552844595 (negsuc 51)); locked = λ e. false }; quads = []; blocked = (3, 6) ∷ (1, 3) ∷ (0, 5) ∷ (1, 4) ∷ (4, 5) ∷ []; counts = tally 0 5 0 1 1 1 2 0 0 7 }
 
 st-6 : State
-st-6 = record { mesh = record { points = points-0; used = 5; live = lv 0 (tri (tr 0 1 2)) ∷ lv 2 (tri (tr 0 1 4)) ∷ lv 3 (tri (tr 4 0 5)) ∷ lv 1 (tri (tr 1 6 0)) ∷ lv 4 (tri (tr 6 1 3)) ∷ []; bucket = (fin false 5404319552844595 (negsuc 51)); locked = λ e. false }; quads = []; blocked = (1, 2) ∷ (3, 6) ∷ (1, 3) ∷ (0, 5) ∷ (1, 4) ∷ (4, 5) ∷ []; counts = tally 0 6 0 1 1 2 2 0 0 }
+st-6 = record { mesh = record { points = points-0; used = 5; live = lv 0 (tri (tr 0 1 2)) ∷ lv 2 (tri (tr 0 1 4)) ∷ lv 3 (tri (tr 4 0 5)) ∷ lv 1 (tri (tr 1 6 0)) ∷ lv 4 (tri (tr 6 1 3)) ∷ []; bucket = (fin false 5404319552844595 (negsuc 51)); locked = λ e. false }; quads = []; blocked = (1, 2) ∷ (3, 6) ∷ (1, 3) ∷ (0, 5) ∷ (1, 4) ∷ (4, 5) ∷ []; counts = tally 0 6 0 1 1 2 2 0 0 8 }
 
 st-7 : State
-st-7 = record { mesh = record { points = points-0; used = 5; live = lv 0 (tri (tr 0 1 2)) ∷ lv 2 (tri (tr 0 1 4)) ∷ lv 3 (tri (tr 4 0 5)) ∷ lv 1 (tri (tr 1 6 0)) ∷ lv 4 (tri (tr 6 1 3)) ∷ []; bucket = (fin false 5404319552844595 (negsuc 51)); locked = λ e. false }; quads = []; blocked = (0, 2) ∷ (1, 2) ∷ (3, 6) ∷ (1, 3) ∷ (0, 5) ∷ (1, 4) ∷ (4, 5) ∷ []; counts = tally 0 7 0 1 1 3 2 0 0 }
+st-7 = record { mesh = record { points = points-0; used = 5; live = lv 0 (tri (tr 0 1 2)) ∷ lv 2 (tri (tr 0 1 4)) ∷ lv 3 (tri (tr 4 0 5)) ∷ lv 1 (tri (tr 1 6 0)) ∷ lv 4 (tri (tr 6 1 3)) ∷ []; bucket = (fin false 5404319552844595 (negsuc 51)); locked = λ e. false }; quads = []; blocked = (0, 2) ∷ (1, 2) ∷ (3, 6) ∷ (1, 3) ∷ (0, 5) ∷ (1, 4) ∷ (4, 5) ∷ []; counts = tally 0 7 0 1 1 3 2 0 0 9 }
 
 st-8 : State
-st-8 = record { mesh = record { points = points-0; used = 5; live = lv 0 (tri (tr 0 1 2)) ∷ lv 2 (tri (tr 0 1 4)) ∷ lv 3 (tri (tr 4 0 5)) ∷ lv 1 (tri (tr 1 6 0)) ∷ lv 4 (tri (tr 6 1 3)) ∷ []; bucket = (fin false 5404319552844595 (negsuc 51)); locked = λ e. false }; quads = []; blocked = (0, 6) ∷ (0, 2) ∷ (1, 2) ∷ (3, 6) ∷ (1, 3) ∷ (0, 5) ∷ (1, 4) ∷ (4, 5) ∷ []; counts = tally 0 8 0 1 1 4 2 0 0 }
+st-8 = record { mesh = record { points = points-0; used = 5; live = lv 0 (tri (tr 0 1 2)) ∷ lv 2 (tri (tr 0 1 4)) ∷ lv 3 (tri (tr 4 0 5)) ∷ lv 1 (tri (tr 1 6 0)) ∷ lv 4 (tri (tr 6 1 3)) ∷ []; bucket = (fin false 5404319552844595 (negsuc 51)); locked = λ e. false }; quads = []; blocked = (0, 6) ∷ (0, 2) ∷ (1, 2) ∷ (3, 6) ∷ (1, 3) ∷ (0, 5) ∷ (1, 4) ∷ (4, 5) ∷ []; counts = tally 0 8 0 1 1 4 2 0 0 12 }
 
 front-is-0 : front (st-0 .mesh) ≡ (0, 2) ∷ (0, 5) ∷ (0, 6) ∷ (1, 2) ∷ (1, 3) ∷ (1, 4) ∷ (3, 6) ∷ (4, 5) ∷ []
 unfolding opened-attempts s points-0 st-0

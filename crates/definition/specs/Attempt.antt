@@ -8,7 +8,7 @@ use lib.ListN.{length}
 use lib.Ieee.{Float, neg}
 use Rattle.definition.specs.Floats.{_⊘_, _≺_, _≼_, 0·0}
 use Rattle.definition.specs.Numbers.{Settings, Turn, first-turn, second-turn, tiny-length}
-use Rattle.definition.specs.Counts.{Refusal, Placement, Shape, Recovery, Region, OddRegion, Want, of-slots, Spent, nothing-spent, inserting}
+use Rattle.definition.specs.Counts.{Refusal, Placement, Shape, Recovery, Region, OddRegion, Want, of-slots, Spent, nothing-spent, inserting, trying}
 use Rattle.definition.specs.Plane.{Vec, Edge, cross, norm, from-to, edge-length, size-mismatch}
 use Rattle.definition.specs.Cells.{Tri, Quad, Cell, tri, quad, Live, Mesh, born, node-at, tri-owner, this-round, remove-cells, push-cell}
 use Rattle.definition.specs.Flips.{third, Recovered, recover}
@@ -81,10 +81,10 @@ unfoldable pub try-pairs : Settings → Spent → Mesh → Edge → Refusal → 
 try-pairs s n m e last [] = refused last n m
 try-pairs s n m e last (t ∷ ts) =
     elim (try-pair s m (t .nodes) (tri-owner m e)) [
-      | made q m′ ↦ placed n m′ q
-      | failed why m′ ↦ try-pairs s n m′ e why ts
+      | made q m′ ↦ placed (trying n) m′ q
+      | failed why m′ ↦ try-pairs s (trying n) m′ e why ts
       | orphaned ↦ refused Placement n m
-      | no-slot m′ ↦ ended of-slots n m′
+      | no-slot m′ ↦ ended of-slots (trying n) m′
     ]
 
 -- without a pair the attempt is refused under the shape

@@ -1,4 +1,4 @@
--- The numbers of a finished run as thirteen stores, and the number of a call whose answer is too short.
+-- The numbers of a finished run as fourteen stores, and the number of a call whose answer is too short.
 use mathlib.Core.Path.{_≡_, refl, subst}
 use mathlib.Core.Logic.{_≢_}
 use mathlib.Core.List.{List}
@@ -16,11 +16,11 @@ use Rattle.library.specs.Exported.{numbers, handed, up-to-4, Roomy, Expo
 -- the stores, first to last
 abbrev stored : List ℕ → Answer → List ℕ
 stored xs r =
-    set (set (set (set (set (set (set (set (set (set (set (set (set xs
+    set (set (set (set (set (set (set (set (set (set (set (set (set (set xs
     0 (r .«front_empty»)) 1 (r .attempts)) 2 (r .placement)) 3 (r .«invalid_quad»)) 4 (r .recovery)) 5 (r .region)) 6 (r .«odd_region»)) 7 (r .«mismatch_insertions»)) 8 (r .limit))
-    9 (r .quads)) 10 (r .triangles)) 11 (r .points)) 12 (r .components)
+    9 (r .quads)) 10 (r .triangles)) 11 (r .points)) 12 (r .components)) 13 (r .trials)
 
-pub written : (xs : List ℕ) (r : Answer) → 13 ≤ length xs → stored xs r ≡ onto (numbers r) xs
+pub written : (xs : List ℕ) (r : Answer) → 14 ≤ length xs → stored xs r ≡ onto (numbers r) xs
 unfolding onto
 written xs r h = sets-eq (numbers r) xs 0 (omega (arith, h))
 
@@ -42,12 +42,12 @@ put r old new h e = rw (eq-eqb (r .refusal) 0 h) e
 
 -- with room the call, whatever the slice holds then
 pub with-room : (a : Asked) (l : Lent) (old : List ℕ) (k : ℕ) (new : List ℕ) (exit : Lent) (r : Answer)
-    → 13 ≤ length old → Roomy a l old k new exit r → Exported a l old k new exit
+    → 14 ≤ length old → Roomy a l old k new exit r → Exported a l old k new exit
 with-room a l old k new exit r h d = record { roomy = λ _. (r, d); short = λ s. absurd (omega (arith, h, s)) }
 
 -- without it the refusal
 pub without-room : (a : Asked) (l : Lent) (old : List ℕ) (k : ℕ)
-    → length old < 13 → k ≡ up-to-4 (first-refusal a l) → Exported a l old k old l
+    → length old < 14 → k ≡ up-to-4 (first-refusal a l) → Exported a l old k old l
 without-room a l old k h e =
     record { roomy = λ s. absurd (omega (arith, h, s)); short = λ _. record { number = e; answer = refl; lent = refl } }
 

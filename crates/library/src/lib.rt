@@ -22,12 +22,12 @@ ghost use Rattle.refusals.specs.Refusals.{first-refusal};
 ghost use Rattle.mesher.specs.Promise.{lent-of};
 ghost use Rattle.library.specs.Exported.{numbers, up-to-4, set-of, Exported};
 
-// Numbers of a finished run: nine counts and four lengths.
-const ANSWER: usize = 13;
+// Numbers of a finished run: nine counts, four lengths, and the pairs tried.
+const ANSWER: usize = 14;
 
 // The numbers of a finished run come to the front of the slice.
 fn write_answer(answer: &mut [usize], a: Answer)
-    requires { ⌜ 13 ≤ length (now answer) ⌝ }
+    requires { ⌜ 14 ≤ length (now answer) ⌝ }
     ensures { λ r. ⌜ now (answer .exit) ≡ onto (numbers a) (now (answer .entry)) ⌝ }
 {
     answer[0] = a.front_empty;
@@ -43,6 +43,7 @@ fn write_answer(answer: &mut [usize], a: Answer)
     answer[10] = a.triangles;
     answer[11] = a.points;
     answer[12] = a.components;
+    answer[13] = a.trials;
 }
 
 // The number of a call whose answer is too short: 1 to 3 and 14 come before it, and it is 4.
@@ -65,7 +66,7 @@ fn short_answer(points: &[f64], triangles: &[u32], joints: &[u32], a: Stated, n:
     4
 }
 
-// The number of the refusal is returned, 0 where the run finished; then the counts and the lengths of the lists come to the front of the answer, and a refusal leaves it as it was.
+// The number of the refusal is returned, 0 where the run finished; then its numbers come to the front of the answer, and a refusal leaves it as it was.
 fn answered(
     points: &mut [f64],
     triangles: &[u32],

@@ -55,6 +55,7 @@ pub fn refused(number: usize) -> Answer
         triangles: 0,
         points: 0,
         components: 0,
+        trials: 0,
     }
 }
 
@@ -151,6 +152,7 @@ fn finish(
         triangles: left,
         points: c.points,
         components: sizes,
+        trials: t.trials,
     }
 }
 

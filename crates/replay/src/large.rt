@@ -109,7 +109,7 @@ fn put_triangles(triangles: &mut [u32])
 
 // ---- the hash of an answer
 
-// The counts and the lengths of an answer.
+// The counts and the lengths of an answer, then the pairs tried.
 fn mixed_counts(a: Answer) -> u64 {
     let mut h = mixed(BASIS, a.front_empty as u64);
     h = mixed(h, a.attempts as u64);
@@ -123,7 +123,8 @@ fn mixed_counts(a: Answer) -> u64 {
     h = mixed(h, a.quads as u64);
     h = mixed(h, a.triangles as u64);
     h = mixed(h, a.points as u64);
-    mixed(h, a.components as u64)
+    h = mixed(h, a.components as u64);
+    mixed(h, a.trials as u64)
 }
 
 // The lesser of n and the slots.
@@ -181,7 +182,7 @@ fn agrees(size: f64, stop: u32, stored: u64) -> u64
 pub fn agreed() -> u64
     ensures { λ r. ⌜ r ≤ 4 ⌝ }
 {
-    let fine = agrees(0.125, 0, 0x9334591a3280a61b) + agrees(0.125, 1, 0xe28f664745673052);
-    let coarse = agrees(0.25, 0, 0x223cf2c936833c6d) + agrees(0.25, 1, 0xecc4a878e0a41044);
+    let fine = agrees(0.125, 0, 0x327588bc4fdf5d7f) + agrees(0.125, 1, 0x3487aeb5dea73102);
+    let coarse = agrees(0.25, 0, 0x234a31be36697032) + agrees(0.25, 1, 0xd4cfd4b95f6ce88b);
     fine + coarse
 }

@@ -12,9 +12,9 @@ ghost use Prim.Native.Nat.{_≤_};
 ghost use lib.ListN.{length};
 ghost use Rattle.definition.specs.Lists.{rows};
 ghost use Rattle.definition.specs.Call.{Returned};
-ghost use Rattle.definition.specs.Text.{show-returned, reply};
+ghost use Rattle.definition.specs.Text.{listed, show-returned, reply};
 ghost use Rattle.reading.specs.Whole.{input-of, answer};
-ghost use Rattle.writing.specs.Answer.{most-written, counts-of, Answered};
+ghost use Rattle.writing.specs.Answer.{most-written, columns, Answered};
 ghost use Rattle.mesher.specs.Promise.{counts-in};
 ghost use Rattle.replies.specs.Tells.{Was-read, Countable, Writable, Long, Left};
 
@@ -33,7 +33,7 @@ const NOT_IN_FORM: u32 = 10;
 // The counts to be written.
 fn counts_of(a: Answer) -> Counts
     requires { ⌜ Countable a ⌝ }
-    ensures { λ r. ⌜ counts-of r ≡ counts-in a ⌝ }
+    ensures { λ r. ⌜ listed (counts-in a) ≡ columns r ⌝ }
 {
     Counts {
         front_empty: a.front_empty as u32,

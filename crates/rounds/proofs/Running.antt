@@ -148,7 +148,7 @@ module _ (w : List ℕ) (q f : List Float) (quads : List ℕ) (rules : Rules) (c
   module _ (w₁ : List ℕ) (to : OpenTo w w₁ (refused-at (rules .slots) (rules .capacity)) (3 * rules .slots) (rules .capacity)) (g : Standing) (b : Begins c g) where
     begin-counts : counts-of g ≡ start (settings-of rules) lk ts ps .counts
     unfolding start no-counts tally
-    begin-counts = same-counts (counts-of g) no-counts (b .front) (ap (λ z. z .attempts) (b .counters) ∙ k .fresh) (b .placement) (b .invalid) (b .recovery) (b .region) (b .odd) (b .insertions) (b .limit)
+    begin-counts = same-counts (counts-of g) no-counts (b .front) (ap (λ z. z .attempts) (b .counters) ∙ k .fresh) (b .placement) (b .invalid) (b .recovery) (b .region) (b .odd) (b .insertions) (b .limit) (b .trials)
 
     pub starts : Goes w₁ q quads x g (start (settings-of rules) lk ts ps) []
     unfolding start onto flat-map

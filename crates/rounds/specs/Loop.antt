@@ -71,6 +71,7 @@ pub record Begins (c : Counters) (g : Standing) : Type 0 where
   pub odd : g .tally .«odd_region» ≡ 0
   pub insertions : g .tally .«mismatch_insertions» ≡ 0
   pub limit : g .tally .limit ≡ 0
+  pub trials : g .tally .trials ≡ 0
   pub quads : g .quads ≡ 0
   pub records : g .records ≡ 0
 

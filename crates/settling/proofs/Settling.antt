@@ -72,7 +72,7 @@ sort-few ends.NoPoint = omega arith
 sort-few ends.NoSlots = omega arith
 
 module _ (w quads : List ℕ) (s p : ℕ) (g : Standing) (t : Tried) (u v : ℕ) (ever bl : List Edge) (qs : List Quad) (old : List ℕ) (can : CanSettle w quads s p g t u v ever bl qs old)
-    (h : Standing) (tm : TriedMore g (t .counters) (t .inserted) h) where
+    (h : Standing) (tm : TriedMore g (t .counters) (t .inserted) (t .trials) h) where
   -- the standing after the attempt keeps its place
   so-far : Kept-so-far w quads s p h ever bl qs old
   so-far = record { blocks = can .so-far .blocks; records = tm .records ∙ can .so-far .records; number = tm .quads ∙ can .so-far .number; text = can .so-far .text }

@@ -92,6 +92,7 @@ pub record CanSettle (w quads : List ℕ) (s p : ℕ) (g : Standing) (t : Tried)
   pub so-far : Kept-so-far w quads s p g ever bl qs old
   pub few : FewCounts g
   pub inserted : g .tally .«mismatch_insertions» + t .inserted < 2 ^ 32
+  pub trials : g .tally .trials + t .trials < 2 ^ 32
   pub edge : IsEdge p (u, v)
   pub placed : t .end ≡ ends.Placed → QuadFits quads s p (length qs) t u v
   pub refused : (why : Refusal) → t .end ≡ end-of why → length (with-edge (u, v) ever) ≤ 3 * s

@@ -4,7 +4,7 @@ use mathlib.Core.Bool.{Bool, true, false}
 use Prim.Native.Nat.{ℕ, _+_, _^_, _<_}
 use Rattle.definition.specs.Counts.{Counts, _⊞_, one-attempt, spending}
 use Rattle.cells.specs.Counting.{Attempted}
-use Rattle.outcomes.specs.Ends.{only-inserted}
+use Rattle.outcomes.specs.Ends.{spent}
 use Rattle.cells.specs.declared.counters.Counters.{Counters}
 use Rattle.outcomes.specs.declared.End.{End}
 use Rattle.outcomes.specs.declared.End.the-variants as ends
@@ -26,6 +26,7 @@ counts-of g =
       odd-region = g .tally .«odd_region»;
       mismatch-insertions = g .tally .«mismatch_insertions»;
       limit = g .tally .limit;
+      trials = g .tally .trials;
     }
 
 -- 0: a quad was placed; 1: refused; 2: no point is left; 3: too few slots are
@@ -57,6 +58,7 @@ pub record FewTally (t : Tally) : Type 0 where
   pub odd : t .«odd_region» < 2 ^ 32
   pub insertions : t .«mismatch_insertions» < 2 ^ 32
   pub limit : t .limit < 2 ^ 32
+  pub trials : t .trials < 2 ^ 32
 
 -- so for a standing
 abbrev pub FewCounts : Standing → Type 0
@@ -65,11 +67,11 @@ FewCounts g = FewTally (g .tally)
 -- one more refusal of the kind of the end
 abbrev pub tally-refused : End → Tally → Tally
 tally-refused ends.Placed t = t
-tally-refused ends.Placement t = record { «front_empty» = t .«front_empty»; placement = t .placement + 1; «invalid_quad» = t .«invalid_quad»; recovery = t .recovery; region = t .region; «odd_region» = t .«odd_region»; «mismatch_insertions» = t .«mismatch_insertions»; limit = t .limit }
-tally-refused ends.Shape t = record { «front_empty» = t .«front_empty»; placement = t .placement; «invalid_quad» = t .«invalid_quad» + 1; recovery = t .recovery; region = t .region; «odd_region» = t .«odd_region»; «mismatch_insertions» = t .«mismatch_insertions»; limit = t .limit }
-tally-refused ends.Recovery t = record { «front_empty» = t .«front_empty»; placement = t .placement; «invalid_quad» = t .«invalid_quad»; recovery = t .recovery + 1; region = t .region; «odd_region» = t .«odd_region»; «mismatch_insertions» = t .«mismatch_insertions»; limit = t .limit }
-tally-refused ends.Region t = record { «front_empty» = t .«front_empty»; placement = t .placement; «invalid_quad» = t .«invalid_quad»; recovery = t .recovery; region = t .region + 1; «odd_region» = t .«odd_region»; «mismatch_insertions» = t .«mismatch_insertions»; limit = t .limit }
-tally-refused ends.OddRegion t = record { «front_empty» = t .«front_empty»; placement = t .placement; «invalid_quad» = t .«invalid_quad»; recovery = t .recovery; region = t .region; «odd_region» = t .«odd_region» + 1; «mismatch_insertions» = t .«mismatch_insertions»; limit = t .limit }
+tally-refused ends.Placement t = record { «front_empty» = t .«front_empty»; placement = t .placement + 1; «invalid_quad» = t .«invalid_quad»; recovery = t .recovery; region = t .region; «odd_region» = t .«odd_region»; «mismatch_insertions» = t .«mismatch_insertions»; limit = t .limit; trials = t .trials }
+tally-refused ends.Shape t = record { «front_empty» = t .«front_empty»; placement = t .placement; «invalid_quad» = t .«invalid_quad» + 1; recovery = t .recovery; region = t .region; «odd_region» = t .«odd_region»; «mismatch_insertions» = t .«mismatch_insertions»; limit = t .limit; trials = t .trials }
+tally-refused ends.Recovery t = record { «front_empty» = t .«front_empty»; placement = t .placement; «invalid_quad» = t .«invalid_quad»; recovery = t .recovery + 1; region = t .region; «odd_region» = t .«odd_region»; «mismatch_insertions» = t .«mismatch_insertions»; limit = t .limit; trials = t .trials }
+tally-refused ends.Region t = record { «front_empty» = t .«front_empty»; placement = t .placement; «invalid_quad» = t .«invalid_quad»; recovery = t .recovery; region = t .region + 1; «odd_region» = t .«odd_region»; «mismatch_insertions» = t .«mismatch_insertions»; limit = t .limit; trials = t .trials }
+tally-refused ends.OddRegion t = record { «front_empty» = t .«front_empty»; placement = t .placement; «invalid_quad» = t .«invalid_quad»; recovery = t .recovery; region = t .region; «odd_region» = t .«odd_region» + 1; «mismatch_insertions» = t .«mismatch_insertions»; limit = t .limit; trials = t .trials }
 tally-refused ends.NoPoint t = t
 tally-refused ends.NoSlots t = t
 
@@ -87,10 +89,10 @@ pub record CountsMore (g : Standing) (c : Counts) (r : Standing) : Type 0 where
   pub quads : r .quads ≡ g .quads
   pub records : r .records ≡ g .records
 
--- n insertions more, and the counters are c; attempts stay where c has those of g
-pub record TriedMore (g : Standing) (c : Counters) (n : ℕ) (r : Standing) : Type 0 where
+-- n insertions and k trials more, and the counters are c; attempts stay where c has those of g
+pub record TriedMore (g : Standing) (c : Counters) (n k : ℕ) (r : Standing) : Type 0 where
   pub counters : r .counters ≡ c
-  pub counts : c .attempts ≡ g .counters .attempts → counts-of r ≡ counts-of g ⊞ spending (only-inserted n)
+  pub counts : c .attempts ≡ g .counters .attempts → counts-of r ≡ counts-of g ⊞ spending (spent n k)
   pub few : FewTally (r .tally)
   pub quads : r .quads ≡ g .quads
   pub records : r .records ≡ g .records

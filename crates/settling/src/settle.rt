@@ -95,7 +95,7 @@ pub fn settle(
 {
     let c = t.counters;
     let end = t.end;
-    let h = tried(g, c, t.inserted);
+    let h = tried(g, c, t.inserted, t.trials);
     let sort = sort_of(end);
     if sort == 0 {
         return put_quad(w, quads, s, p, h, t, u, v);

@@ -18,6 +18,7 @@ pub struct Tally {
     pub odd_region: usize,
     pub mismatch_insertions: usize,
     pub limit: usize,
+    pub trials: usize,
 }
 
 // The state of a run beside the lent slices: counters, tally, quads placed, edges that have a record of refusal.
@@ -132,14 +133,16 @@ pub fn emptied(g: Standing) -> Standing
     }
 }
 
-// An attempt made n insertions and left the counters c.
-pub fn tried(g: Standing, c: Counters, n: usize) -> Standing
+// An attempt made n insertions, tried k pairs and left the counters c.
+pub fn tried(g: Standing, c: Counters, n: usize, k: usize) -> Standing
     requires { ⌜ FewCounts g ⌝ }
     requires { ⌜ g .tally .«mismatch_insertions» + n < 2 ^ 32 ⌝ }
-    ensures { λ r. ⌜ TriedMore g c n r ⌝ }
+    requires { ⌜ g .tally .trials + k < 2 ^ 32 ⌝ }
+    ensures { λ r. ⌜ TriedMore g c n k r ⌝ }
 {
     let mut t = g.tally;
     t.mismatch_insertions += n;
+    t.trials += k;
     Standing {
         counters: c,
         tally: t,

@@ -39,8 +39,9 @@ pub two-tables : (f : ℕ → Bytes) (t : Bytes) (a b : List (List ℕ)) → (t 
 two-tables f t a b = rw (lines-append f a b) (append-assoc t (lines-of f a) (lines-of f b))
 
 -- the six parts are the answer
-pub joined : (k : ℕ) (bits : List ℕ) (c : def.Counts) (n : call.Lengths) (l : Lent)
-    → (((((bytes "front_empty attempts placement invalid_quad recovery region odd_region mismatch_insertions limit\n" ++ line-of show (listed c))
+pub joined : (k : ℕ) (bits : List ℕ) (c : def.Counts) (cs : List ℕ) (n : call.Lengths) (l : Lent)
+    → listed c ≡ cs
+    → (((((bytes "front_empty attempts placement invalid_quad recovery region odd_region mismatch_insertions limit\n" ++ line-of show cs)
     ++ (bytes "quads triangles points components\n" ++ line-of show (lengths-listed n)))
     ++ (bytes "n0 n1 n2 n3 u v round replaced\n" ++ lines-of show (rows 8 (n .quads) (l .quads))))
     ++ (bytes "n0 n1 n2\n" ++ lines-of show (rows 3 (n .triangles) (l .triangles-out))))
@@ -48,4 +49,4 @@ pub joined : (k : ℕ) (bits : List ℕ) (c : def.Counts) (n : call.Lengths) (l 
     ++ (bytes "size\n" ++ lines-of show (rows 1 (n .components) (l .components)))
     ≡ show-lists (rows 3 k bits) c n l
 unfolding show-lists lengths-listed
-joined k bits c n l = rw (rows-length 3 k bits) (simp append-assoc)
+joined k bits c cs n l e = rw (sym e, rows-length 3 k bits) (simp append-assoc)

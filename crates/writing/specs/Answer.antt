@@ -11,20 +11,10 @@ use Rattle.definition.specs.Text.{Bytes, show-lists}
 use Rattle.writing.specs.declared.Counts.{Counts}
 use Rattle.writing.specs.declared.Lengths.{Lengths}
 
--- the definition's counts
-unfoldable pub counts-of : Counts → def.Counts
-counts-of c =
-    record {
-      front-empty = c .«front_empty»;
-      attempts = c .attempts;
-      placement = c .placement;
-      invalid-quad = c .«invalid_quad»;
-      recovery = c .recovery;
-      region = c .region;
-      odd-region = c .«odd_region»;
-      mismatch-insertions = c .«mismatch_insertions»;
-      limit = c .limit;
-    }
+-- the counts that are written, in the order of their names
+unfoldable pub columns : Counts → List ℕ
+columns c =
+    c .«front_empty» ∷ c .attempts ∷ c .placement ∷ c .«invalid_quad» ∷ c .recovery ∷ c .region ∷ c .«odd_region» ∷ c .«mismatch_insertions» ∷ c .limit ∷ []
 
 -- the definition's lengths
 unfoldable pub lengths-of : Lengths → call.Lengths

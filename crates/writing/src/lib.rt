@@ -3,14 +3,16 @@ mod digits;
 mod lines;
 
 ghost use mathlib.Core.List.{_++_};
+ghost use mathlib.Core.Path.{_≡_};
 ghost use Prim.Native.Nat.{_+_, _-_, _*_, _<_, _≤_};
 ghost use lib.ListN.{length};
 ghost use Rattle.definition.specs.Lists.{rows};
+ghost use Rattle.definition.specs.Counts as defined;
 ghost use Rattle.definition.specs.Text.{bytes, show, show-bits, line-of, lines-of, listed, points-between, show-refusal, show-lists};
 ghost use Rattle.writing.specs.Put.{Within};
-ghost use Rattle.writing.specs.Answer.{most-written, counts-of, lengths-of, lengths-listed, shown, Few, Held, Answered};
+ghost use Rattle.writing.specs.Answer.{most-written, columns, lengths-of, lengths-listed, shown, Few, Held, Answered};
 
-// What a finished run counted.
+// What is written of a finished run's counts.
 pub struct Counts {
     pub front_empty: u32,
     pub attempts: u32,
@@ -43,7 +45,7 @@ fn named(out: &mut [u8], at: usize, names: &[u8], xs: &[u32], w: usize, n: usize
 // The counts.
 fn counted(out: &mut [u8], c: Counts) -> usize
     requires { ⌜ 196 ≤ length (now out) ⌝ }
-    ensures { λ r. ⌜ Within (now (out .entry)) (now (out .exit)) 0 (bytes "front_empty attempts placement invalid_quad recovery region odd_region mismatch_insertions limit\n" ++ line-of show (listed (counts-of c))) r 196 ⌝ }
+    ensures { λ r. ⌜ Within (now (out .entry)) (now (out .exit)) 0 (bytes "front_empty attempts placement invalid_quad recovery region odd_region mismatch_insertions limit\n" ++ line-of show (columns c)) r 196 ⌝ }
 {
     let row = [
         c.front_empty,
@@ -90,7 +92,7 @@ fn places(out: &mut [u8], at: usize, bits: &[u64], k: usize, points: &[f64], n: 
     lines::added(out, q, points, k, n)
 }
 
-// The answer of a finished run, whose `given` points are written by their bits.
+// The answer of a finished run with these counts, whose `given` points are written by their bits.
 pub fn answer(
     out: &mut [u8],
     c: Counts,
@@ -103,7 +105,7 @@ pub fn answer(
     components: &[u32],
 ) -> usize
     requires { ⌜ Few n × Held n given (now bits) (now points) (now quads) (now triangles) (now components) × (most-written ≤ length (now out)) ⌝ }
-    ensures { λ r. ⌜ Answered (now (out .entry)) (now (out .exit)) (show-lists (rows 3 given (now (bits .entry))) (counts-of c) (lengths-of n) (shown (now (points .entry)) (now (quads .entry)) (now (triangles .entry)) (now (components .entry)))) r ⌝ }
+    ensures { λ r. ⌜ ((d : defined.Counts) → listed d ≡ columns c → Answered (now (out .entry)) (now (out .exit)) (show-lists (rows 3 given (now (bits .entry))) d (lengths-of n) (shown (now (points .entry)) (now (quads .entry)) (now (triangles .entry)) (now (components .entry)))) r) ⌝ }
 {
     let nq = n.quads;
     let nt = n.triangles;

@@ -1,4 +1,4 @@
--- Thirteen stores within the slice.
+-- Fourteen stores within the slice.
 use native.Mathlib.Omega.{arith}
 use lib.ListN.{length-set}
 use borrow.Author.Needs.{needs}
@@ -17,4 +17,4 @@ write-answer-spec =
     (λ c. simp length-set (omega (arith, c .pre))) (λ c. simp length-set (omega (arith, c .pre))) (λ c. simp length-set (omega (arith, c .pre)))
     (λ c. simp length-set (omega (arith, c .pre))) (λ c. simp length-set (omega (arith, c .pre))) (λ c. simp length-set (omega (arith, c .pre)))
     (λ c. simp length-set (omega (arith, c .pre))) (λ c. simp length-set (omega (arith, c .pre))) (λ c. simp length-set (omega (arith, c .pre)))
-    (λ c. simp length-set (omega (arith, c .pre))) (λ c. search needs) returns)
+    (λ c. simp length-set (omega (arith, c .pre))) (λ c. simp length-set (omega (arith, c .pre))) (λ c. search needs) returns)

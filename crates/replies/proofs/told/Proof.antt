@@ -4,7 +4,7 @@ use mathlib.Core.Path.{refl, subst}
 use denote.Ref.{now}
 use native.Mathlib.Omega.{arith}
 use Rattle.definition.specs.Lists.{rows}
-use Rattle.writing.specs.Answer.{counts-of, lengths-of, Answered}
+use Rattle.writing.specs.Answer.{lengths-of, Answered}
 use Rattle.replies.proofs.Shown.{refused-shown, finished-shown}
 use Rattle.replies.proofs.told.Statement.{statement}
 use Rattle.replies.proofs.told.Tie as tie
@@ -44,7 +44,7 @@ returns-2 c = λ x h.
     let a = start .args in
     let w = c .before .before .answer in
     subst (λ t. Answered (now (a .out)) (w .last .0) t (w .result))
-    (finished-shown (rows 3 (a .given) (now (a .bits))) h _ _ (omega arith) (c .before .before .before .before .counts-of .ensures) refl) (w .ensures)
+    (finished-shown (rows 3 (a .given) (now (a .bits))) h _ _ (omega arith) refl refl) (w .ensures _ (c .before .before .before .before .counts-of .ensures))
 
 pub told-spec : {M : Type 1} → statement M
 told-spec =

@@ -5,7 +5,7 @@ use Rattle.writing.proofs.Parts.{at-front, joined}
 use mathlib.Core.Path.{_∙_}
 use denote.Ref.{now}
 use Rattle.definition.specs.Text.{bytes}
-use Rattle.writing.specs.Answer.{counts-of, lengths-of, shown}
+use Rattle.writing.specs.Answer.{columns, lengths-of, shown}
 use native.Mathlib.Omega.{arith}
 use Rattle.writing.proofs.answer.Statement.{statement}
 use Rattle.writing.proofs.answer.Tie as tie
@@ -18,7 +18,7 @@ same-length c = c .before .before .named3 .kept .0 ∙ c .before .before .before
 
 returns : tie.Need-returns
 unfolding bytes lengths-of shown
-returns c =
+returns c = λ d is.
     let s = c .before .before .before .before .before .before .before .before .before .before .before .before .before .before .before .before .before .before .before .before .before .before .before .before .before .before .before .before .before .before .before .before .before in
     let a = s .args in
     let k = c .before .before .before .before .before .before .before .before .before .before .before .before .before .before .before .before .before .before .before .before .before .before .before .before .before .counted in
@@ -43,7 +43,7 @@ returns c =
     (t .ensures .written)) (omega (arith, h₁, h₂, h₃, h₄, few, room))
     (p .ensures .written)) (omega (arith, h₁, h₂, h₃, h₄, h₅, few, room))
     (e .ensures .written))
-    (joined (a .given) (now (a .bits)) (counts-of (a .c)) (lengths-of (a .n)) (shown (now (a .points)) (now (a .quads)) (now (a .triangles)) (now (a .components)))))
+    (joined (a .given) (now (a .bits)) d (columns (a .c)) (lengths-of (a .n)) (shown (now (a .points)) (now (a .quads)) (now (a .triangles)) (now (a .components))) is))
     (omega (arith, h₁, h₂, h₃, h₄, h₅, h₆, few, room))
 
 pub answer-spec : {M : Type 1} → statement M

@@ -4,13 +4,13 @@ use Rattle.writing.proofs.Puts.{same-text}
 use Rattle.writing.proofs.Parts.{one-line}
 use mathlib.Core.Path.{refl, ap}
 use mathlib.Core.List.{_++_}
-use Rattle.definition.specs.Text.{Bytes, bytes, show, listed}
-use Rattle.writing.specs.Answer.{counts-of}
+use Rattle.definition.specs.Text.{Bytes, bytes, show}
+use Rattle.writing.specs.Answer.{columns}
 use Rattle.writing.proofs.counted.Statement.{statement}
 use Rattle.writing.proofs.counted.Tie as tie
 
 returns : tie.Need-returns
-unfolding bytes listed counts-of
+unfolding bytes columns
 returns c =
     let f = c .before .before .named in
     record {

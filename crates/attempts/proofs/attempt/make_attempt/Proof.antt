@@ -7,7 +7,7 @@ use Rattle.laws.specs.Frames.{stays-refl}
 use Rattle.cells.specs.Layout.{refused-at, near-at}
 use Rattle.rules.specs.Settings.{settings-of}
 use Rattle.attempts.specs.Runs.{setup}
-use Rattle.attempts.proofs.Attempting.{locks, on-edge, ready, can-attempt, grows, off-front, on-front, can-settle, step-is, off-to, was-front, was-off}
+use Rattle.attempts.proofs.Attempting.{locks, on-edge, ready, can-attempt, grows, tries, tries-none, off-front, on-front, can-settle, step-is, off-to, was-front, was-off}
 use borrow.Author.Needs.{needs}
 use Rattle.attempts.proofs.attempt.make_attempt.Statement.{statement}
 use Rattle.attempts.proofs.attempt.make_attempt.Tie as tie
@@ -35,7 +35,7 @@ settle-requires c κs =
       m .1 .quads,
       m .0 .old,
       can-settle (setup (a .rules) (t .pre .0)) (a .w .now) (a .q .now) (a .quads .now) (a .g) (m .1) (a .u) (a .v) (m .2) (m .3) (a .w .now) (a .q .now) (at-without-quad .without-quad .result) (stays-refl (a .w .now) (refused-at (a .rules .slots) (a .rules .capacity)) (near-at (a .rules .slots) (a .rules .capacity))) (refused Placement nothing-spent (m .1 .mesh))
-          (off-front (setup (a .rules) (t .pre .0)) (a .w .now) (a .q .now) (a .quads .now) (a .g) (m .1) (a .u) (a .v) (m .2) (m .3) off) tt (off-to (setup (a .rules) (t .pre .0)) (a .w .now) (a .q .now) (a .quads .now) (a .g) (m .1) (a .u) (a .v) (m .2) (m .3) (at-without-quad .without-quad .result) (at-without-quad .without-quad .ensures)),
+          (off-front (setup (a .rules) (t .pre .0)) (a .w .now) (a .q .now) (a .quads .now) (a .g) (m .1) (a .u) (a .v) (m .2) (m .3) off) tt (tries-none (setup (a .rules) (t .pre .0)) (a .w .now) (a .q .now) (a .quads .now) (a .g) (m .1) (a .u) (a .v) (m .2) (m .3)) (off-to (setup (a .rules) (t .pre .0)) (a .w .now) (a .q .now) (a .quads .now) (a .g) (m .1) (a .u) (a .v) (m .2) (m .3) (at-without-quad .without-quad .result) (at-without-quad .without-quad .ensures)),
     )
 
 returns : tie.Need-returns
@@ -54,7 +54,7 @@ returns c =
     let ran = off-front (setup (a .rules) k) (a .w .now) (a .q .now) (a .quads .now) (a .g) st (a .u) (a .v) es m off in
     let to = off-to (setup (a .rules) k) (a .w .now) (a .q .now) (a .quads .now) (a .g) st (a .u) (a .v) es m (at-without-quad .without-quad .result) (at-without-quad .without-quad .ensures) in
     let by = stays-refl (a .w .now) (refused-at (a .rules .slots) (a .rules .capacity)) (near-at (a .rules .slots) (a .rules .capacity)) in
-    let can = can-settle (setup (a .rules) k) (a .w .now) (a .q .now) (a .quads .now) (a .g) st (a .u) (a .v) es m (a .w .now) (a .q .now) (at-without-quad .without-quad .result) by (refused Placement nothing-spent (st .mesh)) ran tt to in
+    let can = can-settle (setup (a .rules) k) (a .w .now) (a .q .now) (a .quads .now) (a .g) st (a .u) (a .v) es m (a .w .now) (a .q .now) (at-without-quad .without-quad .result) by (refused Placement nothing-spent (st .mesh)) ran tt (tries-none (setup (a .rules) k) (a .w .now) (a .q .now) (a .quads .now) (a .g) st (a .u) (a .v) es m) to in
     let set = at-settle .settle .ensures (m .ever) (st .blocked) (st .quads) (k .old) can in
     step-is (setup (a .rules) k) (a .w .now) (a .q .now) (a .quads .now) (a .g) st (a .u) (a .v) es m (a .w .now) (a .q .now) (at-without-quad .without-quad .result) by (at-settle .settle .last .0) (at-settle .settle .last .1 .0) (at-settle .settle .result) set (refused Placement nothing-spent (st .mesh)) ran to
 
@@ -84,7 +84,7 @@ settle-requires-2 c κs =
     let ran = on-front x (a .w .now) (a .q .now) (a .quads .now) (a .g) (m .1) (a .u) (a .v) (m .2) (m .3) on in
     let to = at-try-quad .try-quad .ensures (m .1 .mesh) (can-attempt x (a .w .now) (a .q .now) (a .quads .now) (a .g) (m .1) (a .u) (a .v) (m .2) (m .3))
     (locks x (a .w .now) (a .q .now) (a .quads .now) (a .g) (m .1) (a .u) (a .v) (m .2) (m .3) (m .4)) in
-    (m .3 .ever, m .1 .blocked, m .1 .quads, m .0 .old, can-settle x (a .w .now) (a .q .now) (a .quads .now) (a .g) (m .1) (a .u) (a .v) (m .2) (m .3) (at-try-quad .try-quad .last .0) (at-try-quad .try-quad .last .1 .0) (at-try-quad .try-quad .result) (to .beyond) (try-quad (settings-of (x .rules)) (m .1 .mesh) (a .u, a .v)) ran (grows x (a .w .now) (a .q .now) (a .quads .now) (a .g) (m .1) (a .u) (a .v) (m .2) (m .3)) (to .is))
+    (m .3 .ever, m .1 .blocked, m .1 .quads, m .0 .old, can-settle x (a .w .now) (a .q .now) (a .quads .now) (a .g) (m .1) (a .u) (a .v) (m .2) (m .3) (at-try-quad .try-quad .last .0) (at-try-quad .try-quad .last .1 .0) (at-try-quad .try-quad .result) (to .beyond) (try-quad (settings-of (x .rules)) (m .1 .mesh) (a .u, a .v)) ran (grows x (a .w .now) (a .q .now) (a .quads .now) (a .g) (m .1) (a .u) (a .v) (m .2) (m .3)) (tries x (a .w .now) (a .q .now) (a .quads .now) (a .g) (m .1) (a .u) (a .v) (m .2) (m .3)) (to .is))
 
 returns-2 : tie.Need-returns-2
 returns-2 c =
@@ -105,7 +105,7 @@ returns-2 c =
     let ran = on-front x (a .w .now) (a .q .now) (a .quads .now) (a .g) st (a .u) (a .v) es m on in
     let to = at-try-quad .try-quad .ensures (st .mesh) (can-attempt x (a .w .now) (a .q .now) (a .quads .now) (a .g) st (a .u) (a .v) es m)
     (locks x (a .w .now) (a .q .now) (a .quads .now) (a .g) st (a .u) (a .v) es m l) in
-    let can = can-settle x (a .w .now) (a .q .now) (a .quads .now) (a .g) st (a .u) (a .v) es m (at-try-quad .try-quad .last .0) (at-try-quad .try-quad .last .1 .0) (at-try-quad .try-quad .result) (to .beyond) (try-quad (settings-of (x .rules)) (st .mesh) (a .u, a .v)) ran (grows x (a .w .now) (a .q .now) (a .quads .now) (a .g) st (a .u) (a .v) es m) (to .is) in
+    let can = can-settle x (a .w .now) (a .q .now) (a .quads .now) (a .g) st (a .u) (a .v) es m (at-try-quad .try-quad .last .0) (at-try-quad .try-quad .last .1 .0) (at-try-quad .try-quad .result) (to .beyond) (try-quad (settings-of (x .rules)) (st .mesh) (a .u, a .v)) ran (grows x (a .w .now) (a .q .now) (a .quads .now) (a .g) st (a .u) (a .v) es m) (tries x (a .w .now) (a .q .now) (a .quads .now) (a .g) st (a .u) (a .v) es m) (to .is) in
     let set = at-settle2 .settle2 .ensures (m .ever) (st .blocked) (st .quads) (k .old) can in
     step-is x (a .w .now) (a .q .now) (a .quads .now) (a .g) st (a .u) (a .v) es m (at-try-quad .try-quad .last .0) (at-try-quad .try-quad .last .1 .0) (at-try-quad .try-quad .result) (to .beyond) (at-settle2 .settle2 .last .0) (at-settle2 .settle2 .last .1 .0) (at-settle2 .settle2 .result) set (try-quad (settings-of (x .rules)) (st .mesh) (a .u, a .v)) ran (to .is)
 
