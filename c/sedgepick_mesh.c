@@ -17,10 +17,10 @@ static void *zeros(size_t count, size_t width) {
     return calloc(count ? count : 1, width);
 }
 
-/* One run, with as much memory as is stated. */
+/* One run, with as much memory as is stated; of a job where there is one. */
 static size_t attempt(
     const double *points, size_t given, const uint32_t *triangles, size_t count, const sedgepick_options *options,
-    size_t capacity, size_t slots, sedgepick_mesh *mesh) {
+    size_t capacity, size_t slots, size_t *job, sedgepick_mesh *mesh) {
     const sedgepick_quality *quality = &options->quality;
     static const uint32_t none[1];
     uint32_t *work = zeros(SEDGEPICK_WORK(slots, capacity), sizeof *work);
@@ -33,19 +33,23 @@ static size_t attempt(
     if (work && float_work && mesh->points && mesh->quads && mesh->triangles && mesh->components) {
         if (given)
             memcpy(mesh->points, points, SEDGEPICK_POINTS(given) * sizeof *points);
-        refusal = sedgepick_run_front_with(
-            mesh->points, SEDGEPICK_POINTS(capacity),
-            count ? triangles : none, 3 * count,
-            options->joint_count ? options->joints : none, SEDGEPICK_JOINTS(options->joint_count),
-            mesh->quads, SEDGEPICK_QUADS(slots),
-            mesh->triangles, SEDGEPICK_TRIANGLES_OUT(slots),
-            mesh->components, SEDGEPICK_COMPONENTS(slots),
-            work, SEDGEPICK_WORK(slots, capacity),
-            float_work, SEDGEPICK_FLOAT_WORK(slots),
-            given, capacity, count, slots, options->joint_count, options->size, options->stop,
-            quality->least_jacobian, quality->largest_cosine, quality->side_low, quality->side_high, quality->pairs,
-            options->grid,
-            mesh->answer, SEDGEPICK_ANSWER);
+#define CALL \
+            mesh->points, SEDGEPICK_POINTS(capacity), \
+            count ? triangles : none, 3 * count, \
+            options->joint_count ? options->joints : none, SEDGEPICK_JOINTS(options->joint_count), \
+            mesh->quads, SEDGEPICK_QUADS(slots), \
+            mesh->triangles, SEDGEPICK_TRIANGLES_OUT(slots), \
+            mesh->components, SEDGEPICK_COMPONENTS(slots), \
+            work, SEDGEPICK_WORK(slots, capacity), \
+            float_work, SEDGEPICK_FLOAT_WORK(slots), \
+            given, capacity, count, slots, options->joint_count, options->size, options->stop, \
+            quality->least_jacobian, quality->largest_cosine, quality->side_low, quality->side_high, quality->pairs, \
+            options->grid
+        if (job)
+            refusal = sedgepick_job(CALL, job, SEDGEPICK_JOB, mesh->answer, SEDGEPICK_ANSWER);
+        else
+            refusal = sedgepick_run_front_with(CALL, mesh->answer, SEDGEPICK_ANSWER);
+#undef CALL
     }
     free(work);
     free(float_work);
@@ -66,7 +70,7 @@ size_t sedgepick_mesh_run_with(
     capacity = within(capacity, given ? given : 1, SEDGEPICK_MOST_CAPACITY);
     slots = within(slots, count ? count : 1, SEDGEPICK_MOST_SLOTS);
     for (;;) {
-        size_t refusal = attempt(points, given, triangles, count, options, capacity, slots, mesh);
+        size_t refusal = attempt(points, given, triangles, count, options, capacity, slots, NULL, mesh);
         if (refusal == SEDGEPICK_NO_POINT && capacity < SEDGEPICK_MOST_CAPACITY)
             capacity = within(2 * capacity, 0, SEDGEPICK_MOST_CAPACITY);
         else if (refusal == SEDGEPICK_NO_SLOTS && slots < SEDGEPICK_MOST_SLOTS)
@@ -91,6 +95,33 @@ size_t sedgepick_mesh_run_from(
     return sedgepick_mesh_run_with(points, given, triangles, count, &options, mesh);
 }
 
+/* A mesh of a job that no memory is lent to: its numbers refuse it. */
+static size_t refused_job(size_t given, size_t count, const sedgepick_options *options, size_t *job) {
+    const sedgepick_quality *quality = &options->quality;
+    const uint32_t triangles = 0, joints = 0;
+    double points = 0, float_work = 0;
+    uint32_t quads = 0, left = 0, components = 0, work = 0;
+    size_t answer[SEDGEPICK_ANSWER];
+    return sedgepick_job(
+        &points, 0, &triangles, 0, &joints, 0, &quads, 0, &left, 0, &components, 0, &work, 0, &float_work, 0,
+        given, 0, count, 0, options->joint_count, options->size, options->stop,
+        quality->least_jacobian, quality->largest_cosine, quality->side_low, quality->side_high, quality->pairs, options->grid,
+        job, SEDGEPICK_JOB, answer, SEDGEPICK_ANSWER);
+}
+
+size_t sedgepick_mesh_run_job(
+    const double *points, size_t given, const uint32_t *triangles, size_t count, const sedgepick_options *options,
+    size_t job[SEDGEPICK_JOB], sedgepick_mesh *mesh) {
+    size_t capacity = options->capacity ? options->capacity : SEDGEPICK_MOST_CAPACITY;
+    size_t slots = options->slots ? options->slots : SEDGEPICK_MOST_SLOTS;
+    memset(mesh, 0, sizeof *mesh);
+    if (given > SEDGEPICK_MOST_GIVEN || count > SEDGEPICK_MOST_GIVEN || options->joint_count > (size_t)-1 / 2)
+        return refused_job(given, count, options, job);
+    capacity = within(capacity, given ? given : 1, SEDGEPICK_MOST_CAPACITY);
+    slots = within(slots, count ? count : 1, SEDGEPICK_MOST_SLOTS);
+    return attempt(points, given, triangles, count, options, capacity, slots, job, mesh);
+}
+
 void sedgepick_mesh_free(sedgepick_mesh *mesh) {
     free(mesh->points);
     free(mesh->quads);
@@ -102,6 +133,7 @@ void sedgepick_mesh_free(sedgepick_mesh *mesh) {
 const char *sedgepick_refusal_words(size_t refusal) {
     switch (refusal) {
     case SEDGEPICK_FINISHED: return "finished";
+    case SEDGEPICK_BAD_JOB: return "the job has no mesh, over 16 or none left, its allowance is 0 or over 1,000,000, or more is left than could be";
     case SEDGEPICK_OVER_LIMIT: return "over 4,096 triangles or points, or over a capacity limit";
     case SEDGEPICK_BAD_SIZE: return "the size is neither zero nor from 1/64 to 8";
     case SEDGEPICK_BAD_STOP: return "the stop rule is neither 0 nor 1";

@@ -1,4 +1,4 @@
-/* Tests of sedgepick_mesh.h: results, growth of what is lent, refusals, two threads. Prints what failed; exit status 1 then. */
+/* Tests of sedgepick_mesh.h: results, growth of what is lent, refusals, jobs, two threads. Prints what failed; exit status 1 then. */
 #include <sedgepick_mesh.h>
 #include <math.h>
 #include <pthread.h>
@@ -139,6 +139,7 @@ static void test_refusals(void) {
     CHECK(strcmp(sedgepick_refusal_words(SEDGEPICK_BAD_QUALITY), sedgepick_refusal_words(77)) != 0);
     CHECK(strcmp(sedgepick_refusal_words(SEDGEPICK_BAD_JOINT), sedgepick_refusal_words(77)) != 0);
     CHECK(strcmp(sedgepick_refusal_words(SEDGEPICK_OFF_GRID), sedgepick_refusal_words(77)) != 0);
+    CHECK(strcmp(sedgepick_refusal_words(SEDGEPICK_BAD_JOB), sedgepick_refusal_words(77)) != 0);
 }
 
 /* The refusal of a triangle with a set; 3 comes before 14, and 4 to 7 behind it. */
@@ -321,6 +322,61 @@ static void test_grid(void) {
     sedgepick_mesh_free(&mesh);
 }
 
+static int state_is(const size_t *job, size_t meshes, size_t allowance, size_t done, size_t left, size_t charged) {
+    const size_t state[SEDGEPICK_JOB] = {meshes, allowance, done, left, charged};
+    return !memcmp(job, state, sizeof state);
+}
+
+/* Four meshes: one that its share stops, one refused before its run, one refused during it, one that has what they left. */
+static void test_job(void) {
+    const size_t need = alone[0].answer[SEDGEPICK_ATTEMPTS], allowance = 4 * (need - 1) + 3;
+    size_t job[SEDGEPICK_JOB] = SEDGEPICK_JOB_START(4, allowance);
+    const uint32_t unknown[] = {0, 1, POINTS};
+    sedgepick_options options = sedgepick_standard_options(0.25, 0);
+    sedgepick_mesh mesh;
+    CHECK(need > 1 && alone[0].answer[SEDGEPICK_LIMIT] == 0);
+    CHECK(sedgepick_mesh_run_job(points[0], POINTS, triangles[0], TRIANGLES, &options, job, &mesh) == SEDGEPICK_FINISHED);
+    CHECK(mesh.answer[SEDGEPICK_LIMIT] == 1 && mesh.answer[SEDGEPICK_ATTEMPTS] == need);
+    CHECK(mesh.answer[SEDGEPICK_QUAD_COUNT] > 0 && mesh.answer[SEDGEPICK_QUAD_COUNT] <= alone[0].answer[SEDGEPICK_QUAD_COUNT]);
+    CHECK(!memcmp(mesh.quads, alone[0].quads, SEDGEPICK_QUADS(mesh.answer[SEDGEPICK_QUAD_COUNT]) * sizeof *mesh.quads));
+    CHECK(state_is(job, 4, allowance, 1, 0, need - 1));
+    sedgepick_mesh_free(&mesh);
+    CHECK(sedgepick_mesh_run_job(points[0], POINTS, unknown, 1, &options, job, &mesh) == SEDGEPICK_UNKNOWN_NODE);
+    CHECK(!mesh.points && !mesh.quads && state_is(job, 4, allowance, 2, need - 1, 0));
+    options.slots = TRIANGLES + 1;
+    CHECK(sedgepick_mesh_run_job(points[0], POINTS, triangles[0], TRIANGLES, &options, job, &mesh) == SEDGEPICK_NO_SLOTS);
+    CHECK(job[SEDGEPICK_JOB_CHARGED] > 1 && !mesh.points);
+    CHECK(state_is(job, 4, allowance, 3, 2 * (need - 1) - job[SEDGEPICK_JOB_CHARGED], job[SEDGEPICK_JOB_CHARGED]));
+    options.slots = 0;
+    CHECK(sedgepick_mesh_run_job(points[0], POINTS, triangles[0], TRIANGLES, &options, job, &mesh) == SEDGEPICK_FINISHED);
+    CHECK(same(&mesh, &alone[0]) && job[SEDGEPICK_JOB_CHARGED] == need && job[SEDGEPICK_JOB_DONE] == 4);
+    sedgepick_mesh_free(&mesh);
+    CHECK(sedgepick_mesh_run_job(points[0], POINTS, triangles[0], TRIANGLES, &options, job, &mesh) == SEDGEPICK_BAD_JOB);
+    CHECK(job[SEDGEPICK_JOB_CHARGED] == 0 && job[SEDGEPICK_JOB_DONE] == 4 && !mesh.points);
+}
+
+/* 16 comes before 1; without it the number goes to the mesh. */
+static void test_bad_jobs(void) {
+    const uint32_t good[] = {0, 1, 2};
+    const size_t most = SEDGEPICK_MOST_ALLOWANCE;
+    const size_t bad[][4] = {{0, 9, 0, 0}, {17, 9, 0, 0}, {2, 0, 0, 0}, {2, most + 1, 0, 0}, {2, 9, 2, 0}, {2, 9, 0, 1}, {2, 9, 1, 5}, {2, 9, 1, (size_t)-1}};
+    const size_t fine[][4] = {{1, 1, 0, 0}, {16, most, 15, 15 * (most / 16)}, {2, 9, 1, 4}};
+    sedgepick_options options = sedgepick_standard_options(1, 0);
+    sedgepick_mesh mesh;
+    for (int i = 0; i < 8; i++)
+        for (size_t given = 3; given < 5000; given += 4094) {
+            size_t job[SEDGEPICK_JOB] = {bad[i][0], bad[i][1], bad[i][2], bad[i][3], 77};
+            CHECK(sedgepick_mesh_run_job(square, given, good, 1, &options, job, &mesh) == SEDGEPICK_BAD_JOB);
+            CHECK(!memcmp(job, bad[i], sizeof bad[i]) && job[SEDGEPICK_JOB_CHARGED] == 0);
+        }
+    for (int i = 0; i < 3; i++) {
+        size_t job[SEDGEPICK_JOB] = {fine[i][0], fine[i][1], fine[i][2], fine[i][3], 77};
+        size_t entitled = fine[i][1] / fine[i][0] + fine[i][3];
+        CHECK(sedgepick_mesh_run_job(square, 4097, good, 1, &options, job, &mesh) == SEDGEPICK_OVER_LIMIT);
+        CHECK(state_is(job, fine[i][0], fine[i][1], fine[i][2] + 1, entitled, 0));
+    }
+}
+
 int main(void) {
     test_threads();
     test_growth();
@@ -332,6 +388,8 @@ int main(void) {
     test_joints();
     test_bad_joints();
     test_grid();
+    test_job();
+    test_bad_jobs();
     CHECK(!strcmp(sedgepick_version(), SEDGEPICK_VERSION));
     CHECK(strlen(sedgepick_commit()) > 0);
     printf("%s\n", failures ? "failed" : "ok");

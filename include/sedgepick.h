@@ -28,6 +28,8 @@ extern "C" {
 #define SEDGEPICK_MOST_CAPACITY 8192  /* points that the points slice has room for */
 #define SEDGEPICK_MOST_SLOTS 16384    /* slots */
 #define SEDGEPICK_MOST_JOINTS 256     /* joints, repeats counted */
+#define SEDGEPICK_MOST_MESHES 16      /* meshes of a job */
+#define SEDGEPICK_MOST_ALLOWANCE 1000000 /* attempts that a job may allow */
 
 /* Places in a quad's record. The leftover triangles are as many as the given ones and two for each added point, less what the quads replaced. */
 enum sedgepick_quad {
@@ -89,6 +91,8 @@ static inline sedgepick_quality sedgepick_standard_quality(void) {
 /* What is returned. The refusals are tested in this order, and 8 before 9; each is returned under its condition and under no other. */
 enum sedgepick_refusal {
     SEDGEPICK_FINISHED = 0,
+    /* the job's state, in sedgepick_job alone */
+    SEDGEPICK_BAD_JOB = 16,     /* no mesh, over 16 or none left of them; an allowance of 0 or over 1,000,000; more left than the meshes before could leave */
     /* the caller's numbers */
     SEDGEPICK_OVER_LIMIT = 1,   /* over 4,096 triangles or given points, or over a capacity limit */
     SEDGEPICK_BAD_SIZE = 2,     /* size neither zero (of either sign) nor from 1/64 to 8; a NaN is refused here */
@@ -117,7 +121,8 @@ enum sedgepick_answer {
     SEDGEPICK_REGION,              /* the triangles inside the quad do not fill it */
     SEDGEPICK_ODD_REGION,          /* they do, and without them some component would be odd */
     SEDGEPICK_MISMATCH_INSERTIONS, /* points added */
-    SEDGEPICK_LIMIT,               /* 1 when a limit on attempts or triangles ended the run; that on attempts is 200 for each given triangle and 10,000, and one more is counted */
+    SEDGEPICK_LIMIT,               /* 1 when a limit on attempts or triangles ended the run; that on attempts is 200 for each given triangle and 10,000, in a job not more than the
+                                      mesh is entitled to, and one more is counted */
     SEDGEPICK_QUAD_COUNT,          /* lengths of the four lists */
     SEDGEPICK_TRIANGLE_COUNT,
     SEDGEPICK_POINT_COUNT,
@@ -148,7 +153,7 @@ enum sedgepick_answer {
  * stop           stop rule: 0 or 1.
  * answer         14 numbers (SEDGEPICK_ANSWER), written only where 0 is returned; after a refusal all counts and lengths are zero, and the slice is as it was.
  *
- * Entries past a list's length are as they were. 1 to 7 and 13 to 15 touch no slice. 8 and 9 leave the points added and the quads written before them, clear both
+ * Entries past a list's length are as they were. 1 to 7 and 13 to 16 touch no slice but a job's numbers. 8 and 9 leave the points added and the quads written before them, clear both
  * work slices and touch nothing else; with more capacity, or more slots, the same call goes further.
  */
 size_t sedgepick_run_front(
@@ -188,6 +193,49 @@ size_t sedgepick_run_front_with(
     size_t given, size_t capacity, size_t count, size_t slots, size_t joint_count, double size, uint32_t stop,
     double least_jacobian, double largest_cosine, double side_low, double side_high, size_t pairs,
     uint32_t grid,
+    size_t *answer, size_t answer_len);
+
+/* Places in a job's numbers: the state that is handed from mesh to mesh, and what the last one was charged. */
+enum sedgepick_job_place {
+    SEDGEPICK_JOB_MESHES,    /* meshes of the job, 1 to 16 */
+    SEDGEPICK_JOB_ALLOWANCE, /* attempts that they may make together, 1 to 1,000,000 */
+    SEDGEPICK_JOB_DONE,      /* meshes before this one; 0 at the start */
+    SEDGEPICK_JOB_LEFT,      /* what the one before left; 0 at the start */
+    SEDGEPICK_JOB_CHARGED,   /* written: the attempts that this mesh was charged */
+    SEDGEPICK_JOB            /* how many they are */
+};
+
+/* A job's numbers before its first mesh, as an initializer: size_t job[SEDGEPICK_JOB] = SEDGEPICK_JOB_START(3, 60000); */
+#define SEDGEPICK_JOB_START(meshes, allowance) {(meshes), (allowance), 0, 0, 0}
+
+/* The next mesh of a job: up to 16 meshes under one attempt allowance, run in turn, each with slices of its own.
+ *
+ * A mesh is entitled to the whole part of allowance / meshes, and to what the one before it left. Its limit on attempts is that or the usual one
+ * (SEDGEPICK_LIMIT), whichever is smaller; otherwise the call is sedgepick_run_front_with. It leaves what it was entitled to less what it is charged: the
+ * attempts made, of which a counted one that a limit stopped is none; where 8 or 9 ended the run, the attempts begun; and nothing where it is refused before
+ * its run. So a refused mesh gets its number, and the job goes on.
+ *
+ * From a job's start, with each state handed on once, the attempts made never pass the allowance. Where a mesh run by itself is finished, its quads in the job
+ * are the first ones of that run. What a later mesh contains changes no earlier one.
+ *
+ * job  5 numbers (SEDGEPICK_JOB). The first four are the state, and are written as the state for the next mesh, the fifth as the attempts charged: also where the
+ *      mesh is refused. 16 is tested before all else, leaves the four as they were and writes 0 charged. Fewer than 5 numbers are refused as 4 before that. An
+ *      answer of fewer than 14 is 4 in its place, behind 16, 1, 2, 3 and 14. Where one of the two slices is too short nothing is written, whatever is
+ *      returned, and the job does not go on.
+ */
+size_t sedgepick_job(
+    double *points, size_t points_len,
+    const uint32_t *triangles, size_t triangles_len,
+    const uint32_t *joints, size_t joints_len,
+    uint32_t *quads, size_t quads_len,
+    uint32_t *triangles_out, size_t triangles_out_len,
+    uint32_t *components, size_t components_len,
+    uint32_t *work, size_t work_len,
+    double *float_work, size_t float_work_len,
+    size_t given, size_t capacity, size_t count, size_t slots, size_t joint_count, double size, uint32_t stop,
+    double least_jacobian, double largest_cosine, double side_low, double side_high, size_t pairs,
+    uint32_t grid,
+    size_t *job, size_t job_len,
     size_t *answer, size_t answer_len);
 
 /* Numbers of work for a mesh of so many triangles that is filed. */

@@ -1,5 +1,5 @@
-/* Sedgepick with memory of its own: a call that lends what the proved `sedgepick_run_front_with` needs and lends more where it runs out, the refusals in
- * words, and the version. These functions are not proved; what they hand back is what the proved one wrote. They keep nothing between calls and may be
+/* Sedgepick with memory of its own: a call that lends what the proved `sedgepick_run_front_with` needs and lends more where it runs out, one for the
+ * meshes of a job, the refusals in words, and the version. These functions are not proved; what they hand back is what the proved one wrote. They keep nothing between calls and may be
  * called from several threads at once.
  *
  * Link libsedgepick.a or libsedgepick.so, which tools/install writes: cc mesh.c $(pkg-config --cflags --libs sedgepick)
@@ -30,7 +30,7 @@ typedef struct sedgepick_options {
     double size;
     uint32_t stop;
     sedgepick_quality quality;
-    size_t capacity, slots; /* lent at first; 0: as much as the mesh lets expect */
+    size_t capacity, slots; /* lent at first; 0: as much as the mesh lets expect, in a job as the limits allow */
     const uint32_t *joints; /* two nodes each; may be null where there are none */
     size_t joint_count;
     uint32_t grid;          /* 0, or SEDGEPICK_GRID for the grid profile */
@@ -58,6 +58,14 @@ size_t sedgepick_mesh_run(
 size_t sedgepick_mesh_run_from(
     const double *points, size_t given, const uint32_t *triangles, size_t count, double size, uint32_t stop,
     size_t capacity, size_t slots, sedgepick_mesh *mesh);
+
+/* The next mesh of a job (sedgepick_job), whose numbers are in `job`. It is run once: to make the run again with more memory would take its attempts from
+ * the allowance twice. So where options->capacity or options->slots is 0 as much is lent as the limits allow, and with less than a run needs 8 and 9 come back
+ * and the mesh is charged what it began. A refused mesh leaves *mesh all zeros, and the job goes on; SEDGEPICK_NO_MEMORY leaves the job as it was.
+ */
+size_t sedgepick_mesh_run_job(
+    const double *points, size_t given, const uint32_t *triangles, size_t count, const sedgepick_options *options,
+    size_t job[SEDGEPICK_JOB], sedgepick_mesh *mesh);
 
 /* Gives the lists back and sets *mesh to zeros. */
 void sedgepick_mesh_free(sedgepick_mesh *mesh);

@@ -16,10 +16,10 @@ use crate::memory::{self, Export, Tails, QUADS, SLICES};
 const LARGE_EACH: u64 = 4096;
 
 /// One more than the largest number of a refusal.
-pub const REFUSALS: usize = 16;
+pub const REFUSALS: usize = 17;
 
 /// Refusals that come before that of a short slice.
-const BEFORE_SLICES: [u32; 4] = [1, 2, 3, 14];
+pub const BEFORE_SLICES: [u32; 4] = [1, 2, 3, 14];
 
 /// Triangles of large meshes.
 const LARGE: (usize, usize) = (600, 4000);

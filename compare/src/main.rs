@@ -1,94 +1,51 @@
 //! The port, linked from its static library, against the patched Rust on generated meshes: answers and every lent slice, bit for bit. `filing` compares the
-//! filing order with a plain one.
+//! filing order with a plain one, `jobs` runs jobs of several meshes.
 
 mod cases;
 mod filing;
+mod jobs;
 mod memory;
+mod threads;
 
 use std::collections::BTreeMap;
-use std::sync::atomic::{AtomicU64, Ordering};
-use std::sync::Mutex;
-use std::time::{Duration, Instant};
 
 use cases::{Case, Parting, Tally};
 use memory::Export;
 
-const USAGE: &str = "usage: compare SEED COUNT [JOBS]
+const USAGE: &str = "usage: compare SEED COUNT [THREADS]
   runs COUNT generated meshes of the seed under both stop rules, with document 01's quality set and half of them with another, half of them with joints, a third in the
-  grid profile, JOBS at a time (1 without it)
+  grid profile, THREADS at a time (1 without it)
+compare jobs SEED COUNT [THREADS]
+  runs COUNT jobs of 1 to 16 generated meshes, refused ones among them, and states that are refused
 compare filing SEED COUNT
   runs the filing order on COUNT generated pairs of meshes";
 
 /// Partings that are printed whole.
 const SHOWN: usize = 3;
 
-/// How often the progress is said.
-const PAUSE: Duration = Duration::from_secs(10);
-
-/// What all jobs found.
+/// What a thread found.
 #[derive(Default)]
 struct Found {
     kinds: BTreeMap<&'static str, Tally>,
     partings: Vec<(u64, Parting)>,
 }
 
-/// The next case to make, and what was found.
-struct Work {
-    seed: u64,
-    count: u64,
-    next: AtomicU64,
-    differ: AtomicU64,
-    found: Mutex<Found>,
-}
-
-impl Work {
-    /// Cases until none is left.
-    fn job(&self) {
-        let mut mine = Found::default();
-        loop {
-            let case = self.next.fetch_add(1, Ordering::Relaxed);
-            if case >= self.count {
-                break;
-            }
-            let (kind, input, r) = cases::mesh(self.seed, case);
-            let mut partings = Vec::new();
-            let tally = mine.kinds.entry(kind).or_default();
-            Case {
-                tally,
-                partings: &mut partings,
-                r,
-                export: Export::Plain,
-            }
-            .run(input);
-            self.differ
-                .fetch_add(partings.len() as u64, Ordering::Relaxed);
-            mine.partings
-                .extend(partings.into_iter().map(|p| (case, p)));
+impl Found {
+    /// The runs of a case, and how many of them differ.
+    fn case(&mut self, seed: u64, case: u64) -> usize {
+        let (kind, input, r) = cases::mesh(seed, case);
+        let mut partings = Vec::new();
+        Case {
+            tally: self.kinds.entry(kind).or_default(),
+            partings: &mut partings,
+            r,
+            export: Export::Plain,
         }
-        let mut all = self.found.lock().expect("no job failed");
-        for (kind, tally) in mine.kinds {
-            all.kinds.entry(kind).or_default().add(&tally);
-        }
-        all.partings.extend(mine.partings);
-    }
-
-    /// Says how far the jobs are until they are done.
-    fn watch(&self) {
-        let start = Instant::now();
-        let mut said = start;
-        while self.next.load(Ordering::Relaxed) < self.count {
-            std::thread::sleep(Duration::from_millis(100));
-            if said.elapsed() >= PAUSE {
-                said = Instant::now();
-                let done = self.next.load(Ordering::Relaxed).min(self.count);
-                let differ = self.differ.load(Ordering::Relaxed);
-                eprintln!(
-                    "{done} of {} meshes, {differ} runs differ, {} s",
-                    self.count,
-                    start.elapsed().as_secs()
-                );
-            }
-        }
+        .run(input);
+        let differ = partings.len();
+        self.partings
+            .extend(partings.into_iter().map(|p| (case, p)));
+        differ
     }
 }
 
@@ -141,24 +98,28 @@ fn show(partings: &mut [(u64, Parting)]) {
     }
 }
 
-/// What to run: meshes of a seed in so many jobs, or pairs of them.
+/// What to run, on so many threads.
 enum Asked {
     Runs(u64, u64, u64),
+    Jobs(u64, u64, u64),
     Filing(u64, u64),
 }
 
 fn asked() -> Option<Asked> {
     let mut words: Vec<String> = std::env::args().skip(1).collect();
-    let filing = words.first().is_some_and(|w| w == "filing");
-    words.drain(..filing as usize);
-    let numbers: Vec<u64> = words
-        .iter()
-        .map(|w| w.parse().ok())
-        .collect::<Option<_>>()?;
-    match (filing, &numbers[..]) {
-        (true, &[seed, count]) => Some(Asked::Filing(seed, count)),
-        (false, &[seed, count]) => Some(Asked::Runs(seed, count, 1)),
-        (false, &[seed, count, jobs]) => Some(Asked::Runs(seed, count, jobs.max(1))),
+    let named = words.first().is_some_and(|w| w == "filing" || w == "jobs");
+    let name = if named {
+        words.remove(0)
+    } else {
+        String::new()
+    };
+    let numbers: Option<Vec<u64>> = words.iter().map(|w| w.parse().ok()).collect();
+    match (&name[..], &numbers?[..]) {
+        ("filing", &[seed, count]) => Some(Asked::Filing(seed, count)),
+        ("jobs", &[seed, count]) => Some(Asked::Jobs(seed, count, 1)),
+        ("jobs", &[seed, count, threads]) => Some(Asked::Jobs(seed, count, threads)),
+        ("", &[seed, count]) => Some(Asked::Runs(seed, count, 1)),
+        ("", &[seed, count, threads]) => Some(Asked::Runs(seed, count, threads)),
         _ => None,
     }
 }
@@ -166,7 +127,8 @@ fn asked() -> Option<Asked> {
 fn main() {
     let good = match asked() {
         Some(Asked::Filing(seed, count)) => filing::run(seed, count),
-        Some(Asked::Runs(seed, count, jobs)) => runs(seed, count, jobs),
+        Some(Asked::Jobs(seed, count, threads)) => jobs::run(seed, count, threads),
+        Some(Asked::Runs(seed, count, threads)) => runs(seed, count, threads),
         None => {
             eprintln!("{USAGE}");
             std::process::exit(2);
@@ -178,23 +140,18 @@ fn main() {
 }
 
 /// Compares the meshes of the seed; true where no run differs.
-fn runs(seed: u64, count: u64, jobs: u64) -> bool {
-    let work = Work {
-        seed,
-        count,
-        next: AtomicU64::new(0),
-        differ: AtomicU64::new(0),
-        found: Mutex::default(),
-    };
-    std::thread::scope(|scope| {
-        for _ in 0..jobs {
-            scope.spawn(|| work.job());
+fn runs(seed: u64, count: u64, threads: u64) -> bool {
+    let mut all = Found::default();
+    for found in threads::run(count, threads, "meshes", |case, mine: &mut Found| {
+        mine.case(seed, case)
+    }) {
+        for (kind, tally) in found.kinds {
+            all.kinds.entry(kind).or_default().add(&tally);
         }
-        work.watch();
-    });
-    let mut found = work.found.into_inner().expect("no job failed");
-    let all = print(&found.kinds);
-    show(&mut found.partings);
-    println!("{} of {} runs agree", all.runs - all.differ, all.runs);
-    all.differ == 0
+        all.partings.extend(found.partings);
+    }
+    let sums = print(&all.kinds);
+    show(&mut all.partings);
+    println!("{} of {} runs agree", sums.runs - sums.differ, sums.runs);
+    sums.differ == 0
 }

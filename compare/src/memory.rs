@@ -120,11 +120,11 @@ pub fn slices(input: &Input, lent: Lent, tails: Tails, r: &mut Random) -> Slices
     }
 }
 
-fn floats(bits: &[u64]) -> Vec<f64> {
+pub fn floats(bits: &[u64]) -> Vec<f64> {
     bits.iter().map(|&b| f64::from_bits(b)).collect()
 }
 
-fn bits(floats: &[f64]) -> Vec<u64> {
+pub fn bits(floats: &[f64]) -> Vec<u64> {
     floats.iter().map(|x| x.to_bits()).collect()
 }
 

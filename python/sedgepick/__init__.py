@@ -22,6 +22,15 @@ Joints are edges that no run takes away, here the diagonal:
     >>> len(mesh.quads), len(mesh.triangles)
     (0, 2)
 
+Several meshes can share an allowance of attempts, and what one leaves goes to the next:
+
+    >>> job = sedgepick.Job(2, 7)
+    >>> job.run([(0, 0), (1, 0), (1, 1)], [(0, 1, 1)], size=1.0).refused.number
+    6
+    >>> slab = job.run([(0, 0), (1, 0), (1, 1), (0, 1)], [(0, 1, 2), (0, 2, 3)], size=1.0)
+    >>> len(slab.mesh.quads), slab.limit, slab.charged, slab.left
+    (1, 6, 1, 5)
+
 Threads: the library keeps nothing between calls and each call here lends memory of its own, so any number of threads may call `run_front` at once. The
 interpreter's lock is free while the library runs.
 
@@ -29,8 +38,9 @@ Lists come back as numpy arrays where numpy is there, otherwise as lists of tupl
 """
 from .front import (EVEN_COMPONENTS, EXHAUST, FAR, GRID_LINES, LARGEST_SIZE, LEAST_SIZE, MOST_CAPACITY, MOST_GIVEN, MOST_JOINTS, MOST_SLOTS, RANGES, REFUSALS, Counts, Mesh,
                     Quad, Quads, Quality, Refused, cosine_of, run_front)
+from .job import MOST_ALLOWANCE, MOST_MESHES, Job, Slab
 from .library import NoLibrary, VERSION, commit
 
 __version__ = VERSION
-__all__ = ['Counts', 'EVEN_COMPONENTS', 'EXHAUST', 'FAR', 'GRID_LINES', 'LARGEST_SIZE', 'LEAST_SIZE', 'MOST_CAPACITY', 'MOST_GIVEN', 'MOST_JOINTS', 'MOST_SLOTS', 'Mesh',
-           'NoLibrary', 'Quad', 'Quads', 'Quality', 'RANGES', 'REFUSALS', 'Refused', 'commit', 'cosine_of', 'run_front']
+__all__ = ['Counts', 'EVEN_COMPONENTS', 'EXHAUST', 'FAR', 'GRID_LINES', 'Job', 'LARGEST_SIZE', 'LEAST_SIZE', 'MOST_ALLOWANCE', 'MOST_CAPACITY', 'MOST_GIVEN', 'MOST_JOINTS',
+           'MOST_MESHES', 'MOST_SLOTS', 'Mesh', 'NoLibrary', 'Quad', 'Quads', 'Quality', 'RANGES', 'REFUSALS', 'Refused', 'Slab', 'commit', 'cosine_of', 'run_front']

@@ -2,20 +2,27 @@
 
   sedgepick-mesh slab.msh -o quads.msh
   sedgepick-mesh slab.msh -o quads.inp --report report.html
+  sedgepick-mesh --job 60000 ground.msh first.msh roof.msh -o quads --report job.txt
 
 Files are read and written by meshio: Gmsh, VTK, VTU, Abaqus .inp, STL, OFF, OBJ, MED, XDMF and others, by their suffix. The triangles are paired into
 quads by the proved library; those that find no partner stay triangles. More than 4,096 triangles are cut into parts, which are run on all cores.
 
 Lines, points and borders of surfaces in the file are kept: they are edges and nodes of what is written.
 
+With --job the files, at most 16, are one job: they share an allowance of attempts. Each is entitled to the whole part of the allowance divided by their
+number, and to what the one before it left. Each is run once: with --size auto at 0.65 of its mean edge; with as much memory as the library takes, so that none
+has to be run again with more; and not in parts: a file of more than 4,096 triangles or nodes is refused with 1. A refused file is charged the attempts it
+began, gets its number, and the job goes on. All files are read and checked before the first run.
+
 Exit status: 0 the mesh is written; 1 refused, nothing is written; 2 wrong options; 3 the mesh is written, and something that was a line, a point or a
-surface's border in the file is lost (with --allow-loss or --free), or a warning was given: standard error says what."""
+surface's border in the file is lost (with --allow-loss or --free), or a warning was given: standard error says what. Of a job: 1 where a file is refused or not written, the others
+are; otherwise 3 where one would have 3."""
 import argparse, math, os, sys, time
 from dataclasses import dataclass, field
 
 
 @dataclass
-class Job:
+class Work:
     """Everything that the report speaks of."""
     options: object
     surface: object = None
@@ -29,6 +36,9 @@ class Job:
     given_components: int = 0
     warnings: list = field(default_factory=list)
     seconds: float = 0.0
+    plan: object = None          # the parts before their run
+    slab: object = None          # in a job: what it was given, charged and left
+    fault: str = ''              # in a job: why nothing is written
 
 
 def size_of(word):
@@ -104,11 +114,16 @@ def check_folders(options):
 
 
 def arguments(words):
+    from . import slabs
+    from .job import MOST_ALLOWANCE
     from .library import VERSION
     parser = argparse.ArgumentParser(prog='sedgepick-mesh', description=__doc__.split('\n', 2)[2], formatter_class=argparse.RawDescriptionHelpFormatter)
     add = parser.add_argument
-    add('input', metavar='IN', help='a mesh file with triangles')
-    add('-o', '--output', metavar='OUT', required=True, help='the mesh file to write')
+    add('input', metavar='IN', nargs='+', help='a mesh file with triangles; with --job several')
+    add('-o', '--output', metavar='OUT', required=True, help='the mesh file to write; with --job a folder, where each file is written under its name, or a path in '
+        "which * stands for the name without its suffix: 'quads/*.vtu'")
+    add('--job', type=number_from(1, MOST_ALLOWANCE, int), metavar='ALLOWANCE', help='run the files as one job, in their order, under this many attempts, from 1 to '
+        '1,000,000')
     add('--size', type=size_of, default='auto', metavar='S', help='the length of an edge that the quads should have, in the units of the file; 0: each edge sets '
         'its own; auto, the default: the best of six runs, with 0.55 to 0.75 of the mean edge and 0 (docs/SIZE.md)')
     add('--grid', action='store_true', help='the grid profile: every node lies on a fixed grid, no node is added, and the summed area of the cells is that of the '
@@ -131,6 +146,11 @@ def arguments(words):
         parser.error('--side-low %g is above --side-high %g' % (options.side_low, options.side_high))
     if options.grid and options.size not in (None, 0.0):
         parser.error('--grid takes no --size but 0: in the profile each edge sets its own')
+    if options.job:
+        slabs.check(parser, options)
+    elif len(options.input) > 1:
+        parser.error('one mesh file is run at a time; --job ALLOWANCE runs several under one allowance of attempts')
+    options.files, options.input = options.input, options.input[0]
     options.quality = quality_of(options)
     return options
 
@@ -138,7 +158,8 @@ def arguments(words):
 def main(words=None):
     options = arguments(words)
     try:
-        return worked(options)
+        from . import slabs
+        return slabs.worked(options) if options.job else worked(options)
     except KeyboardInterrupt:
         return say('stopped')
     except BrokenPipeError:
@@ -162,54 +183,69 @@ def say(words):
 
 
 def worked(options):
-    from . import files, library, report
+    from . import files, library, parts, report
     library.load()
     files.writing_form(options.output, options.to)
     check_folders(options)
     begin = time.perf_counter()
-    job = Job(options, files.read(options.input, options.form))
-    meshed(job)
-    written(job)
-    job.seconds = time.perf_counter() - begin
-    for path in options.report:
-        with open(path, 'w', encoding='utf-8') as file:
-            file.write(report.page(job) if path.lower().endswith(('.html', '.htm')) else report.text(job))
-    for note in job.surface.notes:
-        print('sedgepick-mesh: note: %s' % note, file=sys.stderr)
-    for warning in job.warnings:
-        print('sedgepick-mesh: warning: %s' % warning, file=sys.stderr)
+    work = prepared(options)
+    finished(work, parts.ran(work.plan, options.stop, options.quality, progress, options.jobs))
+    written(work)
+    work.seconds = time.perf_counter() - begin
+    put(options.report, lambda page: report.page(work) if page else report.text(work))
+    told(work)
     if not options.quiet:
-        print(report.summary(job))
-    return 3 if job.warnings else 0
+        print(report.summary(work))
+    return 3 if work.warnings else 0
 
 
-def meshed(job):
-    """Checks, fits, runs, verifies."""
-    import numpy
-    from . import joints, losses, parts, quality, surfaces
-    surface = surfaces.checked(job.surface, job.options.flatten)
+def put(paths, content):
+    """Writes the reports."""
+    for path in paths:
+        with open(path, 'w', encoding='utf-8') as file:
+            file.write(content(path.lower().endswith(('.html', '.htm'))))
+
+
+def told(work, name=''):
+    """Notes and warnings on standard error."""
+    for kind, words in [('note', words) for words in work.surface.notes] + [('warning', words) for words in work.warnings]:
+        print('sedgepick-mesh: %s%s: %s' % (name, kind, words), file=sys.stderr)
+
+
+def prepared(options, whole=False):
+    """The file read, checked and cut into parts."""
+    from . import files, joints, losses, parts, quality, surfaces
+    work = Work(options, files.read(options.input, options.form))
+    surface = surfaces.checked(work.surface, options.flatten)
     cells = surface.triangles.cells
-    job.given_components = int(quality.components(cells).max()) + 1
-    hard = joints.Hard() if job.options.free else losses.hard(surface)
-    size = 0.0 if job.options.grid else job.options.size
-    job.result = parts.run(surface.points, cells, size, job.options.stop, hard, progress, job.options.jobs, job.options.quality, job.options.grid)
-    added, z = job.result.added, surface.points[cells[0, 0], 2]
-    job.points = numpy.concatenate([surface.points, numpy.column_stack([added, numpy.full(len(added), z)])])
-    *job.areas, job.cuts = losses.verify(surface, job.points, job.result)
-    job.exact = losses.exact_areas(surface, job.points, job.result) if job.options.grid else ()
-    job.losses = losses.losses(surface, job.result)
-    surface.notes += job.result.notes
-    check_losses(job)
-    warn(job)
+    work.given_components = int(quality.components(cells).max()) + 1
+    hard = joints.Hard() if options.free else losses.hard(surface)
+    work.plan = parts.planned(surface.points, cells, 0.0 if options.grid else options.size, hard, options.grid, whole)
+    return work
 
 
-def check_losses(job):
+def finished(work, result):
+    """Verifies what came of the run."""
+    import numpy
+    from . import losses
+    surface, work.result = work.surface, result
+    added, z = result.added, surface.points[surface.triangles.cells[0, 0], 2]
+    work.points = numpy.concatenate([surface.points, numpy.column_stack([added, numpy.full(len(added), z)])])
+    *work.areas, work.cuts = losses.verify(surface, work.points, work.result)
+    work.exact = losses.exact_areas(surface, work.points, work.result) if work.options.grid else ()
+    work.losses = losses.losses(surface, work.result)
+    surface.notes += work.result.notes
+    check_losses(work)
+    warn(work)
+
+
+def check_losses(work):
     """Something lost is an error unless it is allowed."""
     from .surfaces import Fault
-    lost = [loss for loss in job.losses if len(loss.lost)]
-    if lost and not (job.options.allow_loss or job.options.free):
+    lost = [loss for loss in work.losses if len(loss.lost)]
+    if lost and not (work.options.allow_loss or work.options.free):
         raise Fault('%s; the first is %s. Nothing is written; --allow-loss writes the mesh all the same'
-                    % ('; '.join(loss.words() for loss in lost), places(job.points, lost[0].lost[0])))
+                    % ('; '.join(loss.words() for loss in lost), places(work.points, lost[0].lost[0])))
 
 
 def progress(done, count):
@@ -217,15 +253,17 @@ def progress(done, count):
         print('\rpart %d of %d' % (done, count), end='\n' if done == count else '', file=sys.stderr, flush=True)
 
 
-def warn(job):
-    if job.options.stop == 1 and job.result.odd:
-        job.warnings.append('%d components have an odd number of triangles; under --stop 1 a quad that leaves one odd is refused, and few quads or none come '
-                            'out (%d here): use --stop 0, or split one triangle of each' % (job.result.odd, len(job.result.quads)))
-    for loss in job.losses:
+def warn(work):
+    if work.options.stop == 1 and work.result.odd:
+        work.warnings.append('%d components have an odd number of triangles; under --stop 1 a quad that leaves one odd is refused, and few quads or none come '
+                            'out (%d here): use --stop 0, or split one triangle of each' % (work.result.odd, len(work.result.quads)))
+    for loss in work.losses:
         if len(loss.lost):
-            job.warnings.append('%s; the first is %s' % (loss.words(), places(job.points, loss.lost[0])))
-    if any(counts.limit for counts in job.result.counts):
-        job.warnings.append('a limit on attempts ended the run early; a larger --size may help')
+            work.warnings.append('%s; the first is %s' % (loss.words(), places(work.points, loss.lost[0])))
+    if any(counts.limit for counts in work.result.counts):
+        shared = work.slab and work.slab.entitled == work.slab.limit == work.slab.charged
+        work.warnings.append('its limit of %d attempts in the job ended the run early; a larger allowance may help' % work.slab.limit if shared else
+                             'a limit on attempts ended the run early; a larger --size may help')
 
 
 def places(points, nodes):
@@ -234,24 +272,24 @@ def places(points, nodes):
     return ('from %s to %s' if len(ends) == 2 else 'at %s') % tuple(ends)
 
 
-def written(job):
+def written(work):
     """Numbers the nodes and writes the files."""
     import numpy
     from . import files, groups, quality
-    surface, result = job.surface, job.result
-    nodes = numpy.arange(len(job.points)) if job.options.keep_nodes else numpy.unique(numpy.concatenate([result.quads.ravel(), result.triangles.ravel()]))
-    job.number = numpy.full(len(job.points), -1)
-    job.number[nodes] = numpy.arange(len(nodes))
+    surface, result = work.surface, work.result
+    nodes = numpy.arange(len(work.points)) if work.options.keep_nodes else numpy.unique(numpy.concatenate([result.quads.ravel(), result.triangles.ravel()]))
+    work.number = numpy.full(len(work.points), -1)
+    work.number[nodes] = numpy.arange(len(nodes))
     edges = quality.edge_keys(result.quads, result.triangles)
     lines = groups.survivors(surface.lines, numpy.isin(quality.keys(surface.lines.cells), edges))
-    vertices = groups.survivors(surface.vertices, job.number[surface.vertices.cells[:, 0]] >= 0)
-    quads = groups.grouped(surface, job.points, result.quads, result.of_quads, result.parts)
-    left = groups.grouped(surface, job.points, result.triangles, result.of_triangles, result.parts)
-    blocks = [('quad', groups.renumbered(quads, job.number, surface.clockwise)), ('triangle', groups.renumbered(left, job.number, surface.clockwise)),
-              ('line', groups.renumbered(lines, job.number)), ('vertex', groups.renumbered(vertices, job.number))]
-    sets = {name.replace(' ', '_'): job.number[own][job.number[own] >= 0] for name, own in surface.hard.items() if name != 'point of the geometry'}
-    surface.notes += files.write(job.options.output, job.options.to, job.points[nodes], blocks, surface.field_data, sets)
-    if job.options.node_map:
-        with open(job.options.node_map, 'w') as file:
+    vertices = groups.survivors(surface.vertices, work.number[surface.vertices.cells[:, 0]] >= 0)
+    quads = groups.grouped(surface, work.points, result.quads, result.of_quads, result.parts)
+    left = groups.grouped(surface, work.points, result.triangles, result.of_triangles, result.parts)
+    blocks = [('quad', groups.renumbered(quads, work.number, surface.clockwise)), ('triangle', groups.renumbered(left, work.number, surface.clockwise)),
+              ('line', groups.renumbered(lines, work.number)), ('vertex', groups.renumbered(vertices, work.number))]
+    sets = {name.replace(' ', '_'): work.number[own][work.number[own] >= 0] for name, own in surface.hard.items() if name != 'point of the geometry'}
+    surface.notes += files.write(work.options.output, work.options.to, work.points[nodes], blocks, surface.field_data, sets)
+    if work.options.node_map:
+        with open(work.options.node_map, 'w') as file:
             file.write('node,given\n')
             file.writelines('%d,%s\n' % (i + 1, node + 1 if node < len(surface.points) else '') for i, node in enumerate(nodes))

@@ -1,4 +1,4 @@
-"""One call of `sedgepick_run_front_with`, with the memory that it needs."""
+"""One call of `sedgepick_run_front_with`, or of `sedgepick_job`, with the memory that it needs."""
 import ctypes, math
 from array import array
 from collections.abc import Sequence
@@ -26,7 +26,7 @@ RANGES = {'least_jacobian': (0.0, 1.0), 'largest_cosine': (0.5, 0.99), 'side_low
 
 QUAD_WORDS = 8         # of a quad's record
 
-NO_POINT, NO_SLOTS, BAD_QUALITY = 8, 9, 14
+NO_POINT, NO_SLOTS, BAD_QUALITY, BAD_JOB = 8, 9, 14, 16
 NO_NODE = 2 ** 32 - 1  # stands for every number that the library's words cannot hold; it names no point and no rule
 
 REFUSALS = {
@@ -42,6 +42,7 @@ REFUSALS = {
     13: 'a joint is one node twice or names a node that is not there, or there are over 256 joints',
     14: 'a quality number is out of its range or is a NaN, or the low side factor is above the high one',
     15: 'in the grid profile: an x or y is no multiple of 1/1024, or the size is not zero',
+    16: 'the job has no mesh, over 16 or none left, its allowance is 0 or over 1,000,000, or more is left than could be',
 }
 
 
@@ -175,7 +176,7 @@ def run_front(points, triangles, size, stop=EXHAUST, capacity=None, slots=None, 
     given, count = len(points), len(triangles)
     flat_points, flat_triangles = doubles(points), node_numbers(triangles, 3, 'triangles')
     call = Call(given, first(capacity, given + given // 4 + 32, given, MOST_CAPACITY), count, first(slots, 2 * count + 64, count, MOST_SLOTS),
-                float(size), stop if isinstance(stop, int) and 0 <= stop < NO_NODE else NO_NODE, quality, node_numbers(joints, 2, 'joints'), int(bool(grid)))
+                float(size), rule(stop), quality, node_numbers(joints, 2, 'joints'), int(bool(grid)))
     while True:
         refusal, mesh = attempt(run, flat_points, flat_triangles, call)
         if refusal == NO_POINT and call.capacity < MOST_CAPACITY:
@@ -188,13 +189,19 @@ def run_front(points, triangles, size, stop=EXHAUST, capacity=None, slots=None, 
             return mesh
 
 
+def rule(stop):
+    """The stop rule as the library reads it."""
+    return stop if isinstance(stop, int) and 0 <= stop < NO_NODE else NO_NODE
+
+
 def first(asked, usual, least, most):
     """What is lent at first: what was asked for, else the usual, not below what is given."""
     return max(least, min(usual if asked is None else asked, most), 1)
 
 
-def attempt(run, points, triangles, call):
-    """(refusal, mesh) of one run with as much memory as the call states. A call over the limits is refused before any memory is looked at."""
+def attempt(run, points, triangles, call, job=()):
+    """(refusal, mesh) of one run with as much memory as the call states; of a job, whose slice and its length are handed in. A call over the limits is refused
+    before any memory is looked at."""
     over = call.given > MOST_GIVEN or call.count > MOST_GIVEN
     capacity, slots = (1, 1) if over else (call.capacity, call.slots)
     xyz = (ctypes.c_double * max(3 * capacity, len(points), 1))()
@@ -206,7 +213,7 @@ def attempt(run, points, triangles, call):
     q = call.quality
     refusal = run(xyz, len(xyz), given, len(triangles), joints, len(call.joints), quads, len(quads), left, len(left), components, len(components),
                   work, len(work), float_work, len(float_work), call.given, call.capacity, call.count, call.slots, len(call.joints) // 2, call.size, call.stop,
-                  q.least_jacobian, q.largest_cosine, q.side_low, q.side_high, int(q.pairs), call.grid, answer, len(answer))
+                  q.least_jacobian, q.largest_cosine, q.side_low, q.side_high, int(q.pairs), call.grid, *job, answer, len(answer))
     if refusal:
         return refusal, None
     counts, lengths, trials = answer[:9], answer[9:13], answer[13]

@@ -17,6 +17,7 @@ LENGTH = ctypes.c_size_t
 REAL = ctypes.c_double
 RUN_FRONT = [DOUBLES, LENGTH, NUMBERS, LENGTH, NUMBERS, LENGTH, NUMBERS, LENGTH, NUMBERS, LENGTH, NUMBERS, LENGTH, NUMBERS, LENGTH, DOUBLES, LENGTH,
              LENGTH, LENGTH, LENGTH, LENGTH, LENGTH, REAL, ctypes.c_uint32, REAL, REAL, REAL, REAL, LENGTH, ctypes.c_uint32, SIZES, LENGTH]
+JOB = RUN_FRONT[:-2] + [SIZES, LENGTH] + RUN_FRONT[-2:]
 
 loaded = None
 loading = threading.Lock()
@@ -56,8 +57,8 @@ def opened():
                         % (SONAME, ', '.join(places()), VARIABLE))
     try:
         library = ctypes.CDLL(path)
-        library.sedgepick_run_front_with.argtypes = RUN_FRONT
-        library.sedgepick_run_front_with.restype = LENGTH
+        for function, takes in ((library.sedgepick_run_front_with, RUN_FRONT), (library.sedgepick_job, JOB)):
+            function.argtypes, function.restype = takes, LENGTH
     except (OSError, AttributeError) as error:
         raise NoLibrary('%s does not load: %s' % (path, error))
     return library

@@ -1,4 +1,5 @@
-"""Runs of a mesh in the file's units; one over the library's limits is cut into parts along edges, each run by itself, and merged.
+"""Runs of a mesh in the file's units; one over the library's limits is cut into parts along edges, each run by itself, and merged. A plan has the parts before
+their runs.
 
 An edge with one triangle survives a run: a flip needs two triangles, an added point lies inside a triangle, and a quad takes away only the edges inside
 it, which have two. Where two parts meet, each has the cut edges with one triangle, so both results keep them and fit together."""
@@ -15,6 +16,43 @@ from .surfaces import Fault
 
 FULL = 3600      # triangles of a part at most, where the cut is ours to make
 UNEVEN = 1.1     # METIS makes parts this much larger than the mean
+
+
+@dataclass
+class Fitted:
+    """A part as the library takes it."""
+    nodes: object
+    placed: object     # the fit
+    points: object
+    triangles: object
+    size: object
+    joints: object
+
+
+@dataclass
+class Plan:
+    """A mesh in parts, before its run."""
+    given: int         # nodes of the file
+    points: object     # with those that slits double
+    triangles: object
+    origin: object     # the node of the file that each stands for
+    part: object       # of each triangle
+    cutter: str
+    notes: list        # parts that are slit
+    hard: object
+    size: object
+    grid: bool
+
+    def count(self):
+        return int(self.part.max()) + 1
+
+    def fitted(self, which):
+        """A part in the library's range, in the grid profile on its grid; or a Fault."""
+        own = self.triangles[self.part == which]
+        nodes = numpy.unique(own)
+        placed = grid_fit(self.points[nodes], self.origin[nodes]) if self.grid else fit(self.points[nodes])
+        locked = numpy.searchsorted(nodes, joints.of_part(self.points, own, self.origin, self.hard)[:MOST_JOINTS])
+        return Fitted(nodes, placed, placed.there(self.points[nodes]), numpy.searchsorted(nodes, own), scaled(self.size, placed), locked)
 
 
 @dataclass
@@ -100,27 +138,28 @@ def halved(points, triangles, part):
     return numpy.unique(part, return_inverse=True)[1]
 
 
-def run(points, triangles, size, stop, hard=joints.Hard(), progress=None, jobs=None, quality=Quality(), grid=False):
-    """Meshes the triangles, what is hard locked or slit, in parts where there are too many, on all cores; each part is fitted into the library's range by
-    itself, in the grid profile onto its grid."""
-    given = len(points)
-    part, cutter = cut(points, triangles)
+def planned(points, triangles, size, hard=joints.Hard(), grid=False, whole=False):
+    """The parts of the mesh, slit along what is hard where that is too much to lock; whole: one part, however large."""
+    part, cutter = (numpy.zeros(len(triangles), dtype=int), 'one part') if whole else cut(points, triangles)
     slit, notes = joints.to_slit(points, triangles, part, hard)
-    origin, triangles = opened(triangles, slit)
-    points = points[origin]
-    if any(len(numpy.unique(triangles[part == which])) > MOST_GIVEN for which in range(int(part.max()) + 1)):
-        part = halved(points, triangles, part)
-    count = int(part.max()) + 1
+    origin, cells = opened(triangles, slit)
+    doubled = points[origin]
+    if not whole and any(len(numpy.unique(cells[part == which])) > MOST_GIVEN for which in range(int(part.max()) + 1)):
+        part = halved(doubled, cells, part)
+    return Plan(len(points), doubled, cells, origin, part, cutter, notes, hard, size, grid)
+
+
+def ran(plan, stop, quality=Quality(), progress=None, jobs=None, call=best_run):
+    """Runs the parts, each fitted into the library's range by itself, on all cores; `call` runs one as best_run does."""
+    count = plan.count()
     answers = [None] * count
 
     def one(which):
-        own = triangles[part == which]
-        nodes = numpy.unique(own)
-        placed = grid_fit(points[nodes], origin[nodes]) if grid else fit(points[nodes])
-        locked = numpy.searchsorted(nodes, joints.of_part(points, own, origin, hard)[:MOST_JOINTS])
-        taken, mesh = best_run(placed.there(points[nodes]), numpy.searchsorted(nodes, own), scaled(size, placed), stop, quality=quality, joints=locked, grid=grid)
-        return Answer(nodes, taken / placed.scale, mesh, placed.back(mesh.points[len(nodes):]),
-                      (placed.rounded(points[nodes]), placed.rounded_back(mesh.points[len(nodes):])), len(locked), placed.scale)
+        own = plan.fitted(which)
+        taken, mesh = call(own.points, own.triangles, own.size, stop, quality=quality, joints=own.joints, grid=plan.grid)
+        given, added = plan.points[own.nodes], mesh.points[len(own.nodes):]
+        return Answer(own.nodes, taken / own.placed.scale, mesh, own.placed.back(added), (own.placed.rounded(given), own.placed.rounded_back(added)),
+                      len(own.joints), own.placed.scale)
 
     with ThreadPoolExecutor(jobs or os.cpu_count() or 1) as pool:
         waiting = {pool.submit(one, which): which for which in range(count)}
@@ -128,12 +167,17 @@ def run(points, triangles, size, stop, hard=joints.Hard(), progress=None, jobs=N
             answers[waiting[future]] = future.result()
             if progress and count > 1:
                 progress(done, count)
-    result = merged(len(points), answers, part, cutter)
-    result.notes = notes
-    number = numpy.concatenate([origin, numpy.arange(given, given + len(result.added))])
+    result = merged(len(plan.points), answers, plan.part, plan.cutter)
+    result.notes = plan.notes
+    number = numpy.concatenate([plan.origin, numpy.arange(plan.given, plan.given + len(result.added))])
     result.quads, result.triangles = number[result.quads], number[result.triangles]
-    result.odd = sum(odd_components(triangles[part == which]) for which in range(count))
+    result.odd = sum(odd_components(plan.triangles[plan.part == which]) for which in range(count))
     return result
+
+
+def run(points, triangles, size, stop, hard=joints.Hard(), progress=None, jobs=None, quality=Quality(), grid=False):
+    """Meshes the triangles, what is hard locked or slit, in parts where there are too many."""
+    return ran(planned(points, triangles, size, hard, grid), stop, quality, progress, jobs)
 
 
 def odd_components(triangles):

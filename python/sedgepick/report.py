@@ -26,20 +26,33 @@ class Drawn:
     kept_points: object
 
 
-def summary(job):
+def summary(work):
     """A line on the cells, and one on the file's lines, points and borders where it has such."""
-    result, given = job.result, job.surface
+    result, given = work.result, work.surface
     left, quads = len(result.triangles), len(result.quads)
     cells = ('%s: %d triangles to %d quads and %d triangles, %s nodes added, %d nodes left out, %.1f s'
-             % (given.name, len(given.triangles.cells), quads, left, len(result.added), orphans(job), job.seconds))
-    return '\n'.join([cells] + ['; '.join(loss.words() for loss in job.losses)] * bool(job.losses))
+             % (given.name, len(given.triangles.cells), quads, left, len(result.added), orphans(work), work.seconds))
+    return '\n'.join([cells] + ['; '.join(loss.words() for loss in work.losses)] * bool(work.losses))
 
 
-def orphans(job):
+def slab_words(work):
+    """What a file of a job was given, was charged and left."""
+    return '%s: %s%s' % (work.surface.name, account(work.slab), '; nothing is written: ' + work.fault if work.fault else '')
+
+
+def account(slab):
+    return 'share %d, entitled to %d attempts, limit %d, charged %d, leaves %d' % (slab.share, slab.entitled, slab.limit, slab.charged, slab.left)
+
+
+def job_words(job):
+    return 'job: %d of %d attempts charged in %d files, each with a share of %d' % (job.charged, job.allowance, job.done, job.share)
+
+
+def orphans(work):
     """Nodes of the file's triangles, and added ones, that no cell has."""
-    used = numpy.unique(numpy.concatenate([job.result.quads.ravel(), job.result.triangles.ravel()]))
-    before = numpy.unique(job.surface.triangles.cells)
-    return len(before) + len(job.result.added) - len(used)
+    used = numpy.unique(numpy.concatenate([work.result.quads.ravel(), work.result.triangles.ravel()]))
+    before = numpy.unique(work.surface.triangles.cells)
+    return len(before) + len(work.result.added) - len(used)
 
 
 def middle(points, cell):
@@ -52,9 +65,9 @@ def worst(points, cells, values, letter, words):
     return [('%s%d' % (letter, i + 1), middle(points, cells[place]), words % values[place]) for i, place in enumerate(order)]
 
 
-def sections(job):
+def sections(work):
     """[(title, rows)] with rows of words, the first of each its name."""
-    result, points, surface = job.result, job.points, job.surface
+    result, points, surface = work.result, work.points, work.surface
     jacobians, least = quality.scaled_jacobians(points, result.quads), quality.least_angles(points, result.quads)
     angles = quality.least_angles(points, result.triangles)
     sizes = sorted({'%.6g' % size for size in result.sizes}, key=float)
@@ -66,41 +79,50 @@ def sections(job):
     place = lambda row: (row[0], row[2] + ' at (%.6g, %.6g)' % tuple(row[1]))
     counted = [('quads', len(result.quads)), ('triangles left over', '%d (%.1f %% of what the cells stand for, a quad counting as two)'
                                                % (len(result.triangles), 100 * len(result.triangles) / max(made, 1))),
-               ('nodes added', len(result.added)), ('nodes in no cell', '%d, %s' % (orphans(job), 'kept in the file' if job.options.keep_nodes else 'left out')),
-               ('components of triangles', '%d before, %d after%s' % (job.given_components, len(after), ', the largest of %d' % max(after) if len(after) else ''))]
-    lost = [(loss.what, loss.stand()) for loss in job.losses]
-    if lost and not job.options.free:
+               ('nodes added', len(result.added)), ('nodes in no cell', '%d, %s' % (orphans(work), 'kept in the file' if work.options.keep_nodes else 'left out')),
+               ('components of triangles', '%d before, %d after%s' % (work.given_components, len(after), ', the largest of %d' % max(after) if len(after) else ''))]
+    lost = [(loss.what, loss.stand()) for loss in work.losses]
+    if lost and not work.options.free:
         lost.append(('kept by', '%d locked edges%s' % (sum(result.joints), ', and slits' if result.notes else '')))
     replaced = ('triangles that a quad replaced', '%d to %d, %.2f on average' % (result.replaced.min(), result.replaced.max(), result.replaced.mean())) \
         if len(result.quads) else None
     return [
         ('Run', [('file', surface.name), ('given', '%d triangles, %d nodes' % (len(surface.triangles.cells), len(numpy.unique(surface.triangles.cells)))),
-                 ('profile', 'grid' if job.options.grid else 'none'),
-                 ('size', ('auto: ' if job.options.size is None and not job.options.grid else '') + (sizes[0] if len(sizes) == 1 else '%s to %s, part by part' % (sizes[0], sizes[-1]))),
-                 ('stop rule', job.options.stop), ('quality', quality_words(job.options.quality)),
-                 ('parts', '%d (%s), %d edges between them, all found' % (len(result.sizes), result.cutter, job.cuts)),
+                 ('profile', 'grid' if work.options.grid else 'none'),
+                 ('size', ('auto: ' if work.options.size is None and not work.options.grid else '') + (sizes[0] if len(sizes) == 1 else '%s to %s, part by part' % (sizes[0], sizes[-1]))),
+                 *([('in the job', account(work.slab))] if work.slab else []), ('stop rule', work.options.stop), ('quality', quality_words(work.options.quality)),
+                 ('parts', '%d (%s), %d edges between them, all found' % (len(result.sizes), result.cutter, work.cuts)),
                  ('coordinates rounded', '%d of given nodes on their way to the library, %d of added ones on their way back' % result.rounded),
-                 ('library', 'sedgepick %s' % library.VERSION), ('commit', library.commit()), ('meshio', meshio.__version__), ('seconds', '%.1f' % job.seconds)]),
+                 ('library', 'sedgepick %s' % library.VERSION), ('commit', library.commit()), ('meshio', meshio.__version__), ('seconds', '%.1f' % work.seconds)]),
         ('Result', counted),
         ('Attempts', [('attempts', total('attempts')), ('pairs of side nodes tried', total('trials'))] + [('refused: ' + words, total(name)) for name, words in REFUSED] + [('ended by a limit', total('limit'))]),
-        ('Area', [('before', '%.15g' % job.areas[0]), ('after', '%.15g' % job.areas[1]), ('boundary', 'every edge found')] + exact_words(job)),
+        ('Area', [('before', '%.15g' % work.areas[0]), ('after', '%.15g' % work.areas[1]), ('boundary', 'every edge found')] + exact_words(work)),
         ('Quads', [('least scaled Jacobian', '%.4f' % jacobians.min()), ('least angle', '%.2f degrees' % least.min()), replaced] + list(map(place, quad_rows))
          if len(result.quads) else [('none', '')]),
         ('Leftover triangles', [('under 10 degrees', int((angles < 10).sum()))] + list(map(place, triangle_rows)) if len(angles) else [('none', '')]),
-        ('Lines, points and borders of the file', lost + [(loss.what, at(points, nodes)) for loss in job.losses for nodes in loss.lost[:LISTED]]
+        ('Lines, points and borders of the file', lost + [(loss.what, at(points, nodes)) for loss in work.losses for nodes in loss.lost[:LISTED]]
          or [('none in the file', '')]),
-        ('Notes', [('warning', words) for words in job.warnings] + [('note', words) for words in surface.notes] or [('none', '')]),
+        ('Notes', [('warning', words) for words in work.warnings] + [('note', words) for words in surface.notes] or [('none', '')]),
     ], Drawn(points[:, :2], result.quads, result.triangles, jacobians, angles, [row[:2] for row in quad_rows[:5] + triangle_rows[:5]],
-             [points[nodes, :2] for loss in job.losses for nodes in loss.lost if numpy.ndim(nodes)],
-             [points[nodes, :2] for loss in job.losses for nodes in loss.lost if not numpy.ndim(nodes)], *kept(job))
+             [points[nodes, :2] for loss in work.losses for nodes in loss.lost if numpy.ndim(nodes)],
+             [points[nodes, :2] for loss in work.losses for nodes in loss.lost if not numpy.ndim(nodes)], *kept(work))
 
 
-def kept(job):
+def kept(work):
     """The places of the lines, borders and points of the file that stand."""
-    hard = losses.hard(job.surface)
-    edges = numpy.intersect1d(hard.edges, quality.edge_keys(job.result.quads, job.result.triangles))
-    nodes = numpy.intersect1d(job.surface.vertices.cells[:, 0], numpy.concatenate([job.result.quads.ravel(), job.result.triangles.ravel()]))
-    return job.points[slits.ends(edges), :2], job.points[nodes, :2]
+    hard = losses.hard(work.surface)
+    edges = numpy.intersect1d(hard.edges, quality.edge_keys(work.result.quads, work.result.triangles))
+    nodes = numpy.intersect1d(work.surface.vertices.cells[:, 0], numpy.concatenate([work.result.quads.ravel(), work.result.triangles.ravel()]))
+    return work.points[slits.ends(edges), :2], work.points[nodes, :2]
+
+
+def job_rows(works, job):
+    """[(title, rows)] of the job itself."""
+    outcome = lambda work: '; %d quads and %d triangles' % (len(work.result.quads), len(work.result.triangles)) if not work.fault else ''
+    return [('Job', [('allowance', '%d attempts' % job.allowance), ('files', '%d, each with a share of %d' % (job.meshes, job.share)),
+                     ('charged', '%d attempts' % job.charged), ('left', '%d attempts, behind the last file' % job.left),
+                     ('each file', 'run once, whole, with all memory that the library takes')]),
+            ('Files', [('%d of %d' % (place, len(works)), slab_words(work) + outcome(work)) for place, work in enumerate(works, 1)])]
 
 
 def quality_words(q):
@@ -108,11 +130,11 @@ def quality_words(q):
             % (q.least_jacobian, q.least_angle(), q.largest_cosine, q.side_low, q.side_high, q.pairs, ' (the standard set)' if q == Quality() else ''))
 
 
-def exact_words(job):
+def exact_words(work):
     """The claim of the grid profile."""
-    if not job.exact:
+    if not work.exact:
         return []
-    area, step = job.exact
+    area, step = work.exact
     return [('cells without sign, summed', '%d halves of squares of %.17g, before and after, exactly' % (area, step))]
 
 
@@ -121,11 +143,21 @@ def at(points, nodes):
     return 'lost: ' + ' to '.join(ends)
 
 
-def text(job):
-    lines = ['sedgepick-mesh: report', '']
-    for title, rows in sections(job)[0]:
-        lines += [title] + ['  %-46s %s' % (name, value) for name, value in rows] + ['']
-    return '\n'.join(line.rstrip() for line in lines)
+def text(work):
+    return lines('sedgepick-mesh: report', sections(work)[0])
+
+
+def job_text(works, job):
+    """The job, then each file that is written."""
+    return '\n'.join([lines('sedgepick-mesh: report of a job', job_rows(works, job))]
+                     + [lines('%s in the job' % work.surface.name, sections(work)[0]) for work in works if not work.fault])
+
+
+def lines(head, titled):
+    out = [head, '']
+    for title, rows in titled:
+        out += [title] + ['  %-46s %s' % (name, value) for name, value in rows] + ['']
+    return '\n'.join(line.rstrip() for line in out)
 
 
 STYLE = """body { font: 15px/1.45 'DejaVu Sans', Verdana, Arial, sans-serif; color: #1a1a1a; margin: 24px auto; max-width: 1240px; padding: 0 16px; }
@@ -136,12 +168,30 @@ td { border-top: 1px solid #dddddd; padding: 3px 8px 3px 0; vertical-align: top;
 @media print { body { max-width: none; } }"""
 
 
-def page(job):
+def tables(titled):
+    cells = lambda pairs: ''.join('<tr><td>%s</td><td>%s</td></tr>' % (escape(str(name)), escape(str(value))) for name, value in pairs)
+    return ''.join('<section><h2>%s</h2><table>%s</table></section>\n' % (escape(title), cells(pairs)) for title, pairs in titled)
+
+
+def body(work):
+    """A file's name, summary, warnings, picture and lists."""
+    rows, drawn = sections(work)
+    warnings = ''.join('<p class="warning">%s</p>' % escape(words) for words in work.warnings)
+    return ('<h1>%s</h1>\n<p>%s</p>%s\n%s<div class="lists">%s</div>'
+            % (escape(work.surface.name), escape(summary(work)), warnings, picture.draw(drawn), tables(rows)))
+
+
+def bodied(title, content):
     """A page that needs nothing beside itself."""
-    rows, drawn = sections(job)
-    tables = ''.join('<section><h2>%s</h2><table>%s</table></section>\n' % (
-        escape(title), ''.join('<tr><td>%s</td><td>%s</td></tr>' % (escape(str(name)), escape(str(value))) for name, value in pairs)) for title, pairs in rows)
-    warnings = ''.join('<p class="warning">%s</p>' % escape(words) for words in job.warnings)
-    return ('<!doctype html>\n<html lang="en"><head><meta charset="utf-8"><title>%s</title><style>%s</style></head>\n<body><h1>%s</h1>\n<p>%s</p>%s\n%s'
-            '<div class="lists">%s</div></body></html>\n' % (escape(job.surface.name), STYLE, escape(job.surface.name), escape(summary(job)), warnings,
-                                                          picture.draw(drawn), tables))
+    return ('<!doctype html>\n<html lang="en"><head><meta charset="utf-8"><title>%s</title><style>%s</style></head>\n<body>%s</body></html>\n'
+            % (escape(title), STYLE, content))
+
+
+def page(work):
+    return bodied(work.surface.name, body(work))
+
+
+def job_page(works, job):
+    faults = ''.join('<p class="warning">%s</p>' % escape(slab_words(work)) for work in works if work.fault)
+    return bodied('Job', '<h1>Job</h1>\n<p>%s</p>%s\n%s%s' % (escape(job_words(job)), faults, tables(job_rows(works, job)),
+                                                              ''.join(body(work) for work in works if not work.fault)))

@@ -12,6 +12,11 @@ def candidates(points, triangles):
     return [share * mean for share in SHARES if LEAST_SIZE <= share * mean <= LARGEST_SIZE] + [0.0]
 
 
+def single(points, triangles, size):
+    """The size of a mesh that is run once: the given one, else the first candidate."""
+    return candidates(points, triangles)[0] if size is None else size
+
+
 def worth(mesh):
     """Less is better: thin leftover triangles, then the leftover triangles among all that the cells stand for."""
     thin = int((quality.least_angles(mesh.points, mesh.triangles.astype(int)) < THIN).sum()) if len(mesh.triangles) else 0

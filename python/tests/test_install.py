@@ -41,6 +41,9 @@ class Install(unittest.TestCase):
         self.assertEqual(self.built('examples/c/mesh.c', *words), 'sedgepick %s\n0 1 2 3\n' % VERSION)
         self.assertEqual(self.built('c/test_mesh.c', *words), 'ok\n')
         self.assertIn('1 quads', self.built('examples/c/square.c', *words))
+        self.assertEqual(self.built('examples/c/job.c', *words).splitlines(), [
+            'slab 1: 1 quads, 0 triangles; charged 1, leaves 0', 'slab 2: refused with 6; charged 0, leaves 1',
+            'slab 3: 2 quads, 4 triangles, stopped by its limit; charged 2, leaves 0'])
 
     @unittest.skipUnless(shutil.which('pkg-config'), 'pkg-config is not installed')
     def test_pkg_config(self):

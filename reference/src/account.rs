@@ -35,11 +35,16 @@ pub fn components(tris: &[[usize; 3]]) -> Vec<usize> {
 
 /// Panics where a finished run does not keep its account.
 pub fn check(input: &Input, r: &FrontResult) {
+    check_within(input, r, input.usual_limit());
+}
+
+/// The same of a run with this limit on attempts.
+pub fn check_within(input: &Input, r: &FrontResult, limit: usize) {
     let c = &r.refusals;
     let refused = c.placement + c.invalid_quad + c.recovery + c.region + c.odd_region;
     assert_eq!(c.attempts, r.quads.len() + refused + c.limit, "attempts");
     assert!(c.limit <= 1 && c.front_empty <= 1, "limit, front_empty");
-    check_trials(input, r);
+    check_trials(input, r, limit);
     assert_eq!(
         r.points.len(),
         input.points.len() + c.mismatch_insertions,
@@ -101,7 +106,7 @@ fn check_quad(r: &FrontResult, set: &Quality, quad: &[usize; 4]) {
 
 /// An attempt that placed a quad, or was refused after its pairs, tried one at least and the set's
 /// number at most; any other tried none. The limit on attempts lets all but the last be made.
-fn check_trials(input: &Input, r: &FrontResult) {
+fn check_trials(input: &Input, r: &FrontResult, limit: usize) {
     let c = &r.refusals;
     let with_pairs = r.quads.len() + c.recovery + c.region + c.odd_region;
     assert!(with_pairs <= c.trials, "an attempt without its trial");
@@ -109,11 +114,11 @@ fn check_trials(input: &Input, r: &FrontResult) {
         c.trials <= input.quality.pairs * with_pairs,
         "more trials than pairs"
     );
+    assert!(c.attempts - c.limit <= limit, "attempts over the limit");
     if c.limit == 1 {
-        let given = input.triangles.len();
-        let by_triangles = r.triangles.len() > 4 * given + 100;
+        let by_triangles = r.triangles.len() > 4 * input.triangles.len() + 100;
         assert!(
-            by_triangles || c.attempts == 200 * given + 10_001,
+            by_triangles || c.attempts == limit + 1,
             "the limit's attempts"
         );
     }

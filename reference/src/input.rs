@@ -151,8 +151,18 @@ impl Input {
         }
     }
 
+    /// The limit on attempts of a run by itself.
+    pub fn usual_limit(&self) -> usize {
+        200 * self.triangles.len() + 10_000
+    }
+
     /// The patched run of an input that is not refused before it.
     pub fn run_unchecked(&self, lent: Lent) -> FrontResult {
+        self.run_within(lent, None)
+    }
+
+    /// The same with another limit on attempts than the usual one.
+    pub fn run_within(&self, lent: Lent, limit: Option<usize>) -> FrontResult {
         let stop = if self.even() {
             FrontStop::EvenComponents
         } else {
@@ -169,6 +179,7 @@ impl Input {
             self.quality,
             &self.pairs(),
             self.grid != 0,
+            limit,
         )
     }
 }

@@ -6,6 +6,7 @@ pub mod account;
 pub mod call;
 pub mod generators;
 pub mod input;
+pub mod job;
 mod mesh;
 pub mod patched;
 pub mod random;

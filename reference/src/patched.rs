@@ -213,6 +213,10 @@ pub struct CellMesh {
     round: usize,
     births: Vec<Birth>,
     // end patch
+    // patch: allowance
+    /// The limit on attempts where it is not the usual one.
+    most_attempts: Option<usize>,
+    // end patch
 }
 
 impl CellMesh {
@@ -256,6 +260,9 @@ impl CellMesh {
             // patch: birth
             round: 0,
             births: Vec::new(),
+            // end patch
+            // patch: allowance
+            most_attempts: None,
             // end patch
         };
         for id in 0..mesh.cells.len() {
@@ -1484,6 +1491,9 @@ pub fn run_front(
     // patch: grid
     grid: bool,
     // end patch
+    // patch: allowance
+    most_attempts: Option<usize>,
+    // end patch
 ) -> FrontResult {
     // end patch
     let mut refusals = Refusals::default();
@@ -1503,6 +1513,9 @@ pub fn run_front(
     // end patch
     // patch: grid
     mesh.grid = grid;
+    // end patch
+    // patch: allowance
+    mesh.most_attempts = most_attempts;
     // end patch
     let mut quads: Vec<[usize; 4]> = Vec::new();
     front_loop(&mut mesh, tris.len(), size, &mut quads, &mut refusals, stop);
@@ -1547,6 +1560,9 @@ fn front_loop(
     // on success, so it cannot stall the front permanently.
     let mut blocked: HashSet<(usize, usize)> = HashSet::new();
     let max_attempts = 200 * tris_len + 10_000;
+    // patch: allowance
+    let max_attempts = mesh.most_attempts.unwrap_or(max_attempts);
+    // end patch
     let max_triangles = 4 * tris_len + 100;
     let mut scratch = LoopScratch::default();
     let mut fragment = FragmentCheck::default();

@@ -11,7 +11,7 @@ fn without_its_patches_the_patched_module_is_the_published_one() {
     assert_eq!(marks::take_back(PATCHED, |_| true).unwrap(), PUBLISHED);
 }
 
-const NAMES: [&str; 10] = [
+const NAMES: [&str; 11] = [
     "cosine",
     "limit",
     "off-front",
@@ -22,10 +22,11 @@ const NAMES: [&str; 10] = [
     "grid",
     "birth",
     "trials",
+    "allowance",
 ];
 
 #[test]
-fn every_patch_is_one_of_ten() {
+fn every_patch_is_one_of_eleven() {
     for name in marks::names(PATCHED) {
         assert!(NAMES.contains(&name));
     }
@@ -168,6 +169,32 @@ fn trials_are_counted_in_one_place_and_change_nothing() {
     let lines: Vec<&str> = new.lines().map(str::trim).collect();
     let place = lines.iter().position(|l| *l == "refusals.trials += 1;");
     assert_eq!(lines[place.unwrap() - 1], owner);
+}
+
+#[test]
+fn the_limit_on_attempts_is_handed_in_and_nothing_else_changes() {
+    let new = marks::take_back(PATCHED, |_| false).unwrap();
+    let old = marks::take_back(PATCHED, |patch| patch == "allowance").unwrap();
+    assert!(fresh(&old, &new).is_empty());
+    let mut added = fresh(&new, &old);
+    added.retain(|line| !line.starts_with("//"));
+    assert_eq!(
+        added,
+        [
+            "most_attempts: Option<usize>,",
+            "most_attempts: None,",
+            "most_attempts: Option<usize>,",
+            "mesh.most_attempts = most_attempts;",
+            "let max_attempts = mesh.most_attempts.unwrap_or(max_attempts);",
+        ]
+    );
+    // Straight behind the usual one.
+    let lines: Vec<&str> = new.lines().map(str::trim).collect();
+    let place = lines.iter().position(|l| *l == added[4]);
+    assert_eq!(
+        lines[place.unwrap() - 1],
+        "let max_attempts = 200 * tris_len + 10_000;"
+    );
 }
 
 #[test]

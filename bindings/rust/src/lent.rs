@@ -1,5 +1,9 @@
 //! The call over memory that the caller lends: nothing is allocated, and every number is tested before any slice is touched.
 
+mod job;
+
+pub use job::{job, State, Step};
+
 use std::cmp::Ordering;
 
 use crate::{Counts, Quad, Refusal};

@@ -46,6 +46,22 @@
 //! # Ok::<(), Refusal>(())
 //! ```
 //!
+//! Several slabs can share one attempt allowance, see [`Job`]:
+//!
+//! ```
+//! use sedgepick::{Job, Options, Refusal};
+//!
+//! let points = [[0.0, 0.0, 0.0], [1.0, 0.0, 0.0], [1.0, 1.0, 0.0], [0.0, 1.0, 0.0]];
+//! let options = Options { size: 1.0, ..Options::default() };
+//! let mut job = Job::new(2, 7)?;
+//! let ground = job.run(&points, &[[0, 1, 1]], &options);
+//! assert_eq!((ground.mesh, ground.charged, ground.left), (Err(Refusal::RepeatedNode), 0, 3));
+//! let roof = job.run(&points, &[[0, 1, 2], [0, 2, 3]], &options);
+//! assert_eq!((roof.mesh?.quads.len(), roof.limit, roof.charged, roof.left), (1, 6, 1, 5));
+//! assert_eq!(job.charged(), 1);
+//! # Ok::<(), Refusal>(())
+//! ```
+//!
 //! Meshes have an order of their own, in which an archive can keep them:
 //!
 //! ```
@@ -61,12 +77,14 @@
 //! A mesh must lie within 8 of zero in x and y; z is carried and never read. Larger meshes are scaled by their user, with the size.
 
 mod filing;
+mod job;
 pub mod lent;
 mod quality;
 mod refusal;
 mod small;
 
 pub use filing::{filing_order, Filed};
+pub use job::{Job, Over, Slab, MOST_ALLOWANCE, MOST_MESHES};
 pub use quality::{Quality, QualityBuilder, COSINES, JACOBIANS, PAIRS, SIDES};
 pub use refusal::Refusal;
 pub use small::small_mesh;
@@ -208,7 +226,7 @@ pub fn run_front_with(
         stop: options.stop as u32,
     };
     loop {
-        match attempt(points, triangles, call, options) {
+        match attempt(points, triangles, call, options, lent::run_front_with) {
             Err(Refusal::NoPoint) if call.capacity < MOST_CAPACITY => {
                 call.capacity = (2 * call.capacity).min(MOST_CAPACITY)
             }
@@ -226,6 +244,7 @@ fn attempt(
     triangles: &[[u32; 3]],
     call: Call,
     options: &Options<'_>,
+    run: impl FnOnce(&[u32], Memory<'_>, Call, Further<'_>) -> Result<lent::Answer, Refusal>,
 ) -> Result<Mesh, Refusal> {
     // A call over the limits is refused before any memory is looked at.
     let over = call.given > MOST_GIVEN || call.count > MOST_GIVEN;
@@ -257,7 +276,7 @@ fn attempt(
         set: options.quality.set(),
         grid: options.grid as u32,
     };
-    let answer = lent::run_front_with(triangles.as_flattened(), memory, call, further)?;
+    let answer = run(triangles.as_flattened(), memory, call, further)?;
     components.truncate(answer.components);
     Ok(Mesh {
         points: xyz

@@ -6,6 +6,8 @@ use std::fmt;
 #[derive(Clone, Copy, Debug, PartialEq, Eq, Hash)]
 #[repr(u8)]
 pub enum Refusal {
+    /// Of a job: it has no mesh, over 16 or none left, its allowance is 0 or over 1,000,000, or more is left than the meshes before could leave.
+    BadJob = 16,
     /// Over 4,096 triangles or given points, or over a capacity limit (8,192 points, 16,384 slots). Of a small mesh: points other than 3, 4 or 5.
     OverLimit = 1,
     /// The size is neither zero nor from 1/64 to 8.
@@ -33,7 +35,8 @@ pub enum Refusal {
 }
 
 impl Refusal {
-    const ALL: [Refusal; 12] = [
+    const ALL: [Refusal; 13] = [
+        Refusal::BadJob,
         Refusal::OverLimit,
         Refusal::BadSize,
         Refusal::BadStop,
@@ -48,7 +51,7 @@ impl Refusal {
         Refusal::NoSlots,
     ];
 
-    /// The refusal's number: 1 to 9, and 13 to 15.
+    /// The refusal's number: 1 to 9, and 13 to 16.
     pub fn number(self) -> u32 {
         self as u32
     }
@@ -61,6 +64,7 @@ impl Refusal {
     /// The condition in words.
     pub fn words(self) -> &'static str {
         match self {
+            Refusal::BadJob => "the job has no mesh, over 16 or none left, its allowance is 0 or over 1,000,000, or more is left than the meshes before could leave",
             Refusal::OverLimit => "over 4,096 triangles or given points, or over a capacity limit",
             Refusal::BadSize => "the size is neither zero nor from 1/64 to 8",
             Refusal::BadStop => "the stop rule is neither 0 nor 1",

@@ -15,7 +15,7 @@ use Rattle.definition.specs.Plane.{Node, Edge}
 use Rattle.definition.specs.Cells.{Tri, live-tris, tris-of, triangles}
 use Rattle.definition.specs.Attempt.{Attempt, placed, refused, ended}
 use Rattle.definition.specs.Front.{State, Progress, stuck, progressed, limited, stopped, counting, after, make-attempt, past-limit, attempt, front-loop, Result, ran, start, result, outcome, run-front}
-use Rattle.definition.specs.Call.{Asked, Lent, Lengths, finished, given-points, given-tris, given-locks, settings, lengths, call}
+use Rattle.definition.specs.Call.{Asked, Lent, Lengths, finished, given-points, given-tris, given-locks, settings-within, lengths, call-within, call}
 use Rattle.laws.specs.Bools.{either, or-none, cond-ok}
 use Rattle.account.specs.Rearranged.{same-length}
 use Rattle.account.specs.Parity.{triangles-same}
@@ -149,15 +149,21 @@ result-limit s lk ts ps r e f =
 
 -- ---- a call
 
--- A call that the limit on attempts ended reports exactly 200 times the triangles plus 10,001 attempts; one that a limit ended with fewer has more leftover triangles than their limit.
-pub limit-exact : (a : Asked) (l : Lent) (c : Counts) (n : Lengths) → call a l .answer ≡ finished c n → c .limit ≡ 1
-    → (c .attempts ≡ 200 * a .count + 10001) ⊎ (4 * a .count + 100 < n .triangles)
-unfolding settings lengths max-attempts max-triangles
-limit-exact a l c n done e =
-    let b = behind a l c n done in
+-- A call that the limit on attempts ended reports exactly one more than that limit; one that a limit ended with fewer has more leftover triangles than theirs.
+pub limit-of-call : (most : ℕ) (a : Asked) (l : Lent) (c : Counts) (n : Lengths) → call-within most a l .answer ≡ finished c n → c .limit ≡ 1
+    → (c .attempts ≡ most + 1) ⊎ (4 * a .count + 100 < n .triangles)
+unfolding settings-within lengths max-triangles
+limit-of-call most a l c n done e =
+    let b = behind most a l c n done in
     let k = b .counts-are in
     let t = tris-number a l (b .passed) in
-    elim (result-limit (settings a) (given-locks a l) (given-tris a l) (given-points a l) (b .run) (b .ended) (sym (ap (λ z. z .limit) k) ∙ e)) [
+    elim (result-limit (settings-within most a) (given-locks a l) (given-tris a l) (given-points a l) (b .run) (b .ended) (sym (ap (λ z. z .limit) k) ∙ e)) [
       | inl h ↦ inl (omega (arith, ap (λ z. z .attempts) k, h, t))
       | inr h ↦ inr (omega (arith, h, ap (λ z. z .triangles) (b .lengths-are), t))
     ]
+
+-- Under the usual limit: 200 times the triangles plus 10,001.
+pub limit-exact : (a : Asked) (l : Lent) (c : Counts) (n : Lengths) → call a l .answer ≡ finished c n → c .limit ≡ 1
+    → (c .attempts ≡ 200 * a .count + 10001) ⊎ (4 * a .count + 100 < n .triangles)
+unfolding call max-attempts
+limit-exact a l c n done e = elim (limit-of-call (200 * a .count + 10000) a l c n done e) [ inl h ↦ inl (omega arith) | inr h ↦ inr h ]

@@ -14,7 +14,7 @@ use Rattle.definition.specs.Plane.{Node, Edge, edge-length, size-mismatch}
 use Rattle.definition.specs.Cells.{Tri, Quad, Mesh, tris-of, triangles}
 use Rattle.definition.specs.Attempt.{replaced, Stance, missing, sides-from, target-of, stance}
 use Rattle.definition.specs.Front.{State, counting, Result, ran, new-mesh, start, result, run-front}
-use Rattle.definition.specs.Call.{Asked, Lent, given-points, given-tris, given-locks, most-slots, settings, outside, grid-node, call}
+use Rattle.definition.specs.Call.{Asked, Lent, given-points, given-tris, given-locks, most-slots, settings-within, outside, grid-node, call-within}
 use Rattle.definition.specs.Account.{All, sum, tri-area, quad-area, tris-area, quads-area, Same-area, Keeps-area}
 use Rattle.exact.specs.Theorems.{grid-passed, nodes-placed, never-off-target}
 use Rattle.laws.specs.Bools.{never}
@@ -166,13 +166,13 @@ module _ (s : Settings) (unsized : Unsized s) (lk : Edge → Bool) (ts : List Tr
       subst (λ x. Same-area ps ts (x .points) (x .quads) (x .triangles)) (sym (w .2)) (state-area (w .0) (w .1 .1))
 
 -- The same of a finished call, as its slices stand at exit: for whatever the caller hands in, with any joints and any quality set, and whatever the lent memory holds.
-pub grid-call : (a : Asked) (l : Lent) → Keeps-area a l
-unfolding settings most-slots
-grid-call a l chosen c n e =
-    let b = behind a l c n e in
-    let exit = call a l .lent in
+pub grid-call : (most : ℕ) (a : Asked) (l : Lent) → Keeps-area most a l
+unfolding settings-within most-slots
+grid-call most a l chosen c n e =
+    let b = behind most a l c n e in
+    let exit = call-within most a l .lent in
     let fit = slots-limit a l (b .passed) in
     let on = on-grid-so a l (b .passed) chosen in
-    let w = area-kept (settings a) (record { no-size = on .0; room = omega arith }) (given-locks a l) (given-tris a l) (given-points a l) (λ p i. (given-within a l (b .passed) p i, all-in grid-node (given-points a l) (on .1) p i)) (b .run) (given-proper a l (b .passed))
+    let w = area-kept (settings-within most a) (record { no-size = on .0; room = omega arith }) (given-locks a l) (given-tris a l) (given-points a l) (λ p i. (given-within a l (b .passed) p i, all-in grid-node (given-points a l) (on .1) p i)) (b .run) (given-proper a l (b .passed))
     (omega (arith, points-number a l (b .passed), given-fit a l (b .passed))) (omega (arith, tris-number a l (b .passed), slots-fit a l (b .passed))) (b .ended) in
     rw (read-points (b .run) l exit n (b .lengths-are) (b .exit), read-quads (b .run) l exit n (b .lengths-are) (b .exit), read-triangles (b .run) l exit n (b .lengths-are) (b .exit)) w

@@ -11,7 +11,7 @@ use Rattle.definition.specs.Counts.{Counts, Want}
 use Rattle.definition.specs.Plane.{Node, Edge}
 use Rattle.definition.specs.Cells.{Tri, Quad, Mesh, triangles}
 use Rattle.definition.specs.Front.{State, counting, Result, ran, wanting, new-mesh, start, result, run-front}
-use Rattle.definition.specs.Call.{Asked, Lent, Lengths, finished, given-points, given-tris, given-locks, settings, lengths, call}
+use Rattle.definition.specs.Call.{Asked, Lent, Lengths, finished, given-points, given-tris, given-locks, settings-within, lengths, call-within}
 use Rattle.account.specs.Start.{Proper, start-valid}
 use Rattle.account.specs.Parity.{triangles-good}
 use Rattle.account.specs.Rooms.{Fits, fits-rule, start-fits}
@@ -135,11 +135,11 @@ left-fit s lk ts ps qs us w h a b e =
     (omega arith, omega arith)
 
 -- a finished call's lists fit the slices that the caller stated
-pub answer-fits : (a : Asked) (l : Lent) (c : Counts) (n : Lengths) → call a l .answer ≡ finished c n
-    → Lists-fit (settings a) (n .points) (n .quads) (n .triangles) (n .components)
-unfolding settings lengths
-answer-fits a l c n e =
-    let b = behind a l c n e in
-    let w = lists-fit (settings a) (given-locks a l) (given-tris a l) (given-points a l) (b .run) (given-proper a l (b .passed))
+pub answer-fits : (most : ℕ) (a : Asked) (l : Lent) (c : Counts) (n : Lengths) → call-within most a l .answer ≡ finished c n
+    → Lists-fit (settings-within most a) (n .points) (n .quads) (n .triangles) (n .components)
+unfolding settings-within lengths
+answer-fits most a l c n e =
+    let b = behind most a l c n e in
+    let w = lists-fit (settings-within most a) (given-locks a l) (given-tris a l) (given-points a l) (b .run) (given-proper a l (b .passed))
     (omega (arith, points-number a l (b .passed), given-fit a l (b .passed))) (omega (arith, tris-number a l (b .passed), slots-fit a l (b .passed))) (b .ended) in
-    subst (λ k. Lists-fit (settings a) (k .points) (k .quads) (k .triangles) (k .components)) (sym (b .lengths-are)) w
+    subst (λ k. Lists-fit (settings-within most a) (k .points) (k .quads) (k .triangles) (k .components)) (sym (b .lengths-are)) w

@@ -1,7 +1,7 @@
 -- A job of several meshes: from its start, with each state handed on once, the attempts made never pass the allowance; and where a mesh run by itself is finished, its quads in the job
 -- are the first ones of that run.
 use mathlib.Core.Path.{_≡_, refl, sym, ap, _∙_, subst}
-use mathlib.Core.Bool.{true, false, _||_}
+use mathlib.Core.Bool.{Bool, true, false, _||_}
 use mathlib.Core.Logic.{inl, inr}
 use mathlib.Core.List.{List, [], _∷_, _++_}
 use mathlib.Core.Option.{none}
@@ -11,27 +11,26 @@ use native.Mathlib.Nat.{div-add-mod'}
 use native.Mathlib.Omega.{arith}
 use lib.Dec.{leb, ltb, eqb}
 use lib.ListN.{length}
-use borrow.Author.Tests.{leb-false}
+use borrow.Author.Tests.{leb-false, le-ltb, lt-leb, ne-eqb}
 use Rattle.definition.specs.Lists.{find}
 use Rattle.definition.specs.Numbers.{Settings, max-attempts}
 use Rattle.definition.specs.Counts.{Counts}
 use Rattle.definition.specs.Front.{Progress, stuck, progressed, limited, stopped, ran, run-front}
-use Rattle.definition.specs.Call.{Asked, Lent, Lengths, finished, given-points, given-tris, given-locks, first-quads, conditions, settings, lengths, after-run, call}
-use Rattle.definition.specs.Job.{Job, most-meshes, most-allowance, share, entitled, bad-job, job-limit, limited-to, rounds-of, attempts-made, charge, handed-on, Job-returned, after-mesh, run-mesh, job}
+use Rattle.definition.specs.Call.{Asked, Lent, Lengths, finished, given-points, given-tris, given-locks, first-quads, conditions, settings-within, settings, lengths, after-run, call-within, call}
+use Rattle.definition.specs.Job.{Job, most-meshes, most-allowance, share, entitled, bad-job, job-limit, rounds-of, attempts-made, charge, handed-on, Job-returned, after-mesh, run-mesh, job}
 use Rattle.laws.specs.Bools.{which, or-none}
 use Rattle.laws.specs.Lists.{known}
 use Rattle.account.specs.Slices.{read-quads}
-use Rattle.account.specs.Kept.{usual-limit}
 use Rattle.account.specs.Finished.{behind}
 use Rattle.account.specs.Walks.{Ends}
 use Rattle.account.specs.Attempts.{Going, Limited, ending}
-use Rattle.account.specs.Smaller.{First, smaller-finished}
+use Rattle.account.specs.Smaller.{limited-to, First, smaller-finished}
 
 -- ---- one mesh
 
 -- the settings that the mesh runs with
 abbrev in-job : Job → Asked → Settings
-in-job j a = limited-to (job-limit j a) (settings a)
+in-job j a = settings-within (job-limit j a) a
 
 -- its rounds
 abbrev mesh-rounds : Job → Asked → Lent → Progress
@@ -54,7 +53,7 @@ unfolding job-limit
 limit-within j a = omega arith
 
 ran-mesh : (j : Job) (a : Asked) (l : Lent) → Handed j (after-mesh j l (mesh-rounds j a l))
-unfolding after-mesh limited-to rounds-of
+unfolding after-mesh settings-within rounds-of
 ran-mesh j a l =
     let w = charge-within (job-limit j a) (length (given-tris a l)) (mesh-rounds j a l) (ending (in-job j a) (given-locks a l) (given-tris a l) (given-points a l)) in
     record { within = omega (arith, limit-within j a, w); next-is = refl }
@@ -159,11 +158,10 @@ pub record Finished-first (j : Job) (a : Asked) (l : Lent) (n : Lengths) : Type 
 
 -- Where a mesh run by itself is finished, it is finished in the job, and its quads in the job are the first ones of that run.
 pub job-first : (j : Job) (a : Asked) (l : Lent) (c : Counts) (n : Lengths) → bad-job j ≡ false → call a l .answer ≡ finished c n → Finished-first j a l n
-unfolding after-run
+unfolding after-run call settings settings-within limited-to
 job-first j a l c n h done =
-    let b = behind a l c n done in
-    let ended = ap (λ s. run-front s (given-locks a l) (given-tris a l) (given-points a l)) (usual-limit a) ∙ b .ended in
-    let w = smaller-finished (settings a) (job-limit j a) (max-attempts (a .count)) (usual j a) (given-locks a l) (given-tris a l) (given-points a l) (b .run) ended in
+    let b = behind (max-attempts (a .count)) a l c n done in
+    let w = smaller-finished (settings a) (job-limit j a) (max-attempts (a .count)) (usual j a) (given-locks a l) (given-tris a l) (given-points a l) (b .run) (b .ended) in
     let r = w .0 in
     let is : job j a l .returned ≡ after-run l (ran r) = job-returns j a l h (b .passed) ∙ ap (after-run l) (w .1) in
     record {
@@ -175,3 +173,77 @@ job-first j a l c n h done =
           let theirs = read-quads (b .run) l (call a l .lent) n (b .lengths-are) (b .exit) in
           (w .2 .0, theirs ∙ w .2 .1 ∙ ap (λ qs. qs ++ w .2 .0) (sym mine));
     }
+
+-- A mesh of a job that 16 does not refuse returns what its call returns with the job's limit: so it keeps its account, its joints and its area as a call does.
+pub job-is-call : (j : Job) (a : Asked) (l : Lent) → bad-job j ≡ false → job j a l .returned ≡ call-within (job-limit j a) a l
+unfolding job run-mesh after-mesh rounds-of run-front call-within
+job-is-call j a l h = elim (known (find (λ c. c .1) (conditions a l))) [ inl f ↦ rw (h, f, run-mesh, call-within) refl | inr f ↦ rw (h, f .1, run-mesh, call-within) refl ]
+
+-- ---- the meshes of a job in their turn
+
+-- what each returns, with the state that the one before handed on
+unfoldable pub in-turn : Job → List (Asked × Lent) → List Job-returned
+in-turn j [] = []
+in-turn j (x ∷ xs) = let r = job j (x .0) (x .1) in r ∷ in-turn (r .next) xs
+
+-- the state that the last one hands on
+unfoldable pub state-after : Job → List (Asked × Lent) → Job
+state-after j [] = j
+state-after j (x ∷ xs) = state-after (job j (x .0) (x .1) .next) xs
+
+-- What a later mesh contains changes nothing of an earlier one: neither its answer, nor its slices, nor the attempts charged, nor the state handed on.
+pub earlier-same : (j : Job) (xs ys : List (Asked × Lent)) → in-turn j (xs ++ ys) ≡ in-turn j xs ++ in-turn (state-after j xs) ys
+unfolding in-turn state-after
+earlier-same j [] ys = refl
+earlier-same j (x ∷ xs) ys = let r = job j (x .0) (x .1) in ap (λ l. r ∷ l) (earlier-same (r .next) xs ys)
+
+-- a state that a job of so many meshes and such an allowance reaches with so many done
+pub record Reaches (meshes allowance done : ℕ) (j : Job) : Type 0 where
+  pub meshes-are : j .meshes ≡ meshes
+  pub allowance-is : j .allowance ≡ allowance
+  pub done-are : j .done ≡ done
+  pub left-within : j .left ≤ j .done * share j
+
+module _ (meshes allowance : ℕ) (some : 0 < meshes) (few : meshes ≤ most-meshes) (any : 0 < allowance) (fair : allowance ≤ most-allowance) where
+  good-state : (done : ℕ) (j : Job) → Reaches meshes allowance done j → done < meshes → bad-job j ≡ false
+  unfolding bad-job
+  good-state done j h l =
+      none-of
+      (none-of
+      (none-of
+      (none-of
+      (none-of (ne-eqb (j .meshes) 0 (λ z. omega (arith, h .meshes-are))) (le-ltb most-meshes (j .meshes) (omega (arith, h .meshes-are))))
+      (lt-leb (j .meshes) (j .done) (omega (arith, h .meshes-are, h .done-are))))
+      (ne-eqb (j .allowance) 0 (λ z. omega (arith, h .allowance-is))))
+      (le-ltb most-allowance (j .allowance) (omega (arith, h .allowance-is))))
+      (le-ltb (j .done * share j) (j .left) (h .left-within))
+    where
+      none-of : {a b : Bool} → a ≡ false → b ≡ false → (a || b) ≡ false
+      none-of {a} {b} e f = rw (e, f) refl
+
+  next-state : (done : ℕ) (j : Job) (a : Asked) (l : Lent) → Reaches meshes allowance done j → done < meshes → Reaches meshes allowance (suc done) (job j a l .next)
+  unfolding handed-on entitled share
+  next-state done j a l h less =
+      let w = job-handed j a l (good-state done j h less) in
+      let n = job j a l .charged in
+      let next : Reaches meshes allowance (suc done) (handed-on j n) = record {
+        meshes-are = h .meshes-are;
+        allowance-is = h .allowance-is;
+        done-are = ap suc (h .done-are);
+        left-within = omega (arith, h .left-within);
+      } in
+      subst (λ z. Reaches meshes allowance (suc done) z) (sym (w .next-is)) next
+
+  states-reached : (xs : List (Asked × Lent)) (done : ℕ) (j : Job) → Reaches meshes allowance done j → done + length xs ≤ meshes → Reaches meshes allowance (done + length xs) (state-after j xs)
+  unfolding state-after
+  states-reached [] done j h l = subst (λ k. Reaches meshes allowance k j) (omega arith) h
+  states-reached (x ∷ xs) done j h l =
+      subst (λ k. Reaches meshes allowance k (state-after (job j (x .0) (x .1) .next) xs)) (omega arith)
+      (states-reached xs (suc done) (job j (x .0) (x .1) .next) (next-state done j (x .0) (x .1) h (omega arith)) (omega arith))
+
+  -- No state that a job reaches is refused with 16 before its last mesh, whatever the meshes are.
+  pub never-refused : (xs : List (Asked × Lent)) → length xs < meshes → bad-job (state-after (job-start meshes allowance) xs) ≡ false
+  unfolding job-start
+  never-refused xs l =
+      let first : Reaches meshes allowance 0 (job-start meshes allowance) = record { meshes-are = refl; allowance-is = refl; done-are = refl; left-within = omega arith } in
+      good-state (0 + length xs) (state-after (job-start meshes allowance) xs) (states-reached xs 0 (job-start meshes allowance) first (omega arith)) (omega arith)

@@ -12,7 +12,7 @@ use Rattle.definition.specs.Plane.{Edge}
 use Rattle.definition.specs.Cells.{Quad, Live, Mesh, same-edge, has-edge-in, tri-edges, quad-edges, edges, is-locked}
 use Rattle.definition.specs.Region.{fills, may-go, spares-locked, if-filled}
 use Rattle.definition.specs.Front.{Outcome, ran, wanting, run-front}
-use Rattle.definition.specs.Call.{Asked, Lent, Returned, given-points, given-tris, given-joints, given-locks, most-joints, over-limit, bad-size, bad-stop, bad-quality, too-short, unknown-node, repeated-node, far-point, bad-grid, bad-joint, bad-joints, conditions, settings, written, untouched, after-run, call}
+use Rattle.definition.specs.Call.{Asked, Lent, Returned, given-points, given-tris, given-joints, given-locks, most-joints, over-limit, bad-size, bad-stop, bad-quality, too-short, unknown-node, repeated-node, far-point, bad-grid, bad-joint, bad-joints, conditions, settings-within, settings, written, untouched, after-run, call-within, call}
 use Rattle.definition.specs.Account.{Joints-survive, Keeps-joints}
 use Rattle.laws.specs.Bools.{same-bool, or-second}
 use Rattle.laws.specs.Lists.{In, in-any, any-in, all-from, in-flat-map, known}
@@ -29,14 +29,14 @@ unfolding given-locks has-edge-in
 listed-locked a l e i = in-any (same-edge e) (given-joints a l) (e, i, same-self e)
 
 -- every joint that the given triangles have is an edge of a quad or a leftover triangle that comes back
-pub joints-survive : (a : Asked) (l : Lent) → Keeps-joints a l
-joints-survive a l c n e =
-    let b = behind a l c n e in
-    let exit = call a l .lent in
+pub joints-survive : (most : ℕ) (a : Asked) (l : Lent) → Keeps-joints most a l
+joints-survive most a l c n e =
+    let b = behind most a l c n e in
+    let exit = call-within most a l .lent in
     let w : Joints-survive (given-joints a l) (given-tris a l) (b .run .quads) (b .run .triangles) = record {
       joints-found = all-from (given-joints a l) (λ f i k.
           let t = in-flat-map tri-edges f (given-tris a l) k in
-          locked-survives (settings a) (given-locks a l) (given-tris a l) (given-points a l) (b .run) (given-proper a l (b .passed)) (b .ended) f (listed-locked a l f i) (t .0) (t .1) (t .2));
+          locked-survives (settings-within most a) (given-locks a l) (given-tris a l) (given-points a l) (b .run) (given-proper a l (b .passed)) (b .ended) f (listed-locked a l f i) (t .0) (t .1) (t .2));
     } in
     rw (read-quads (b .run) l exit n (b .lengths-are) (b .exit), read-triangles (b .run) l exit n (b .lengths-are) (b .exit)) w
 
@@ -110,7 +110,7 @@ module _ (a : Asked) (l : Lent) (n : ℕ) (js : List ℕ) (h : Same-joints a l n
 
   -- they lead to the same run,
   pub same-run : run-front (settings a′) (given-locks a′ l′) (given-tris a′ l′) (given-points a′ l′) ≡ run-front (settings a) (given-locks a l) (given-tris a l) (given-points a l)
-  unfolding with-number with-joints settings given-points given-tris
+  unfolding with-number with-joints settings settings-within given-points given-tris
   same-run = ap (λ k. run-front (settings a) k (given-tris a l) (given-points a l)) locks-same
 
   after-same : (o : Outcome) → after-run l′ o ≡ returned-with js (after-run l o)
@@ -120,10 +120,10 @@ module _ (a : Asked) (l : Lent) (n : ℕ) (js : List ℕ) (h : Same-joints a l n
 
   -- and the calls return the same
   pub same-joints : call a′ l′ ≡ returned-with js (call a l)
-  unfolding call returned-with untouched
+  unfolding call call-within settings returned-with untouched
   same-joints = elim (known (find (λ c. c .1) (conditions a l))) [
-    | inl f ↦ rw (conditions-same, f, call) (ap (after-run l′) same-run ∙ after-same (run-front (settings a) (given-locks a l) (given-tris a l) (given-points a l)))
-    | inr f ↦ rw (conditions-same, f .1, call) refl
+    | inl f ↦ rw (conditions-same, f, call, call-within) (ap (after-run l′) same-run ∙ after-same (run-front (settings a) (given-locks a l) (given-tris a l) (given-points a l)))
+    | inr f ↦ rw (conditions-same, f .1, call, call-within) refl
   ]
 
 -- ---- without a joint

@@ -1,17 +1,16 @@
 -- Every finished call keeps its account, given what is asked of exact geometry.
-use mathlib.Core.Path.{_≡_, sym, ap, _∙_, subst, refl}
+use mathlib.Core.Path.{_≡_, sym, subst, refl}
 use mathlib.Core.Bool.{Bool, false}
 use mathlib.Core.List.{List}
 use Prim.Native.Nat.{ℕ}
 use lib.ListN.{length}
 use borrow.Author.Tests.{eq-eqb}
-use Rattle.definition.specs.Numbers.{Quality, max-attempts}
+use Rattle.definition.specs.Numbers.{Quality}
 use Rattle.definition.specs.Counts.{Counts}
 use Rattle.definition.specs.Plane.{Edge, Node}
 use Rattle.definition.specs.Cells.{Tri, Quad}
 use Rattle.definition.specs.Front.{Result, ran, run-front}
-use Rattle.definition.specs.Call.{Asked, Lent, given-points, given-tris, given-locks, settings, bad-size, call}
-use Rattle.definition.specs.Job.{limited-to}
+use Rattle.definition.specs.Call.{Asked, Lent, given-points, given-tris, given-locks, settings-within, bad-size, call-within}
 use Rattle.definition.specs.Account.{Account, Keeps-account}
 use Rattle.laws.specs.Lists.{In, all-from}
 use Rattle.exact.specs.Limits.{Limit}
@@ -27,19 +26,14 @@ use Rattle.account.specs.Geometry.{Geometry, All-within, points-within, 
 use Rattle.account.specs.Slices.{read-points, read-quads, read-triangles, read-sizes}
 use Rattle.account.specs.Finished.{behind, permitted, sized, given-proper, given-within}
 
--- the usual limit makes no other settings
-pub usual-limit : (a : Asked) → limited-to (max-attempts (a .count)) (settings a) ≡ settings a
-unfolding limited-to settings
-usual-limit a = refl
-
 module _ (geometry : Geometry) where
   -- the lists and counts of a run that ended, whatever its limit on attempts
   pub result-kept : (a : Asked) (most : ℕ) (lk : Edge → Bool) (ts : List Tri) (ps : List Node) (r : Result) → Limit (a .quality .largest-cosine) → bad-size a ≡ false → Proper ps ts → All-within ps
-      → run-front (limited-to most (settings a)) lk ts ps ≡ ran r
+      → run-front (settings-within most a) lk ts ps ≡ ran r
       → Account ps ts (a .stop) (a .quality) most (r .counts) (r .points) (r .quads) (r .triangles) (r .sizes)
-  unfolding limited-to settings all-replaced
+  unfolding settings-within all-replaced
   result-kept a most lk ts ps r limit size proper near e =
-      let s = limited-to most (settings a) in
+      let s = settings-within most a in
       let c = counted s ps lk ts r proper e in
       let k = leftover s lk ts ps r proper e in
       let rated = quads-rated s lk ts ps r proper e in
@@ -48,6 +42,7 @@ module _ (geometry : Geometry) where
       record {
         points-given = points-given ps (r .points) (r .counts) (length (r .quads)) c;
         points-added = points-added ps (r .points) (r .counts) (length (r .quads)) c;
+        points-within = all-from (r .points) within;
         attempts-sum = c .adds-up;
         trials-within = trials-within s lk ts ps r e;
         limit-exact = result-limit s lk ts ps r e;
@@ -64,16 +59,15 @@ module _ (geometry : Geometry) where
         even = λ stop. k .even (eq-eqb (a .stop) 1 stop);
       }
 
-  -- demand 3: every finished call keeps its account, as its slices stand at exit
-  pub keeps-account : (a : Asked) (l : Lent) → Keeps-account a l
-  keeps-account a l double c n e =
-      let b = behind a l c n e in
-      let exit = call a l .lent in
+  -- demand 3: every finished call keeps its account, as its slices stand at exit, whatever its limit on attempts
+  pub keeps-account : (most : ℕ) (a : Asked) (l : Lent) → Keeps-account most a l
+  keeps-account most a l double c n e =
+      let b = behind most a l c n e in
+      let exit = call-within most a l .lent in
       let limit = geometry .limit (a .quality) (permitted a l (b .passed)) double in
       moved (sym (b .counts-are)) (sym (read-points (b .run) l exit n (b .lengths-are) (b .exit))) (sym (read-quads (b .run) l exit n (b .lengths-are) (b .exit)))
       (sym (read-triangles (b .run) l exit n (b .lengths-are) (b .exit))) (sym (read-sizes (b .run) l exit n (b .lengths-are) (b .exit)))
-      (result-kept a (max-attempts (a .count)) (given-locks a l) (given-tris a l) (given-points a l) (b .run) limit (sized a l (b .passed)) (given-proper a l (b .passed)) (given-within a l (b .passed))
-      (ap (λ s. run-front s (given-locks a l) (given-tris a l) (given-points a l)) (usual-limit a) ∙ b .ended))
+      (result-kept a most (given-locks a l) (given-tris a l) (given-points a l) (b .run) limit (sized a l (b .passed)) (given-proper a l (b .passed)) (given-within a l (b .passed)) (b .ended))
     where
       moved : {given : List Node} {tris : List Tri} {stop most : ℕ} {y : Quality} {c d : Counts} {ps qs : List Node} {us vs : List Quad} {ks ls : List Tri} {ns os : List ℕ}
           → c ≡ d → ps ≡ qs → us ≡ vs → ks ≡ ls → ns ≡ os → Account given tris stop y most c ps us ks ns → Account given tris stop y most d qs vs ls os

@@ -5,7 +5,7 @@ use mathlib.Core.Logic.{inl, inr}
 use mathlib.Core.List.{[], _∷_}
 use Rattle.definition.specs.Lists.{find}
 use Rattle.definition.specs.Front.{run-front}
-use Rattle.definition.specs.Call.{Asked, Lent, given-points, given-tris, given-joints, given-locks, over-limit, bad-size, bad-stop, bad-quality, too-short, unknown-node, repeated-node, far-point, bad-grid, bad-joints, conditions, settings, after-run, call}
+use Rattle.definition.specs.Call.{Asked, Lent, given-points, given-tris, given-joints, given-locks, over-limit, bad-size, bad-stop, bad-quality, too-short, unknown-node, repeated-node, far-point, bad-grid, bad-joints, conditions, settings-within, settings, after-run, call-within, call}
 use Rattle.laws.specs.Lists.{known}
 
 -- the same call with the profile not chosen
@@ -19,12 +19,12 @@ same-conditions a l h i =
     (1, over-limit a) ∷ (2, bad-size a) ∷ (3, bad-stop a) ∷ (14, bad-quality a) ∷ (4, too-short a l) ∷ (5, unknown-node a l) ∷ (6, repeated-node a l) ∷ (7, far-point a l) ∷ (15, sym h i) ∷ (13, bad-joints a l) ∷ []
 
 same-run : (a : Asked) (l : Lent) → run-front (settings (off-profile a)) (given-locks (off-profile a) l) (given-tris (off-profile a) l) (given-points (off-profile a) l) ≡ run-front (settings a) (given-locks a l) (given-tris a l) (given-points a l)
-unfolding off-profile settings given-locks given-joints given-tris given-points
+unfolding off-profile settings settings-within given-locks given-joints given-tris given-points
 same-run a l = refl
 
 pub profile-changes-nothing : (a : Asked) (l : Lent) → bad-grid a l ≡ false → call (off-profile a) l ≡ call a l
-unfolding call
+unfolding call call-within settings
 profile-changes-nothing a l h = elim (known (find (λ c. c .1) (conditions a l))) [
-  | inl f ↦ rw (same-conditions a l h, f, call) (ap (after-run l) (same-run a l))
-  | inr f ↦ rw (same-conditions a l h, f .1, call) refl
+  | inl f ↦ rw (same-conditions a l h, f, call, call-within) (ap (after-run l) (same-run a l))
+  | inr f ↦ rw (same-conditions a l h, f .1, call, call-within) refl
 ]

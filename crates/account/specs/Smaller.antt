@@ -24,13 +24,16 @@ use Rattle.definition.specs.Loops.{front-loops}
 use Rattle.definition.specs.Trials.{Trial, trials}
 use Rattle.definition.specs.Attempt.{Tried, made, failed, orphaned, no-slot, recover-all, replace, try-region, try-recovered, open-sides, try-pair, Attempt, placed, refused, ended, try-pairs, try-trials, Stance, Sides, found, missing, overfull, sides-by, sides-from, side-nodes, try-both, try-first, target-of, stance, try-along, lies-left, try-seed, try-owner, try-quad}
 use Rattle.definition.specs.Front.{State, Progress, stuck, progressed, limited, stopped, counting, after, make-attempt, past-limit, attempt, try-edges, open-edges, try-loops, round, front-loop, Result, Outcome, ran, wanting, new-mesh, start, result, outcome, run-front}
-use Rattle.definition.specs.Job.{limited-to}
 use Rattle.laws.specs.Bools.{which, or-none, cond-ok}
 use Rattle.account.specs.Rounds.{rounds-end}
 use Rattle.account.specs.Walks.{Goes, Ends, Walk, edges-go, loops-go, rounds-end-so}
 use Rattle.account.specs.Walks
 
 -- ---- an attempt does not read the limit
+
+-- the settings with another limit on attempts
+unfoldable pub limited-to : ℕ → Settings → Settings
+limited-to k s = record { quality = s .quality; attempts = k; capacity = s .capacity; slots = s .slots; size = s .size; even = s .even }
 
 module _ (k : ℕ) (s : Settings) where
   abbrev s′ : Settings

@@ -10,7 +10,7 @@ use Rattle.definition.specs.Numbers.{Settings, max-attempts}
 use Rattle.definition.specs.Plane.{Node, Edge}
 use Rattle.definition.specs.Cells.{Tri}
 use Rattle.definition.specs.Front.{State, Progress, stuck, progressed, limited, stopped, start, front-loop, outcome}
-use Rattle.definition.specs.Call.{Asked, Lent, Returned, given-points, given-tris, given-locks, conditions, settings, untouched, after-run}
+use Rattle.definition.specs.Call.{Asked, Lent, Returned, given-points, given-tris, given-locks, conditions, settings-within, untouched, after-run}
 
 -- the job's meshes, its attempt allowance, the meshes done, and what the one before left. The first mesh has nothing done and nothing left.
 pub record Job : Type 0 where
@@ -49,11 +49,6 @@ bad-job j =
 unfoldable pub job-limit : Job → Asked → ℕ
 job-limit j a = min (entitled j) (max-attempts (a .count))
 
--- the settings with another limit on attempts
-unfoldable pub limited-to : ℕ → Settings → Settings
-limited-to k s =
-    record { quality = s .quality; attempts = k; capacity = s .capacity; slots = s .slots; size = s .size; even = s .even }
-
 -- the rounds of a run, of which `run-front` is the outcome: the state in which they end has the attempts
 unfoldable pub rounds-of : Settings → (Edge → Bool) → List Tri → List Node → Progress
 rounds-of s locked ts ps = front-loop (s .attempts + 2) s (length ts) (start s locked ts ps)
@@ -87,7 +82,7 @@ after-mesh j l p = record { returned = after-run l (outcome p); charged = charge
 unfoldable pub run-mesh : Job → Asked → Lent → Job-returned
 run-mesh j a l =
     elim (find (λ c. c .1) (conditions a l)) [
-      | none ↦ after-mesh j l (rounds-of (limited-to (job-limit j a) (settings a)) (given-locks a l) (given-tris a l) (given-points a l))
+      | none ↦ after-mesh j l (rounds-of (settings-within (job-limit j a) a) (given-locks a l) (given-tris a l) (given-points a l))
       | some c ↦ record { returned = untouched (c .0) l; charged = 0; next = handed-on j 0 }
     ]
 

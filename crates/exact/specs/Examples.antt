@@ -20,13 +20,13 @@ use Rattle.definition.specs.Attempt.{target-of, inward-normal}
 use Rattle.definition.specs.Loops.{loop-perimeter}
 use Rattle.definition.specs.Exact.{signed, units, arrow, exact-cross, exact-dot, squared-length, squared, next-side, last-side, Turns-left, Wide-enough}
 use Rattle.definition.specs.Account.{All}
-use Rattle.definition.specs.Call.{Asked, outside, most-coordinate, least-size, most-size, bad-size, settings}
+use Rattle.definition.specs.Call.{Asked, outside, most-coordinate, least-size, most-size, bad-size, settings-within, settings}
 use Rattle.exact.specs.Limits.{Limit}
 use Rattle.exact.specs.Theorems.{Within, passing, inside, grid-cross}
 
 -- to unfold `computed` is to unfold what the tests are made of
 unfoldable computed : Unit {0}
-unfolding add sub mul div neg lt le eq ofBits fits round size any _⊕_ _⊖_ _⊗_ _⊘_ _≺_ _≼_ abs finite lesser greater f64 0·0 0·25 0·3 0·4 0·5 0·6 0·7 0·8 0·9 0·90630778703665 1·0 2·0 2·5 3·0 8·0 1/64 1e-12 base insert-shares tiny-cross tiny-length isqrt scale sqrt flat point cross side parts segments-cross positive negative point-strictly-inside shoelace twice-area from-to dot norm over dist edge-length corner c0 c1 c2 c3 d0 d1 weights weighted scaled jacobian-at min-scaled-jacobian corner-of corners not-convex angle-of clamp cosine largest-cosine quad-metrics passes score along target-of inward-normal loop-perimeter signed units arrow exact-cross exact-dot squared-length squared next-side last-side outside most-coordinate least-size most-size bad-size settings
+unfolding add sub mul div neg lt le eq ofBits fits round size any _⊕_ _⊖_ _⊗_ _⊘_ _≺_ _≼_ abs finite lesser greater f64 0·0 0·25 0·3 0·4 0·5 0·6 0·7 0·8 0·9 0·90630778703665 1·0 2·0 2·5 3·0 8·0 1/64 1e-12 base insert-shares tiny-cross tiny-length isqrt scale sqrt flat point cross side parts segments-cross positive negative point-strictly-inside shoelace twice-area from-to dot norm over dist edge-length corner c0 c1 c2 c3 d0 d1 weights weighted scaled jacobian-at min-scaled-jacobian corner-of corners not-convex angle-of clamp cosine largest-cosine quad-metrics passes score along target-of inward-normal loop-perimeter signed units arrow exact-cross exact-dot squared-length squared next-side last-side outside most-coordinate least-size most-size bad-size settings settings-within
 computed = tt
 
 -- the double just above 8

@@ -1,3 +1,4 @@
 -- What the exported functions promise.
 pub mod Exported
 pub mod Filed
+pub mod Jobs

@@ -1,4 +1,5 @@
-// The mesher, the filing order and every small mesh for programs in C and Rust: numbers and slices only. include/sedgepick.h says the same to their authors.
+// The mesher, a mesh of a job, the filing order and every small mesh for programs in C and Rust: numbers and slices only. include/sedgepick.h says the same to their authors.
+mod jobs;
 mod orders;
 mod small_meshes;
 

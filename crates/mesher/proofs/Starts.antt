@@ -9,7 +9,8 @@ use Rattle.definition.specs.Lists.{filter, table, below}
 use Rattle.definition.specs.Numbers.{max-attempts}
 use Rattle.definition.specs.Cells.{Tri, tri, Mesh, new-live, nodes, tri-nodes, new-tri, live-tri, is-tri, live-tris}
 use Rattle.definition.specs.Front.{State, Progress, stuck, progressed, limited, stopped, in-slots, new-mesh, start, front-loop}
-use Rattle.definition.specs.Call.{Asked, Lent, tri-at, joint-at, first-points, given-points, given-tris, given-joints, given-locks, bad-size, settings}
+use Rattle.definition.specs.Job.{rounds-of}
+use Rattle.definition.specs.Call.{Asked, Lent, tri-at, joint-at, first-points, given-points, given-tris, given-joints, given-locks, bad-size, settings-within}
 use Rattle.laws.specs.Lists.{all-from}
 use Rattle.rules.specs.declared.Rules.{Rules}
 use Rattle.rules.specs.Settings.{settings-of}
@@ -23,7 +24,7 @@ use Rattle.refusals.specs.Refusals.{first-refusal, passed, none-holds}
 use Rattle.outcomes.specs.Ready.{Small}
 use Rattle.settling.specs.declared.standing.Run.{Run}
 use Rattle.rounds.specs.Loop.{CanRun, LeftRun, RunTo}
-use Rattle.mesher.specs.Parts.{bucket-of, rules-with, rules-of, progress-of, CanMesh}
+use Rattle.mesher.specs.Parts.{bucket-of, rules-of, progress-of, CanMesh}
 
 -- ---- the mesh of the given triangles
 
@@ -41,13 +42,13 @@ unfolding filter in-slots live-tri is-tri new-live
 live-new n [] = refl
 live-new n (t ∷ ts) = ap suc (live-new (suc n) ts)
 
-module _ (a : Asked) (l : Lent) (h : first-refusal a l ≡ 0) where
+module _ (most : ℕ) (a : Asked) (l : Lent) (h : first-refusal a l ≡ 0) where
   pub given-shapes : Given (l .triangles) (a .count) (a .given)
   given-shapes i k =
       let p = passed a l h in
       shape-at (l .triangles) (a .given) i (p .apart i k) (p .known (3 * i) (omega arith)) (p .known (3 * i + 1) (omega arith)) (p .known (3 * i + 2) (omega arith))
 
-  pub small : Small (rules-of a)
+  pub small : Small (rules-of most a)
   small = let p = passed a l h in record { slots = p .limited .slots; points = p .limited .capacity; pairs = p .pairs }
 
   -- what building it asks
@@ -64,7 +65,7 @@ module _ (a : Asked) (l : Lent) (h : first-refusal a l ≡ 0) where
 
   -- the mesh that the run starts from
   abbrev pub first-mesh : Mesh
-  first-mesh = start (settings-of (rules-of a)) (given-locks a l) (given-tris a l) (given-points a l) .mesh
+  first-mesh = start (settings-of (rules-of most a)) (given-locks a l) (given-tris a l) (given-points a l) .mesh
 
   pub is-new : IsNew first-mesh (l .triangles) (a .count) (a .given)
   unfolding start new-mesh given-tris
@@ -91,11 +92,11 @@ module _ (a : Asked) (l : Lent) (h : first-refusal a l ≡ 0) where
   side-is = refl
 
   -- what `front_loop` asks
-  pub can-run : (w' : List ℕ) (c : Counters) → Rep w' (a .slots) (a .capacity) first-mesh
+  pub can-run : most ≤ max-attempts (a .count) → (w' : List ℕ) (c : Counters) → Rep w' (a .slots) (a .capacity) first-mesh
       → (c .live ≡ a .count) × (c .used ≡ a .count) × (c .points ≡ a .given) × (c .attempts ≡ 0)
-      → CanRun w' (l .points) (l .float-work) (l .quads) (rules-of a) c (given-locks a l) (given-tris a l) (given-points a l)
+      → CanRun w' (l .points) (l .float-work) (l .quads) (rules-of most a) c (given-locks a l) (given-tris a l) (given-points a l)
   unfolding bad-size
-  can-run w' c r n =
+  can-run usual w' c r n =
       let p = passed a l h in
       let o = none-holds a l h in
       let live = n .0 in
@@ -114,7 +115,7 @@ module _ (a : Asked) (l : Lent) (h : first-refusal a l ≡ 0) where
         proper = given-proper a l o;
         is-given = sym (tris-number a l o);
         few = p .limited .count;
-        attempts = omega arith;
+        attempts = usual;
         points = omega (arith, points-number a l o, p .roomy .given);
         slots = omega (arith, tris-number a l o, p .roomy .count);
         fresh = attempts;
@@ -139,11 +140,11 @@ run-from w₁ w w' q q' f f' quads quads' rules (progressed st) r e h = (h .0, l
 run-from w₁ w w' q q' f f' quads quads' rules (limited st) r e h = (h .0, left-from w₁ w w' q q' f f' quads quads' rules st r e (h .1))
 run-from w₁ w w' q q' f f' quads quads' rules (stopped wt st) r e h = (h .0, left-from w₁ w w' q q' f f' quads quads' rules st r e (h .1))
 
-module _ (q : List Float) (ts js qs w : List ℕ) (f : List Float) (a : Asked) (l : Lent) (h : CanMesh q ts js qs w f a l) where
+module _ (q : List Float) (ts js qs w : List ℕ) (f : List Float) (most : ℕ) (a : Asked) (l : Lent) (h : CanMesh q ts js qs w f most a l) where
   pub mesh-build : CanBuild w (a .slots) (a .capacity) ts (a .count) (a .given)
   mesh-build =
       subst (λ (z : List ℕ). CanBuild z (a .slots) (a .capacity) ts (a .count) (a .given)) (h .work)
-      (subst (λ (z : List ℕ). CanBuild (l .work) (a .slots) (a .capacity) z (a .count) (a .given)) (h .triangles) (can-build a l (h .passed)))
+      (subst (λ (z : List ℕ). CanBuild (l .work) (a .slots) (a .capacity) z (a .count) (a .given)) (h .triangles) (can-build most a l (h .passed)))
 
   -- the table of the joints has room, and it locks what is listed
   pub mesh-few : a .joints ≤ 256
@@ -156,28 +157,29 @@ module _ (q : List Float) (ts js qs w : List ℕ) (f : List Float) (a : Asked) (
   unfolding given-locks given-joints
   mesh-locks j k = locks-of j _ (subst (λ (z : List ℕ). Kept j (table (joint-at z) (below (a .joints)))) (sym (h .joints)) k)
 
-  module _ (b : Float) (e : b ≡ bucket-of (a .size)) where
+  module _ (rules : Rules) (e : rules ≡ rules-of most a) where
     pub mesh-run : (w' : List ℕ) (c : Counters) → Builds w w' (a .slots) (a .capacity) ts (a .count) (a .given)
         → (c .live ≡ a .count) × (c .used ≡ a .count) × (c .points ≡ a .given) × (c .attempts ≡ 0)
-        → CanRun w' q f qs (rules-with a b) c (given-locks a l) (given-tris a l) (given-points a l)
+        → CanRun w' q f qs rules c (given-locks a l) (given-tris a l) (given-points a l)
     mesh-run w' c k n =
-        let can : (q f : List Float) (qs : List ℕ) (b : Float) → Type 0 =
-        λ q f qs b. CanRun w' q f qs (rules-with a b) c (given-locks a l) (given-tris a l) (given-points a l) in
-        let new : IsNew (first-mesh a l (h .passed)) ts (a .count) (a .given) =
-        subst (λ (z : List ℕ). IsNew (first-mesh a l (h .passed)) z (a .count) (a .given)) (h .triangles) (is-new a l (h .passed)) in
-        subst (λ (z : Float). can q f qs z) (sym e)
-        (subst (λ (z : List ℕ). can q f z (bucket-of (a .size))) (h .quads)
-        (subst (λ (z : List Float). can q z (l .quads) (bucket-of (a .size))) (h .floats)
-        (subst (λ (z : List Float). can z (l .float-work) (l .quads) (bucket-of (a .size))) (h .points)
-        (can-run a l (h .passed) w' c (k .rep (first-mesh a l (h .passed)) new) n))))
+        let can : (q f : List Float) (qs : List ℕ) (z : Rules) → Type 0 =
+        λ q f qs z. CanRun w' q f qs z c (given-locks a l) (given-tris a l) (given-points a l) in
+        let new : IsNew (first-mesh most a l (h .passed)) ts (a .count) (a .given) =
+        subst (λ (z : List ℕ). IsNew (first-mesh most a l (h .passed)) z (a .count) (a .given)) (h .triangles) (is-new most a l (h .passed)) in
+        subst (λ (z : Rules). can q f qs z) (sym e)
+        (subst (λ (z : List ℕ). can q f z (rules-of most a)) (h .quads)
+        (subst (λ (z : List Float). can q z (l .quads) (rules-of most a)) (h .floats)
+        (subst (λ (z : List Float). can z (l .float-work) (l .quads) (rules-of most a)) (h .points)
+        (can-run most a l (h .passed) (h .usual) w' c (k .rep (first-mesh most a l (h .passed)) new) n))))
 
     -- the memory in which the mesh was built is as long as that lent
     pub mesh-ran : (w₁ w' : List ℕ) (q' f' : List Float) (quads' : List ℕ) (r : Run) → length w₁ ≡ length w
-        → RunTo w₁ w' q q' f f' qs quads' (rules-with a b)
-        (front-loop (max-attempts (a .count) + 2) (settings-of (rules-with a b)) (length (given-tris a l))
-        (start (settings-of (rules-with a b)) (given-locks a l) (given-tris a l) (given-points a l))) r
-        → RunTo w w' q q' f f' qs quads' (rules-of a) (progress-of a l) r
-    unfolding settings settings-of
+        → RunTo w₁ w' q q' f f' qs quads' rules
+        (front-loop (rules .attempts + 2) (settings-of rules) (length (given-tris a l))
+        (start (settings-of rules) (given-locks a l) (given-tris a l) (given-points a l))) r
+        → RunTo w w' q q' f f' qs quads' (rules-of most a) (progress-of most a l) r
+    unfolding settings-within settings-of rounds-of
     mesh-ran w₁ w' q' f' quads' r d k =
-        subst (λ (z : Float). RunTo w w' q q' f f' qs quads' (rules-with a z) (progress-of a l) r) e
-        (run-from w₁ w w' q q' f f' qs quads' (rules-with a b) (progress-of a l) r d k)
+        run-from w₁ w w' q q' f f' qs quads' (rules-of most a) (progress-of most a l) r d
+        (subst (λ (z : Rules). RunTo w₁ w' q q' f f' qs quads' z
+        (front-loop (z .attempts + 2) (settings-of z) (length (given-tris a l)) (start (settings-of z) (given-locks a l) (given-tris a l) (given-points a l))) r) e k)

@@ -12,8 +12,9 @@ use Rattle.definition.specs.Numbers.{max-attempts, tiny-size}
 use Rattle.definition.specs.Counts.{no-counts}
 use Rattle.definition.specs.Cells.{Mesh, tri-nodes, triangles}
 use Rattle.definition.specs.Components.{component-sizes}
-use Rattle.definition.specs.Front.{Progress, front-loop, start}
-use Rattle.definition.specs.Call.{Asked, Lent, given-points, given-tris, given-locks, onto, settings}
+use Rattle.definition.specs.Front.{Progress, outcome}
+use Rattle.definition.specs.Call.{Asked, Lent, given-points, given-tris, given-locks, onto, settings-within, after-run}
+use Rattle.definition.specs.Job.{rounds-of, charge}
 use Rattle.rules.specs.declared.Rules.{Rules}
 use Rattle.rules.specs.Settings.{quality-in}
 use Rattle.cells.specs.Rep.{Rep}
@@ -23,7 +24,8 @@ use Rattle.settling.specs.declared.standing.Standing.{Standing}
 use Rattle.settling.specs.declared.standing.Finish.{Finish}
 use Rattle.settling.specs.declared.standing.Finish.the-variants as finishes
 use Rattle.settling.specs.Standings.{counts-of}
-use Rattle.mesher.specs.Promise.{counts-in, lengths-in}
+use Rattle.mesher.specs.Promise.{counts-in, lengths-in, Returns}
+use Rattle.mesher.specs.declared.run.Ran.{Ran}
 
 -- a refusal's answer: its number, and nothing counted or listed
 pub record Refused (k : ℕ) (r : Answer) : Type 0 where
@@ -41,24 +43,24 @@ finish-number finishes.NoSlots = 9
 abbrev pub bucket-of : Float → Float
 bucket-of size = cond (tiny-size ≺ size) size 1·0
 
--- what the run of a call goes by, with this side of a bucket
-abbrev pub rules-with : Asked → Float → Rules
-rules-with a bucket = record { slots = a .slots; capacity = a .capacity; given = a .count; bucket = bucket; size = a .size; even = eqb (a .stop) 1; attempts = max-attempts (a .count); quality = quality-in (a .quality) }
+-- what the run of a call goes by, with at most so many attempts and this side of a bucket
+abbrev pub rules-with : ℕ → Asked → Float → Rules
+rules-with most a bucket = record { slots = a .slots; capacity = a .capacity; given = a .count; bucket = bucket; size = a .size; even = eqb (a .stop) 1; attempts = most; quality = quality-in (a .quality) }
 
 -- and with its own
-abbrev pub rules-of : Asked → Rules
-rules-of a = rules-with a (bucket-of (a .size))
+abbrev pub rules-of : ℕ → Asked → Rules
+rules-of most a = rules-with most a (bucket-of (a .size))
 
 -- ---- the run
 
 -- how the run of a call ends
-abbrev pub progress-of : Asked → Lent → Progress
-progress-of a l =
-    front-loop (max-attempts (a .count) + 2) (settings a) (length (given-tris a l)) (start (settings a) (given-locks a l) (given-tris a l) (given-points a l))
+abbrev pub progress-of : ℕ → Asked → Lent → Progress
+progress-of most a l = rounds-of (settings-within most a) (given-locks a l) (given-tris a l) (given-points a l)
 
--- a call that is not refused before its run, and the slices that its run reads and writes
-pub record CanMesh (q : List Float) (ts js qs w : List ℕ) (f : List Float) (a : Asked) (l : Lent) : Type 0 where
+-- a call that is not refused before its run, with at most its usual attempts, and the slices that its run reads and writes
+pub record CanMesh (q : List Float) (ts js qs w : List ℕ) (f : List Float) (most : ℕ) (a : Asked) (l : Lent) : Type 0 where
   pub passed : first-refusal a l ≡ 0
+  pub usual : most ≤ max-attempts (a .count)
   pub points : l .points ≡ q
   pub triangles : l .triangles ≡ ts
   pub joints : l .joints ≡ js
@@ -85,3 +87,10 @@ pub record FinishTo (o o' k k' : List ℕ) (g : Standing) (m : Mesh) (r : Answer
   pub left : r .triangles ≡ length (triangles m)
   pub points : r .points ≡ g .counters .points
   pub sizes : r .components ≡ length (component-sizes (triangles m))
+
+-- ---- the run
+
+-- what came back is the definition's, with the attempts charged
+pub record RanTo (most : ℕ) (a : Asked) (l : Lent) (r : Ran) (exit : Lent) : Type 0 where
+  pub returns : Returns (after-run l (outcome (progress-of most a l))) (r .answer) exit
+  pub charged : r .charged ≡ charge (progress-of most a l)

@@ -1,5 +1,6 @@
 // The run of a call that is not refused before it.
 use crate::Answer;
+use crate::setup::rules_of;
 use cells::clear::clear_floats;
 use cells::clear::clear_words;
 use cells::counters::Counters;
@@ -9,32 +10,25 @@ use leftovers::write_triangles;
 use meshes::build::build;
 use refusals::Stated;
 use rounds::front::front_loop;
-use rules::Rules;
 use settling::standing::Finish;
 use settling::standing::Run;
 use settling::standing::Standing;
 ghost use mathlib.Core.Path.{_≡_};
 ghost use Rattle.definition.specs.Cells.{Mesh};
-ghost use Rattle.definition.specs.Call.{Lent, call};
+ghost use Prim.Native.Nat.{_≤_};
+ghost use Rattle.definition.specs.Numbers.{max-attempts};
+ghost use Rattle.definition.specs.Call.{Lent};
 ghost use Rattle.refusals.specs.Refusals.{first-refusal};
 ghost use Rattle.refusals.specs.Stated.{asked};
 ghost use Rattle.rounds.specs.Loop.{RunTo};
-ghost use Rattle.mesher.specs.Promise.{lent-of, Returns};
-ghost use Rattle.mesher.specs.Parts.{Refused, finish-number, bucket-of, rules-of, progress-of, CanMesh, CanFinish, FinishTo};
+ghost use Rattle.mesher.specs.Promise.{lent-of};
+ghost use Rattle.mesher.specs.Parts.{Refused, finish-number, rules-of, progress-of, CanMesh, CanFinish, FinishTo, RanTo};
 
-// A size up to this is none.
-const TINY_SIZE: f64 = 1e-9;
-
-// The bucket's side without a size.
-const NO_SIZE: f64 = 1.0;
-
-// The stop rule that keeps components even.
-const EVEN: u32 = 1;
-
-// The most attempts: so many for each given triangle, and so many more.
-const ATTEMPTS_EACH: usize = 200;
-
-const ATTEMPTS_MORE: usize = 10000;
+// What a call that ran answers, and the attempts charged to it: those made, and where want of lent memory ended it those begun.
+pub struct Ran {
+    pub answer: Answer,
+    pub charged: usize,
+}
 
 // A refusal: its number, nothing counted, no lists.
 pub fn refused(number: usize) -> Answer
@@ -70,17 +64,7 @@ fn number_of(finish: Finish) -> usize
     }
 }
 
-// The bucket's side: the size, or 1.0 without one.
-fn bucket_of(size: f64) -> f64
-    ensures { λ r. ⌜ r ≡ bucket-of size ⌝ }
-{
-    if size > TINY_SIZE {
-        return size;
-    }
-    NO_SIZE
-}
-
-// The mesh of the given triangles, the table of the joints, and the rounds over the front.
+// The mesh of the given triangles, the table of the joints, and the rounds over the front, with at most so many attempts.
 fn mesh(
     points: &mut [f64],
     triangles: &[u32],
@@ -89,9 +73,10 @@ fn mesh(
     work: &mut [u32],
     float_work: &mut [f64],
     stated: Stated,
+    attempts: usize,
 ) -> Run
-    requires { ⌜ ((l : Lent) × CanMesh (now points) (now triangles) (now joints) (now quads) (now work) (now «float_work») (asked stated) l) ⌝ }
-    ensures { λ r. ⌜ ((l : Lent) → CanMesh (now (points .entry)) (now (triangles .entry)) (now (joints .entry)) (now (quads .entry)) (now (work .entry)) (now («float_work» .entry)) (asked stated) l → RunTo (now (work .entry)) (now (work .exit)) (now (points .entry)) (now (points .exit)) (now («float_work» .entry)) (now («float_work» .exit)) (now (quads .entry)) (now (quads .exit)) (rules-of (asked stated)) (progress-of (asked stated) l) r) ⌝ }
+    requires { ⌜ ((l : Lent) × CanMesh (now points) (now triangles) (now joints) (now quads) (now work) (now «float_work») attempts (asked stated) l) ⌝ }
+    ensures { λ r. ⌜ ((l : Lent) → CanMesh (now (points .entry)) (now (triangles .entry)) (now (joints .entry)) (now (quads .entry)) (now (work .entry)) (now («float_work» .entry)) attempts (asked stated) l → RunTo (now (work .entry)) (now (work .exit)) (now (points .entry)) (now (points .exit)) (now («float_work» .entry)) (now («float_work» .exit)) (now (quads .entry)) (now (quads .exit)) (rules-of attempts (asked stated)) (progress-of attempts (asked stated) l) r) ⌝ }
 {
     build(
         work,
@@ -102,20 +87,7 @@ fn mesh(
         stated.given,
     );
     let counters = Counters::new(stated.count, stated.given);
-    let bucket = bucket_of(stated.size);
-    let even = stated.stop == EVEN;
-    let attempts = ATTEMPTS_EACH * stated.count + ATTEMPTS_MORE;
-    let quality = stated.quality;
-    let rules = Rules {
-        slots: stated.slots,
-        capacity: stated.capacity,
-        given: stated.count,
-        bucket,
-        size: stated.size,
-        even,
-        attempts,
-        quality,
-    };
+    let rules = rules_of(stated, attempts);
     let mut table = [0u32; 1537];
     put_joints(&mut table, joints, stated.joints);
     front_loop(work, points, float_work, quads, &table, rules, counters)
@@ -156,7 +128,7 @@ fn finish(
     }
 }
 
-// The run; at its end both work slices are cleared whole.
+// The run, with at most so many attempts; at its end both work slices are cleared whole.
 pub fn run(
     points: &mut [f64],
     triangles: &[u32],
@@ -167,24 +139,37 @@ pub fn run(
     work: &mut [u32],
     float_work: &mut [f64],
     stated: Stated,
-) -> Answer
+    attempts: usize,
+) -> Ran
     requires { ⌜ first-refusal (asked stated) (lent-of (now points) (now triangles) (now joints) (now quads) (now «triangles_out») (now components) (now work) (now «float_work»)) ≡ 0 ⌝ }
-    ensures { λ r. ⌜ Returns
-        (call
-        (asked stated)
-        (lent-of (now (points .entry)) (now (triangles .entry)) (now (joints .entry)) (now (quads .entry)) (now («triangles_out» .entry)) (now (components .entry)) (now (work .entry)) (now («float_work» .entry))))
+    requires { ⌜ attempts ≤ max-attempts (asked stated .count) ⌝ }
+    ensures { λ r. ⌜ RanTo attempts (asked stated)
+        (lent-of (now (points .entry)) (now (triangles .entry)) (now (joints .entry)) (now (quads .entry)) (now («triangles_out» .entry)) (now (components .entry)) (now (work .entry)) (now («float_work» .entry)))
         r
         (lent-of (now (points .exit)) (now (triangles .entry)) (now (joints .entry)) (now (quads .exit)) (now («triangles_out» .exit)) (now (components .exit)) (now (work .exit)) (now («float_work» .exit))) ⌝ }
 {
-    let end = mesh(points, triangles, joints, quads, work, float_work, stated);
+    let end = mesh(
+        points,
+        triangles,
+        joints,
+        quads,
+        work,
+        float_work,
+        stated,
+        attempts,
+    );
     let how = end.finish;
+    let g = end.standing;
     let number = number_of(how);
     if number != 0 {
         clear_words(work);
         clear_floats(float_work);
-        return refused(number);
+        let begun = g.counters;
+        return Ran {
+            answer: refused(number),
+            charged: begun.attempts,
+        };
     }
-    let g = end.standing;
     let answer = finish(
         triangles_out,
         components,
@@ -195,5 +180,6 @@ pub fn run(
     );
     clear_words(work);
     clear_floats(float_work);
-    answer
+    let charged = answer.attempts - answer.limit;
+    Ran { answer, charged }
 }

@@ -10,7 +10,7 @@ use native.Mathlib.Omega.{arith}
 use lib.Ieee.{Float}
 use Rattle.definition.specs.Lists.{find}
 use Rattle.definition.specs.Front.{run-front}
-use Rattle.definition.specs.Call.{Asked, Lent, over-limit, bad-size, bad-stop, bad-quality, too-short, unknown-node, repeated-node, far-point, bad-grid, bad-joints, conditions, given-points, given-tris, given-joints, given-locks, settings, untouched, after-run, call}
+use Rattle.definition.specs.Call.{Asked, Lent, over-limit, bad-size, bad-stop, bad-quality, too-short, unknown-node, repeated-node, far-point, bad-grid, bad-joints, conditions, given-points, given-tris, given-joints, given-locks, settings-within, untouched, after-run, call-within}
 use Rattle.refusals.specs.declared.Room.{Room}
 use Rattle.refusals.specs.Stated.{Lends}
 use Rattle.refusals.specs.Passed.{Passed, limited, ruled, few-pairs, roomy, known, apart, near, few-joints}
@@ -102,9 +102,9 @@ module _ (a : Asked) (l : Lent) (zero-is : first-refusal a l ≡ 0) where
   none-holds = rw (clear .c1, clear .c2, clear .c3, clear .c14, clear .c4, clear .c5, clear .c6, clear .c7, clear .c15, clear .c13)
 
   -- and the call runs
-  pub call-runs : call a l ≡ after-run l (run-front (settings a) (given-locks a l) (given-tris a l) (given-points a l))
-  unfolding call
-  call-runs = rw (none-holds, call)
+  pub call-runs : (most : ℕ) → call-within most a l ≡ after-run l (run-front (settings-within most a) (given-locks a l) (given-tris a l) (given-points a l))
+  unfolding call-within
+  call-runs most = rw (none-holds, call-within)
 
 some-found : (o : Option (ℕ × Bool)) → number-of o ≢ 0 → (c : ℕ × Bool) × (o ≡ some c)
 unfolding number-of
@@ -112,11 +112,11 @@ some-found none h = absurd (h refl)
 some-found (some c) h = (c, refl)
 
 -- a refusal is the whole answer, and nothing is touched
-pub call-refused : (a : Asked) (l : Lent) → first-refusal a l ≢ 0 → call a l ≡ untouched (first-refusal a l) l
-unfolding call first-refusal number-of
-call-refused a l h =
+pub call-refused : (a : Asked) (l : Lent) → first-refusal a l ≢ 0 → (most : ℕ) → call-within most a l ≡ untouched (first-refusal a l) l
+unfolding call-within first-refusal number-of
+call-refused a l h most =
     let f = some-found (find (λ c. c .1) (conditions a l)) h in
-    rw (f .1, call, first-refusal)
+    rw (f .1, call-within, first-refusal)
 
 -- the slices that are only measured count by their lengths alone
 pub by-length : (a : Asked) (l m : Lent) (ps : List Float) (ts js : List ℕ) (n : Room) → Lends l ps ts js n → Lends m ps ts js n → conditions a l ≡ conditions a m

@@ -10,7 +10,7 @@ use Rattle.definition.specs.Lists.{find}
 use Rattle.definition.specs.Numbers.{max-attempts}
 use Rattle.definition.specs.Counts.{Counts, tally, no-counts, Want, of-points, of-slots, number}
 use Rattle.definition.specs.Front.{Outcome, ran, wanting, run-front}
-use Rattle.definition.specs.Call.{Asked, Lent, Lengths, finished, refusal, given-points, given-tris, given-locks, settings, conditions, untouched, after-run, call}
+use Rattle.definition.specs.Call.{Asked, Lent, Lengths, finished, refusal, given-points, given-tris, given-locks, settings-within, conditions, untouched, after-run, call-within, call}
 use Rattle.definition.specs.Call as call
 use Rattle.laws.specs.Lists.{In, find-in, known}
 use Rattle.laws.specs.Cells.{points-length}
@@ -52,17 +52,21 @@ module _ (a : Asked) (l : Lent) (k : ℕ) where
   of-outcome (ran r) e = absurd (let z : _≡_ {A = ℕ} 0 1 = cc in omega arith)
   of-outcome (wanting w ps qs) e = let f : number w ≡ k = cc in let b = of-want w in (omega arith, omega arith)
 
-  -- a call's refusal has one of the numbers 1 to 16
-  pub refused-number : call a l .answer ≡ refusal k → (0 < k) × (k ≤ 16)
-  unfolding call untouched
-  refused-number h = elim (known (find (λ c. c .1) (conditions a l))) [
-    | inl f ↦ of-outcome (run-front (settings a) (given-locks a l) (given-tris a l) (given-points a l)) (rw (f, call) at h)
+  within : (most : ℕ) → call-within most a l .answer ≡ refusal k → (0 < k) × (k ≤ 16)
+  unfolding call-within untouched
+  within most h = elim (known (find (λ c. c .1) (conditions a l))) [
+    | inl f ↦ of-outcome (run-front (settings-within most a) (given-locks a l) (given-tris a l) (given-points a l)) (rw (f, call-within) at h)
     | inr f ↦
-        let g : refusal (f .0 .0) ≡ refusal k = rw (f .1, call) at h in
+        let g : refusal (f .0 .0) ≡ refusal k = rw (f .1, call-within) at h in
         let e : f .0 .0 ≡ k = cc in
         let b = of-condition (f .0) (find-in (λ c. c .1) (f .0) (conditions a l) (f .1) .0) in
         (omega arith, omega arith)
   ]
+
+  -- a call's refusal has one of the numbers 1 to 16
+  pub refused-number : call a l .answer ≡ refusal k → (0 < k) × (k ≤ 16)
+  unfolding call
+  refused-number h = within (max-attempts (a .count)) h
 
 -- ---- finished runs
 
@@ -79,18 +83,19 @@ record Small (given : ℕ) (c : Counts) (n : Lengths) : Type 0 where
 
 module _ (a : Asked) (l : Lent) (double : fits binary64 (a .quality .largest-cosine) ≡ true) (few : a .count ≤ 64) (capacity : a .capacity ≡ 96) (slots : a .slots ≡ 160) where
   small : (c : Counts) (n : Lengths) → call a l .answer ≡ finished c n → Small (a .given) c n
-  unfolding settings max-attempts
+  unfolding call settings-within max-attempts
   small c n e =
-      let b = behind a l c n e in
+      let most = max-attempts (a .count) in
+      let b = behind most a l c n e in
       let t = tris-number a l (b .passed) in
       let p = points-number a l (b .passed) in
-      let k = keeps-account a l double c n e in
-      let f = answer-fits a l c n e in
+      let k = keeps-account most a l double c n e in
+      let f = answer-fits most a l c n e in
       let exit = call a l .lent in
       record {
-        front-empty = subst (λ z. z .front-empty ≤ 1) (sym (b .counts-are)) (front-empty-bound (settings a) (given-locks a l) (given-tris a l) (given-points a l) (b .run) (b .ended));
+        front-empty = subst (λ z. z .front-empty ≤ 1) (sym (b .counts-are)) (front-empty-bound (settings-within most a) (given-locks a l) (given-tris a l) (given-points a l) (b .run) (b .ended));
         attempts =
-            let h = attempts-bound (settings a) (given-locks a l) (given-tris a l) (given-points a l) (b .run) (b .ended) in
+            let h = attempts-bound (settings-within most a) (given-locks a l) (given-tris a l) (given-points a l) (b .run) (b .ended) in
             let g : b .run .counts .attempts ≤ 22801 = omega arith in
             subst (λ z. z .attempts ≤ 22801) (sym (b .counts-are)) g;
         adds-up = let s = k .attempts-sum in omega arith;

@@ -1,0 +1,162 @@
+//! The call of a job's mesh: the port's, and what it must leave.
+
+use reference::input::{Input, Lent};
+use reference::job::{Job, Step};
+use reference::patched::FrontResult;
+
+use crate::memory::{self, Slices};
+
+/// Numbers of a job, and of an answer.
+pub const JOB: usize = 5;
+pub const ANSWER: usize = 14;
+
+extern "C" {
+    /// include/sedgepick.h says what it takes and gives.
+    fn sedgepick_job(
+        points: *mut f64,
+        points_len: usize,
+        triangles: *const u32,
+        triangles_len: usize,
+        joints: *const u32,
+        joints_len: usize,
+        quads: *mut u32,
+        quads_len: usize,
+        triangles_out: *mut u32,
+        triangles_out_len: usize,
+        components: *mut u32,
+        components_len: usize,
+        work: *mut u32,
+        work_len: usize,
+        float_work: *mut f64,
+        float_work_len: usize,
+        given: usize,
+        capacity: usize,
+        count: usize,
+        slots: usize,
+        joint_count: usize,
+        size: f64,
+        stop: u32,
+        least_jacobian: f64,
+        largest_cosine: f64,
+        side_low: f64,
+        side_high: f64,
+        pairs: usize,
+        grid: u32,
+        job: *mut usize,
+        job_len: usize,
+        answer: *mut usize,
+        answer_len: usize,
+    ) -> usize;
+}
+
+/// What a call returns and leaves.
+#[derive(PartialEq)]
+pub struct Left {
+    pub number: usize,
+    pub job: Vec<usize>,
+    pub answer: Vec<usize>,
+    pub slices: Slices,
+}
+
+/// The port's call over these slices.
+pub fn port(input: &Input, lent: Lent, mut l: Left) -> Left {
+    let mut points = memory::floats(&l.slices.points);
+    let mut float_work = memory::floats(&l.slices.float_work);
+    let (s, q) = (&mut l.slices, &input.quality);
+    let triangles = input.triangles.as_flattened();
+    // Each pointer comes with the length of its slice, and no two share memory.
+    l.number = unsafe {
+        sedgepick_job(
+            points.as_mut_ptr(),
+            points.len(),
+            triangles.as_ptr(),
+            triangles.len(),
+            s.joints.as_ptr(),
+            s.joints.len(),
+            s.quads.as_mut_ptr(),
+            s.quads.len(),
+            s.triangles.as_mut_ptr(),
+            s.triangles.len(),
+            s.components.as_mut_ptr(),
+            s.components.len(),
+            s.work.as_mut_ptr(),
+            s.work.len(),
+            float_work.as_mut_ptr(),
+            float_work.len(),
+            input.points.len(),
+            lent.points,
+            input.triangles.len(),
+            lent.slots,
+            input.joints.len(),
+            input.size(),
+            input.stop,
+            q.least_jacobian,
+            q.largest_cosine,
+            q.side_low,
+            q.side_high,
+            q.pairs,
+            input.grid,
+            l.job.as_mut_ptr(),
+            l.job.len(),
+            l.answer.as_mut_ptr(),
+            l.answer.len(),
+        )
+    };
+    l.slices.points = memory::bits(&points);
+    l.slices.float_work = memory::bits(&float_work);
+    l
+}
+
+/// The same slices with another number.
+pub fn copy(before: &Left, number: usize) -> Left {
+    Left {
+        number,
+        job: before.job.clone(),
+        answer: before.answer.clone(),
+        slices: before.slices.clone(),
+    }
+}
+
+/// What the slices must hold after the reference's step.
+pub fn after(before: &Left, step: Step) -> Left {
+    let mut l = copy(before, 0);
+    let Job {
+        meshes,
+        allowance,
+        done,
+        left,
+    } = step.next;
+    l.job[..JOB].copy_from_slice(&[meshes, allowance, done, left, step.charged]);
+    match step.ran {
+        Err(number) => l.number = number as usize,
+        Ok(rust) => {
+            l.number = rust.refused.unwrap_or(0) as usize;
+            l.slices = memory::after_run(&before.slices, &rust);
+            if rust.refused.is_none() {
+                l.answer[..ANSWER].copy_from_slice(&words(&rust));
+            }
+        }
+    }
+    l
+}
+
+/// The numbers of an answer.
+fn words(rust: &FrontResult) -> [usize; ANSWER] {
+    let c = &rust.refusals;
+    [
+        c.front_empty,
+        c.attempts,
+        c.placement,
+        c.invalid_quad,
+        c.recovery,
+        c.region,
+        c.odd_region,
+        c.mismatch_insertions,
+        c.limit,
+        rust.quads.len(),
+        rust.triangles.len(),
+        rust.points.len(),
+        rust.region_components.len(),
+        c.trials,
+    ]
+}

@@ -1,0 +1,48 @@
+-- The promise of the exported mesh of a job: the job of the definition, with the state in a slice of its own and the attempts charged behind it.
+use mathlib.Core.Path.{_≡_}
+use mathlib.Core.Bool.{cond}
+use mathlib.Core.List.{List, [], _∷_}
+use Prim.Native.Nat.{ℕ, _<_, _≤_}
+use lib.ListN.{length, getD}
+use Rattle.definition.specs.Call.{Asked, Lent, onto}
+use Rattle.definition.specs.Job.{Job, bad-job, job-limit, job}
+use Rattle.refusals.specs.Refusals.{first-refusal}
+use Rattle.mesher.specs.declared.job.Mesh.{Mesh}
+use Rattle.mesher.specs.Promise.{Kept-account-within, Kept-joints, Kept-area}
+use Rattle.mesher.specs.Jobs.{Job-returns}
+use Rattle.library.specs.Exported.{handed, up-to-4}
+
+-- the state in a job's slice
+abbrev pub state-in : List ℕ → Job
+state-in js = record { meshes = getD js 0 0; allowance = getD js 1 0; done = getD js 2 0; left = getD js 3 0 }
+
+-- the state to hand on, then the attempts charged
+abbrev pub job-numbers : Mesh → List ℕ
+job-numbers m = m .next .meshes ∷ m .next .allowance ∷ m .next .done ∷ m .next .left ∷ m .charged ∷ []
+
+-- With room in both slices: m is all that the definition's job answers, k is its number, and the slices have its numbers.
+pub record Meshed (a : Asked) (l : Lent) (js old : List ℕ) (k : ℕ) (ks new : List ℕ) (exit : Lent) (m : Mesh) : Type 0 where
+  pub returns : Job-returns (job (state-in js) a l) m exit
+  pub keeps : Kept-account-within (job-limit (state-in js) a) a l (m .answer) exit
+  pub joints : Kept-joints a l (m .answer) exit
+  pub area : Kept-area a l (m .answer) exit
+  pub number : k ≡ m .answer .refusal
+  pub state : ks ≡ onto (job-numbers m) js
+  pub answer : new ≡ handed (m .answer) old
+
+-- Without: refused with the number n, and nothing is touched.
+pub record Untouched (n : ℕ) (l : Lent) (js old : List ℕ) (k : ℕ) (ks new : List ℕ) (exit : Lent) : Type 0 where
+  pub number : k ≡ n
+  pub state : ks ≡ js
+  pub answer : new ≡ old
+  pub lent : exit ≡ l
+
+-- the number of a mesh whose answer is too short: 16 comes first, and 1 to 3 and 14 come before 4
+abbrev pub short-number : Job → ℕ → ℕ
+short-number j k = cond (bad-job j) 16 (up-to-4 k)
+
+-- k is returned of a mesh that states a and lends l, with `js` in the job's slice and `old` in the answer's; `ks`, `new` and `exit` are there then
+pub record Exported-job (a : Asked) (l : Lent) (js old : List ℕ) (k : ℕ) (ks new : List ℕ) (exit : Lent) : Type 0 where
+  pub roomy : 5 ≤ length js → 14 ≤ length old → (m : Mesh) × Meshed a l js old k ks new exit m
+  pub short : 5 ≤ length js → length old < 14 → Untouched (short-number (state-in js) (first-refusal a l)) l js old k ks new exit
+  pub no-state : length js < 5 → Untouched 4 l js old k ks new exit

@@ -1,0 +1,199 @@
+// A mesh of a job, its state in a slice of its own.
+use crate::ANSWER;
+use crate::short_answer;
+use crate::write_answer;
+use mesher::job::Job;
+use mesher::job::bad_job;
+use mesher::job::run_mesh;
+use refusals::Room;
+use refusals::Stated;
+use rules::Quality;
+ghost use mathlib.Core.Path.{_≡_};
+ghost use mathlib.Core.Bool.{not};
+ghost use mathlib.Core.List.{[], _∷_};
+ghost use lib.Dec.{eqb};
+ghost use lib.ListN.{length};
+ghost use Prim.Native.Nat.{_≤_};
+ghost use Rattle.definition.specs.Call.{Lent, onto};
+ghost use Rattle.refusals.specs.Stated.{Lends, asked, asked-for};
+ghost use Rattle.refusals.specs.Refusals.{first-refusal};
+ghost use Rattle.mesher.specs.Promise.{lent-of};
+ghost use Rattle.mesher.specs.Jobs.{job-of};
+ghost use Rattle.library.specs.Exported.{set-of};
+ghost use Rattle.library.specs.Jobs.{state-in, short-number, Exported-job};
+
+// Numbers of a job's slice: the four of its state, and the attempts charged.
+const JOB: usize = 5;
+
+// The state at the front of the slice.
+fn state_in(job: &[usize]) -> Job
+    requires { ⌜ 5 ≤ length (now job) ⌝ }
+    ensures { λ r. ⌜ job-of r ≡ state-in (now (job .entry)) ⌝ }
+{
+    Job {
+        meshes: job[0],
+        allowance: job[1],
+        done: job[2],
+        left: job[3],
+    }
+}
+
+// The state to hand on and the attempts charged come to the front of the slice.
+fn write_job(job: &mut [usize], next: Job, charged: usize)
+    requires { ⌜ 5 ≤ length (now job) ⌝ }
+    ensures { λ r. ⌜ now (job .exit) ≡ onto (next .meshes ∷ next .allowance ∷ next .done ∷ next .left ∷ charged ∷ []) (now (job .entry)) ⌝ }
+{
+    job[0] = next.meshes;
+    job[1] = next.allowance;
+    job[2] = next.done;
+    job[3] = next.left;
+    job[4] = charged;
+}
+
+// The number of a mesh whose answer is too short: 16, or that of the call.
+fn short_mesh(
+    points: &[f64],
+    triangles: &[u32],
+    joints: &[u32],
+    state: Job,
+    a: Stated,
+    n: Room,
+) -> usize
+    ensures { λ r. ⌜ ((l : Lent) → Lends l (now (points .entry)) (now (triangles .entry)) (now (joints .entry)) n → r ≡ short-number (job-of state) (first-refusal (asked a) l)) ⌝ }
+{
+    if bad_job(state) {
+        return 16;
+    }
+    short_answer(points, triangles, joints, a, n)
+}
+
+// The number of the refusal is returned, 0 where the run finished. The state to hand on and the attempts charged come to the front of the job's slice, also where the mesh is refused; then the numbers of a finished run to the front of the answer.
+fn meshed(
+    points: &mut [f64],
+    triangles: &[u32],
+    joints: &[u32],
+    quads: &mut [u32],
+    triangles_out: &mut [u32],
+    components: &mut [u32],
+    work: &mut [u32],
+    float_work: &mut [f64],
+    stated: Stated,
+    job: &mut [usize],
+    answer: &mut [usize],
+) -> usize
+    ensures { λ r. ⌜ Exported-job
+        (asked stated)
+        (lent-of (now (points .entry)) (now (triangles .entry)) (now (joints .entry)) (now (quads .entry)) (now («triangles_out» .entry)) (now (components .entry)) (now (work .entry)) (now («float_work» .entry)))
+        (now (job .entry))
+        (now (answer .entry))
+        r
+        (now (job .exit))
+        (now (answer .exit))
+        (lent-of (now (points .exit)) (now (triangles .entry)) (now (joints .entry)) (now (quads .exit)) (now («triangles_out» .exit)) (now (components .exit)) (now (work .exit)) (now («float_work» .exit))) ⌝ }
+{
+    if job.len() < JOB {
+        return 4;
+    }
+    let state = state_in(job);
+    if answer.len() < ANSWER {
+        let room = Room {
+            quads: quads.len(),
+            out: triangles_out.len(),
+            components: components.len(),
+            work: work.len(),
+            floats: float_work.len(),
+        };
+        return short_mesh(points, triangles, joints, state, stated, room);
+    }
+    let m = run_mesh(
+        points,
+        triangles,
+        joints,
+        quads,
+        triangles_out,
+        components,
+        work,
+        float_work,
+        state,
+        stated,
+    );
+    let a = m.answer;
+    let next = m.next;
+    write_job(job, next, m.charged);
+    let k = a.refusal;
+    if k != 0 {
+        return k;
+    }
+    write_answer(answer, a);
+    0
+}
+
+// The next mesh of a job, as sedgepick_run_front_with, with no more attempts than the job leaves it. The job's five numbers: meshes, allowance, meshes done, what is left, and the attempts charged; the first four of what comes back go to the next mesh.
+#[no_mangle]
+pub extern "C" fn sedgepick_job(
+    points: &mut [f64],
+    triangles: &[u32],
+    joints: &[u32],
+    quads: &mut [u32],
+    triangles_out: &mut [u32],
+    components: &mut [u32],
+    work: &mut [u32],
+    float_work: &mut [f64],
+    given: usize,
+    capacity: usize,
+    count: usize,
+    slots: usize,
+    joint_count: usize,
+    size: f64,
+    stop: u32,
+    least_jacobian: f64,
+    largest_cosine: f64,
+    side_low: f64,
+    side_high: f64,
+    pairs: usize,
+    grid: u32,
+    job: &mut [usize],
+    answer: &mut [usize],
+) -> usize
+    ensures { λ r. ⌜ Exported-job
+        (asked-for given capacity count slots «joint_count» size stop (set-of «least_jacobian» «largest_cosine» «side_low» «side_high» pairs) (not (eqb grid 0)))
+        (lent-of (now (points .entry)) (now (triangles .entry)) (now (joints .entry)) (now (quads .entry)) (now («triangles_out» .entry)) (now (components .entry)) (now (work .entry)) (now («float_work» .entry)))
+        (now (job .entry))
+        (now (answer .entry))
+        r
+        (now (job .exit))
+        (now (answer .exit))
+        (lent-of (now (points .exit)) (now (triangles .entry)) (now (joints .entry)) (now (quads .exit)) (now («triangles_out» .exit)) (now (components .exit)) (now (work .exit)) (now («float_work» .exit))) ⌝ }
+{
+    let quality = Quality {
+        least_jacobian,
+        largest_cosine,
+        side_low,
+        side_high,
+        pairs,
+    };
+    let stated = Stated {
+        given,
+        capacity,
+        count,
+        slots,
+        joints: joint_count,
+        size,
+        stop,
+        quality,
+        grid: grid != 0,
+    };
+    meshed(
+        points,
+        triangles,
+        joints,
+        quads,
+        triangles_out,
+        components,
+        work,
+        float_work,
+        stated,
+        job,
+        answer,
+    )
+}
