@@ -289,6 +289,34 @@ size_t sedgepick_filing_order(
  */
 size_t sedgepick_small_mesh(uint32_t points, size_t place, uint32_t *list, size_t list_len);
 
+/* Numbers of a quality sheet: ten counts by steps of the scaled Jacobian, the count of quads without metrics, and the quads that have the worst of each kind. */
+#define SEDGEPICK_SHEET_NUMBERS 13
+
+/* The quality sheet of a list of quads, ours or not: for each quad its scaled Jacobian and the largest cosine of its corners, as a run measures them.
+ *
+ * points  3 numbers a point: x, y, z; only read, z not at all.
+ * quads   8 numbers a quad, as a run writes them: its four corners, then its birth, which is not read; only read.
+ * out     2 numbers a quad: scaled Jacobian and cosine, quad after quad; two zeros where a quad has no metrics: a corner is not convex, its nodes do not run
+ *         counterclockwise, or it has no area. Entries past them are as they were.
+ * given   points, at most 8,192.
+ * count   quads, at most 16,384.
+ * answer  13 numbers (SEDGEPICK_SHEET_NUMBERS); entries past them are as they were:
+ *         0 to 9   quads by steps of the scaled Jacobian, bounded by the doubles nearest 0.1, 0.2 and so on to 0.9; one on a bound is in the step above it
+ *         10       quads without metrics; the eleven add up to the quads
+ *         11       the quad with the least scaled Jacobian, from 0 and of equal ones the first; `count` where no quad has metrics
+ *         12       the same for the largest cosine. Both values stand in `out`.
+ *
+ * Slices are as above, but that points and quads may share memory. 0 is returned, or a refusal, which touches nothing: SEDGEPICK_OVER_LIMIT (1),
+ * SEDGEPICK_TOO_SHORT (4: points, quads, out or answer), SEDGEPICK_UNKNOWN_NODE (5: a corner) or SEDGEPICK_FAR_POINT (7: any of the given points), the first
+ * that holds. On what a finished run handed back no quad is without metrics, and neither worst is beyond the run's quality set; that is proved.
+ */
+size_t sedgepick_sheet(
+    const double *points, size_t points_len,
+    const uint32_t *quads, size_t quads_len,
+    double *out, size_t out_len,
+    size_t given, size_t count,
+    size_t *answer, size_t answer_len);
+
 #ifdef __cplusplus
 }
 #endif

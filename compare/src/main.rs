@@ -1,10 +1,11 @@
 //! The port, linked from its static library, against the patched Rust on generated meshes: answers and every lent slice, bit for bit. `filing` compares the
-//! filing order with a plain one, `jobs` runs jobs of several meshes.
+//! filing order with a plain one, `jobs` runs jobs of several meshes, `sheet` compares the quality sheet with the reference's.
 
 mod cases;
 mod filing;
 mod jobs;
 mod memory;
+mod sheet;
 mod threads;
 
 use std::collections::BTreeMap;
@@ -18,7 +19,9 @@ const USAGE: &str = "usage: compare SEED COUNT [THREADS]
 compare jobs SEED COUNT [THREADS]
   runs COUNT jobs of 1 to 16 generated meshes, refused ones among them, and states that are refused
 compare filing SEED COUNT
-  runs the filing order on COUNT generated pairs of meshes";
+  runs the filing order on COUNT generated pairs of meshes
+compare sheet SEED COUNT
+  makes the quality sheet of COUNT generated lists of quads";
 
 /// Partings that are printed whole.
 const SHOWN: usize = 3;
@@ -98,28 +101,26 @@ fn show(partings: &mut [(u64, Parting)]) {
     }
 }
 
-/// What to run, on so many threads.
+/// What to run: meshes of a seed or jobs of them on so many threads, pairs of them, or lists of quads.
 enum Asked {
     Runs(u64, u64, u64),
     Jobs(u64, u64, u64),
     Filing(u64, u64),
+    Sheets(u64, u64),
 }
 
 fn asked() -> Option<Asked> {
     let mut words: Vec<String> = std::env::args().skip(1).collect();
-    let named = words.first().is_some_and(|w| w == "filing" || w == "jobs");
-    let name = if named {
-        words.remove(0)
-    } else {
-        String::new()
-    };
+    let named = words.first().filter(|w| w.parse::<u64>().is_err()).cloned();
+    words.drain(..named.is_some() as usize);
     let numbers: Option<Vec<u64>> = words.iter().map(|w| w.parse().ok()).collect();
-    match (&name[..], &numbers?[..]) {
-        ("filing", &[seed, count]) => Some(Asked::Filing(seed, count)),
-        ("jobs", &[seed, count]) => Some(Asked::Jobs(seed, count, 1)),
-        ("jobs", &[seed, count, threads]) => Some(Asked::Jobs(seed, count, threads)),
-        ("", &[seed, count]) => Some(Asked::Runs(seed, count, 1)),
-        ("", &[seed, count, threads]) => Some(Asked::Runs(seed, count, threads)),
+    match (named.as_deref(), &numbers?[..]) {
+        (Some("filing"), &[seed, count]) => Some(Asked::Filing(seed, count)),
+        (Some("sheet"), &[seed, count]) => Some(Asked::Sheets(seed, count)),
+        (Some("jobs"), &[seed, count]) => Some(Asked::Jobs(seed, count, 1)),
+        (Some("jobs"), &[seed, count, threads]) => Some(Asked::Jobs(seed, count, threads)),
+        (None, &[seed, count]) => Some(Asked::Runs(seed, count, 1)),
+        (None, &[seed, count, threads]) => Some(Asked::Runs(seed, count, threads)),
         _ => None,
     }
 }
@@ -129,6 +130,7 @@ fn main() {
         Some(Asked::Filing(seed, count)) => filing::run(seed, count),
         Some(Asked::Jobs(seed, count, threads)) => jobs::run(seed, count, threads),
         Some(Asked::Runs(seed, count, threads)) => runs(seed, count, threads),
+        Some(Asked::Sheets(seed, count)) => sheet::run(seed, count),
         None => {
             eprintln!("{USAGE}");
             std::process::exit(2);

@@ -31,6 +31,12 @@ Several meshes can share an allowance of attempts, and what one leaves goes to t
     >>> len(slab.mesh.quads), slab.limit, slab.charged, slab.left
     (1, 6, 1, 5)
 
+A sheet says how good the quads of a list are, ours or not:
+
+    >>> found = sedgepick.sheet(mesh.points, [(0, 1, 2, 3), (3, 2, 1, 0)])
+    >>> found.steps, found.without_metrics, found.jacobian
+    ((0, 0, 0, 0, 0, 0, 0, 0, 0, 1), 1, Worst(quad=0, value=1.0))
+
 Threads: the library keeps nothing between calls and each call here lends memory of its own, so any number of threads may call `run_front` at once. The
 interpreter's lock is free while the library runs.
 
@@ -40,7 +46,9 @@ from .front import (EVEN_COMPONENTS, EXHAUST, FAR, GRID_LINES, LARGEST_SIZE, LEA
                     Quad, Quads, Quality, Refused, cosine_of, run_front)
 from .job import MOST_ALLOWANCE, MOST_MESHES, Job, Slab
 from .library import NoLibrary, VERSION, commit
+from .sheets import Sheet, Worst, sheet
 
 __version__ = VERSION
 __all__ = ['Counts', 'EVEN_COMPONENTS', 'EXHAUST', 'FAR', 'GRID_LINES', 'Job', 'LARGEST_SIZE', 'LEAST_SIZE', 'MOST_ALLOWANCE', 'MOST_CAPACITY', 'MOST_GIVEN', 'MOST_JOINTS',
-           'MOST_MESHES', 'MOST_SLOTS', 'Mesh', 'NoLibrary', 'Quad', 'Quads', 'Quality', 'RANGES', 'REFUSALS', 'Refused', 'Slab', 'commit', 'cosine_of', 'run_front']
+           'MOST_MESHES', 'MOST_SLOTS', 'Mesh', 'NoLibrary', 'Quad', 'Quads', 'Quality', 'RANGES', 'REFUSALS', 'Refused', 'Sheet', 'Slab', 'Worst', 'commit', 'cosine_of',
+           'run_front', 'sheet']

@@ -1,7 +1,7 @@
 """sedgepick-mesh: a mesh file of triangles in, a mesh file of quads out.
 
   sedgepick-mesh slab.msh -o quads.msh
-  sedgepick-mesh slab.msh -o quads.inp --report report.html
+  sedgepick-mesh slab.msh -o quads.inp --report report.html --sheet sheet.csv
   sedgepick-mesh --job 60000 ground.msh first.msh roof.msh -o quads --report job.txt
 
 Files are read and written by meshio: Gmsh, VTK, VTU, Abaqus .inp, STL, OFF, OBJ, MED, XDMF and others, by their suffix. The triangles are paired into
@@ -108,7 +108,7 @@ def quality_of(options):
 def check_folders(options):
     """That the files to write can be, before a long run."""
     from .surfaces import Fault
-    for path in [options.output, options.node_map, *options.report]:
+    for path in [options.output, options.node_map, *options.report, *options.sheet]:
         if path and not os.path.isdir(os.path.dirname(path) or '.'):
             raise Fault('cannot write %s: there is no folder %s' % (path, os.path.dirname(path)))
 
@@ -130,6 +130,7 @@ def arguments(words):
         'triangles, exactly (docs/GRID.md); --size is 0')
     add('--stop', type=int, choices=(0, 1), default=0, help='0, the default: go on while an edge is open; 1: and leave only even components of triangles')
     add('--report', metavar='FILE', action='append', default=[], help='a report: .html with the picture, otherwise text; may be given twice')
+    add('--sheet', metavar='FILE', action='append', default=[], help='the quality sheet of the quads: .csv a table, otherwise text; may be given twice')
     add('--allow-loss', action='store_true', help='write the mesh also where a line, a point or a border of the file could not be kept; what is lost is listed')
     add('--free', action='store_true', help="do not keep the file's lines, points and borders of surfaces at all; what is lost is listed")
     add('--keep-nodes', action='store_true', help='write nodes that no cell has, too')
@@ -293,3 +294,14 @@ def written(work):
         with open(work.options.node_map, 'w') as file:
             file.write('node,given\n')
             file.writelines('%d,%s\n' % (i + 1, node + 1 if node < len(surface.points) else '') for i, node in enumerate(nodes))
+    write_sheets(work)
+
+
+def write_sheets(work):
+    """The quality sheet: the quads in the order in which they were placed, their nodes as OUT numbers them, from 1."""
+    from . import sheets
+    for path in work.options.sheet:
+        cells = work.number[work.result.quads] + 1
+        with open(path, 'w', encoding='utf-8') as file:
+            file.write(sheets.table(work.result.sheet, cells[:, ::-1] if work.surface.clockwise else cells) if path.lower().endswith('.csv')
+                       else sheets.text(work.result.sheet, work.surface.name))

@@ -7,7 +7,7 @@ import os, shutil, subprocess, tempfile
 from concurrent.futures import ThreadPoolExecutor, as_completed
 from dataclasses import dataclass
 import numpy
-from . import joints, quality
+from . import joints, quality, sheets
 from .fitting import fit, grid_fit
 from .front import LARGEST_SIZE, LEAST_SIZE, MOST_GIVEN, MOST_JOINTS, Quality
 from .sizes import best_run
@@ -65,6 +65,7 @@ class Answer:
     rounded: tuple    # as in Result
     joints: int       # edges that were locked
     scale: float
+    sheet: object     # of the mesh's quads
 
 
 @dataclass
@@ -84,6 +85,7 @@ class Result:
     joints: list = () # how many edges of each part were locked
     notes: list = ()  # parts that are slit
     scale: float = 1  # the largest by which a part was fitted
+    sheet: object = None  # of the quads, as the library measures them
     odd: int = 0      # components, as they went to the library, with an odd number of triangles
 
 
@@ -159,7 +161,7 @@ def ran(plan, stop, quality=Quality(), progress=None, jobs=None, call=best_run):
         taken, mesh = call(own.points, own.triangles, own.size, stop, quality=quality, joints=own.joints, grid=plan.grid)
         given, added = plan.points[own.nodes], mesh.points[len(own.nodes):]
         return Answer(own.nodes, taken / own.placed.scale, mesh, own.placed.back(added), (own.placed.rounded(given), own.placed.rounded_back(added)),
-                      len(own.joints), own.placed.scale)
+                      len(own.joints), own.placed.scale, sheets.sheet(mesh.points, mesh.quads))
 
     with ThreadPoolExecutor(jobs or os.cpu_count() or 1) as pool:
         waiting = {pool.submit(one, which): which for which in range(count)}
@@ -207,4 +209,4 @@ def merged(given, answers, part, cutter):
     replaced = numpy.concatenate([answer.mesh.quads.replaced for answer in answers]).astype(int)
     return Result(numpy.concatenate(added), numpy.concatenate(quads), replaced, numpy.concatenate(left), sizes, counts, part, *owners,
                   tuple(map(sum, zip(*(answer.rounded for answer in answers)))), cutter, [answer.joints for answer in answers],
-                  scale=max(answer.scale for answer in answers))
+                  scale=max(answer.scale for answer in answers), sheet=sheets.joined([answer.sheet for answer in answers]))

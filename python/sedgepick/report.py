@@ -2,7 +2,7 @@
 from dataclasses import dataclass
 from html import escape
 import meshio, numpy
-from . import library, losses, picture, quality, slits
+from . import library, losses, picture, quality, sheets, slits
 from .front import Quality
 
 WORST = 10   # cells that a list names
@@ -99,6 +99,7 @@ def sections(work):
         ('Area', [('before', '%.15g' % work.areas[0]), ('after', '%.15g' % work.areas[1]), ('boundary', 'every edge found')] + exact_words(work)),
         ('Quads', [('least scaled Jacobian', '%.4f' % jacobians.min()), ('least angle', '%.2f degrees' % least.min()), replaced] + list(map(place, quad_rows))
          if len(result.quads) else [('none', '')]),
+        ('Quality sheet', sheets.worst_words(result.sheet) + [('scaled Jacobian ' * (i < sheets.STEPS) + name, bar) for i, (name, bar) in enumerate(sheets.histogram(result.sheet))]),
         ('Leftover triangles', [('under 10 degrees', int((angles < 10).sum()))] + list(map(place, triangle_rows)) if len(angles) else [('none', '')]),
         ('Lines, points and borders of the file', lost + [(loss.what, at(points, nodes)) for loss in work.losses for nodes in loss.lost[:LISTED]]
          or [('none in the file', '')]),
@@ -177,8 +178,8 @@ def body(work):
     """A file's name, summary, warnings, picture and lists."""
     rows, drawn = sections(work)
     warnings = ''.join('<p class="warning">%s</p>' % escape(words) for words in work.warnings)
-    return ('<h1>%s</h1>\n<p>%s</p>%s\n%s<div class="lists">%s</div>'
-            % (escape(work.surface.name), escape(summary(work)), warnings, picture.draw(drawn), tables(rows)))
+    return ('<h1>%s</h1>\n<p>%s</p>%s\n%s<h2>Quads by scaled Jacobian</h2>\n%s\n<div class="lists">%s</div>'
+            % (escape(work.surface.name), escape(summary(work)), warnings, picture.draw(drawn), sheets.drawn(work.result.sheet), tables(rows)))
 
 
 def bodied(title, content):

@@ -11,4 +11,5 @@ mod mesh;
 pub mod patched;
 pub mod random;
 pub mod records;
+pub mod sheet;
 pub mod text;

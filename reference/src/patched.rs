@@ -1950,7 +1950,10 @@ fn insert_along(
 /// test is on the signed area (must be positive) and on the four cross products
 /// (must be positive), so a bowtie or a collinear corner returns `None` rather
 /// than a misleading metric.
-fn quad_metrics(points: &[Node], quad: &[usize; 4]) -> Option<(f64, f64)> {
+// patch: sheet
+// was: fn quad_metrics(points: &[Node], quad: &[usize; 4]) -> Option<(f64, f64)> {
+pub fn quad_metrics(points: &[Node], quad: &[usize; 4]) -> Option<(f64, f64)> {
+// end patch
     let coords = [
         [points[quad[0]][0], points[quad[0]][1]],
         [points[quad[1]][0], points[quad[1]][1]],

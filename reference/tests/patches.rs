@@ -11,7 +11,7 @@ fn without_its_patches_the_patched_module_is_the_published_one() {
     assert_eq!(marks::take_back(PATCHED, |_| true).unwrap(), PUBLISHED);
 }
 
-const NAMES: [&str; 11] = [
+const NAMES: [&str; 12] = [
     "cosine",
     "limit",
     "off-front",
@@ -23,10 +23,11 @@ const NAMES: [&str; 11] = [
     "birth",
     "trials",
     "allowance",
+    "sheet",
 ];
 
 #[test]
-fn every_patch_is_one_of_eleven() {
+fn every_patch_is_one_of_twelve() {
     for name in marks::names(PATCHED) {
         assert!(NAMES.contains(&name));
     }

@@ -81,12 +81,14 @@ mod job;
 pub mod lent;
 mod quality;
 mod refusal;
+mod sheet;
 mod small;
 
 pub use filing::{filing_order, Filed};
 pub use job::{Job, Over, Slab, MOST_ALLOWANCE, MOST_MESHES};
 pub use quality::{Quality, QualityBuilder, COSINES, JACOBIANS, PAIRS, SIDES};
 pub use refusal::Refusal;
+pub use sheet::{put_sheet, sheet, Metrics, Sheet, Worst, RECORD, SHEET_NUMBERS, STEPS};
 pub use small::small_mesh;
 
 use lent::{Call, Further, Memory};

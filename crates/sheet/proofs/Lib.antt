@@ -1,0 +1,5 @@
+pub mod Returned
+pub mod Bounds
+pub mod Corners
+pub mod Filling
+pub mod Numbers
