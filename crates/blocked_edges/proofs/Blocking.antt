@@ -1,5 +1,5 @@
 -- `block`: the edge's record has the birth k, so it stands; every other edge stands as before.
-use mathlib.Core.Path.{_≡_, refl, ap, sym, _∙_}
+use mathlib.Core.Path.{_≡_, refl, ap, sym, _∙_, subst}
 use mathlib.Core.Logic.{inl, inr}
 use mathlib.Core.Bool.{Bool, true, false, _||_}
 use mathlib.Core.List.{List, _∷_}
@@ -14,9 +14,9 @@ use Rattle.definition.specs.Cells.{same-edge, has-edge-in}
 use Rattle.laws.specs.Bools.{never, which}
 use Rattle.laws.specs.Cells.{same-self, same-is}
 use Rattle.laws.specs.Frames.{on, off}
-use Rattle.blocked_edges.specs.Records.{other, birth, next, head, touched, size, Kept, newest, place, IsEdge, Lists, stands}
+use Rattle.blocked_edges.specs.Records.{other, birth, next, head, touched, size, Kept, list-of, newest, place, IsEdge, Lists, stands}
 use Rattle.blocked_edges.specs.Blocks.{Blocks, CanBlock, Refused}
-use Rattle.blocked_edges.proofs.Edges.{place-below, place-has, place-one, place-here, place-there, with-old, with-new}
+use Rattle.blocked_edges.proofs.Edges.{list-below, place-below, place-has, place-one, place-here, place-there, with-old, with-new}
 use Rattle.blocked_edges.proofs.Framing.{written-same, lists-same, stands-same}
 use Rattle.blocked_edges.proofs.Standing.{stands-true}
 
@@ -95,18 +95,18 @@ module _ (w : List ℕ) (b n p k i : ℕ) (x : Edge) (ever bl : List Edge) (h : 
 
 -- ---- a new edge
 
--- what `block` stores: other node, birth and next of record c, and the head of u
+-- what `block` stores: larger node, birth and next of record c, and the head of list u
 abbrev pub newW : List ℕ → ℕ → ℕ → ℕ → ℕ → ℕ → ℕ → ℕ → ℕ → List ℕ
 newW w b n c u o t x h = set (set (set (set w (b + c) o) (b + n + c) t) (b + 2 * n + c) x) (b + 3 * n + u) h
 
--- the numbers stored are those of u-v after k quads, before the list that u had
+-- the numbers stored are those of an edge with the larger node v after k quads, before what list u had
 pub record Right (w : List ℕ) (b n c k u v o t x h : ℕ) : Type 0 where
   pub its-other : o ≡ v
   pub its-birth : t ≡ k
   pub its-next : x ≡ head w b n u
   pub its-head : h ≡ c
 
--- record c is that of u-v, first in the list of u; all else is the same
+-- record c is that of an edge with the larger node v, first in list u; all else is the same
 record New (w w' : List ℕ) (b n p c k u v : ℕ) : Type 0 where
   len : length w' ≡ length w
   its-other : other w' b c ≡ v
@@ -157,12 +157,12 @@ module _ (w : List ℕ) (b n p c u o t x h : ℕ) (cn : c < n) (up : u < p) wher
       }
 
 module _ (w w' : List ℕ) (b n p c k u v : ℕ) (ever bl : List Edge) (h : Blocks w b n p k ever bl) (q : c ≡ length ever) (ie : IsEdge p (u, v)) (cn : c < n)
-    (no : has-edge-in ever (u, v) ≡ false) (d : New w w' b n p c k u v) where
-  heads-new : (x : ℕ) → x < p → head w' b n x ≡ newest n x ((u, v) ∷ ever)
+    (no : has-edge-in ever (u, v) ≡ false) (d : New w w' b n p c k (list-of p (u, v)) v) where
+  heads-new : (x : ℕ) → x < p → head w' b n x ≡ newest n p x ((u, v) ∷ ever)
   unfolding newest
-  heads-new x m = elim (which (eqb u x)) [
-    | inl e ↦ let z = eqb-true u x e in rw e (ap (λ (y : ℕ). head w' b n y) (sym z) ∙ d .its-head ∙ q)
-    | inr e ↦ let z = eqb-false u x e in rw e (d .heads x m (λ y. z (sym y)) ∙ h .lists .heads x m)
+  heads-new x m = elim (which (eqb (list-of p (u, v)) x)) [
+    | inl e ↦ let z = eqb-true (list-of p (u, v)) x e in rw e (ap (λ (y : ℕ). head w' b n y) (sym z) ∙ d .its-head ∙ q)
+    | inr e ↦ let z = eqb-false (list-of p (u, v)) x e in rw e (d .heads x m (λ y. z (sym y)) ∙ h .lists .heads x m)
   ]
 
   lists-new : Lists w' b n p ((u, v) ∷ ever)
@@ -178,8 +178,8 @@ module _ (w w' : List ℕ) (b n p c k u v : ℕ) (ever bl : List Edge) (h : Bloc
         heads = heads-new;
         written = (
           ap (λ (i : ℕ). other w' b i) (sym q) ∙ d .its-other,
-          ap (λ (i : ℕ). next w' b n i) (sym q) ∙ d .its-next ∙ h .lists .heads u (omega arith),
-          written-same (other w b) (next w b n) (other w' b) (next w' b n) n ever (λ i l. d .others i (omega arith)) (λ i l. d .nexts i (omega arith)) (h .lists .written),
+          ap (λ (i : ℕ). next w' b n i) (sym q) ∙ d .its-next ∙ h .lists .heads (list-of p (u, v)) (list-below p (u, v) ie),
+          written-same (other w b) (next w b n) (other w' b) (next w' b n) n p ever (λ i l. d .others i (omega arith)) (λ i l. d .nexts i (omega arith)) (h .lists .written),
         );
       }
 
@@ -228,15 +228,15 @@ room-new w b n p c k u v i ever bl h at l =
     omega arith
 
 -- the edge has none: record c is written
-pub new-to : (w : List ℕ) (b n p c k u v i o t x h : ℕ) (ever bl : List Edge) → IsEdge p (u, v) → c < n → n ≤ i → Right w b n c k u v o t x h
-    → Blocks w b n p k ever bl → c ≡ length ever → i ≡ place n (u, v) ever → Refused (newW w b n c u o t x h) b n p k u v (c + 1) ever bl
-new-to w b n p c k u v i o t x h ever bl ie cn l right r q at =
+pub new-to : (w : List ℕ) (b n p c k u v i g o t x h : ℕ) (ever bl : List Edge) → IsEdge p (u, v) → g ≡ list-of p (u, v) → c < n → n ≤ i → Right w b n c k g v o t x h
+    → Blocks w b n p k ever bl → c ≡ length ever → i ≡ place n (u, v) ever → Refused (newW w b n c g o t x h) b n p k u v (c + 1) ever bl
+new-to w b n p c k u v i g o t x h ever bl ie gl cn l right r q at =
     let no = has-none n (u, v) i ever (r .lists .count) at l in
-    let lower = ie .order in
-    let higher = ie .below in
+    let lower = list-below p (u, v) ie in
     let fits = r .lists .room .fits in
+    let made = new w b n p c g o t x h cn (omega arith) k v (omega arith) right in
     record {
       count = rw (with-new (u, v) ever no) (omega arith);
       blocks = rw (with-new (u, v) ever no)
-          (block-new w (newW w b n c u o t x h) b n p c k u v ever bl r q ie cn no (new w b n p c u o t x h cn (omega arith) k v (omega arith) right));
+          (block-new w (newW w b n c g o t x h) b n p c k u v ever bl r q ie cn no (subst (λ (y : ℕ). New w (newW w b n c g o t x h) b n p c k y v) gl made));
     }

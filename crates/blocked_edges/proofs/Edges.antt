@@ -1,9 +1,10 @@
 -- Lists of edges and the places of their records, with no memory.
-use mathlib.Core.Path.{_≡_, refl, sym, _∙_}
+use mathlib.Core.Path.{_≡_, refl, ap, sym, _∙_}
 use mathlib.Core.Bool.{Bool, true, false, _||_, cond}
 use mathlib.Core.List.{List, [], _∷_}
-use Prim.Native.Nat.{ℕ, suc, _≤_, _<_}
+use Prim.Native.Nat.{ℕ, suc, _+_, _-_, _≤_, _<_}
 use native.Mathlib.Omega.{arith}
+use native.Mathlib.Decide.{decLe}
 use lib.Dec.{ltb, eqb}
 use lib.ListN.{length}
 use borrow.Author.Tests.{lt-ltb, le-ltb}
@@ -11,8 +12,44 @@ use Rattle.definition.specs.Plane.{Edge}
 use Rattle.definition.specs.Lists.{any}
 use Rattle.definition.specs.Cells.{same-edge, has-edge-in}
 use Rattle.laws.specs.Cells.{same-self, same-is}
-use Rattle.blocked_edges.specs.Records.{newest, place}
+use Rattle.blocked_edges.specs.Records.{list-of, newest, place, IsEdge}
 use Rattle.blocked_edges.specs.Blocks.{with-edge}
+
+-- ---- lists
+
+pub list-low : (p : ℕ) (e : Edge) → e .0 + e .1 < p → list-of p e ≡ e .0 + e .1
+unfolding list-of
+list-low p e h = rw (lt-ltb (e .0 + e .1) p h)
+
+pub list-high : (p : ℕ) (e : Edge) → p ≤ e .0 + e .1 → list-of p e ≡ e .0 + e .1 - p
+unfolding list-of
+list-high p e h = rw (le-ltb (e .0 + e .1) p h)
+
+pub list-below : (p : ℕ) (e : Edge) → IsEdge p e → list-of p e < p
+list-below p e h = elim (decLe p (e .0 + e .1)) [
+  | yes l ↦ let q = list-high p e l in let o = h .order in let m = h .below in omega arith
+  | no l ↦ let q = list-low p e (omega arith) in omega arith
+]
+
+-- two edges of one list that have the larger node in common are the same
+pub list-one : (p : ℕ) (e f : Edge) → IsEdge p e → IsEdge p f → list-of p e ≡ list-of p f → e .1 ≡ f .1 → e .0 ≡ f .0
+list-one p e f h k q z =
+    let o = h .order in
+    let m = h .below in
+    let o' = k .order in
+    let m' = k .below in
+    elim (decLe p (e .0 + e .1)) [
+      | yes l ↦ elim (decLe p (f .0 + f .1)) [
+        | yes l' ↦ let a = list-high p e l in let b = list-high p f l' in omega arith
+        | no l' ↦ let a = list-high p e l in let b = list-low p f (omega arith) in omega arith
+      ]
+      | no l ↦ elim (decLe p (f .0 + f .1)) [
+        | yes l' ↦ let a = list-low p e (omega arith) in let b = list-high p f l' in omega arith
+        | no l' ↦ let a = list-low p e (omega arith) in let b = list-low p f (omega arith) in omega arith
+      ]
+    ]
+
+-- ---- records
 
 -- a record's number is below the number of records
 pub place-below : (n : ℕ) (e : Edge) (es : List Edge) → place n e es < n → place n e es < length es
@@ -24,12 +61,13 @@ place-below n e (x ∷ es) h = go (same-edge e x) h (place-below n e es)
     go true l r = omega arith
     go false l r = let z = r l in omega arith
 
-pub newest-below : (n u : ℕ) (es : List Edge) → newest n u es < n → newest n u es < length es
+pub newest-below : (n p u : ℕ) (es : List Edge) → newest n p u es < n → newest n p u es < length es
 unfolding newest
-newest-below n u [] h = absurd (omega arith)
-newest-below n u (x ∷ es) h = go (eqb (x .0) u) h (newest-below n u es)
+newest-below n p u [] h = absurd (omega arith)
+newest-below n p u (x ∷ es) h = go (eqb (list-of p x) u) h (newest-below n p u es)
   where
-    go : (t : Bool) → cond t (length es) (newest n u es) < n → (newest n u es < n → newest n u es < length es) → cond t (length es) (newest n u es) < suc (length es)
+    go : (t : Bool) → cond t (length es) (newest n p u es) < n → (newest n p u es < n → newest n p u es < length es)
+        → cond t (length es) (newest n p u es) < suc (length es)
     go true l r = omega arith
     go false l r = let z = r l in omega arith
 

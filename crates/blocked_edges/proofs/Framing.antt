@@ -12,13 +12,13 @@ use Rattle.blocked_edges.specs.Records.{other, birth, next, head, touche
 use Rattle.blocked_edges.specs.Blocks.{Blocks}
 use Rattle.blocked_edges.proofs.Edges.{place-below}
 
-pub written-same : (other next other' next' : ℕ → ℕ) (n : ℕ) (es : List Edge) → ((i : ℕ) → i < length es → other' i ≡ other i) → ((i : ℕ) → i < length es → next' i ≡ next i)
-    → Written other next n es → Written other' next' n es
-written-same other next other' next' n [] f g h = tt
-written-same other next other' next' n (e ∷ es) f g h = (
+pub written-same : (other next other' next' : ℕ → ℕ) (n p : ℕ) (es : List Edge) → ((i : ℕ) → i < length es → other' i ≡ other i) → ((i : ℕ) → i < length es → next' i ≡ next i)
+    → Written other next n p es → Written other' next' n p es
+written-same other next other' next' n p [] f g h = tt
+written-same other next other' next' n p (e ∷ es) f g h = (
   f (length es) (omega arith) ∙ h .0,
   g (length es) (omega arith) ∙ h .1,
-  written-same other next other' next' n es (λ i l. f i (omega arith)) (λ i l. g i (omega arith)) (h .2),
+  written-same other next other' next' n p es (λ i l. f i (omega arith)) (λ i l. g i (omega arith)) (h .2),
 )
 
 -- the lists of the records of ever are the same
@@ -37,7 +37,7 @@ lists-same w w' b n p ever k h =
       count = h .count;
       distinct = h .distinct;
       heads = λ v l. k .heads v l ∙ h .heads v l;
-      written = written-same (other w b) (next w b n) (other w' b) (next w' b n) n ever (k .others) (k .nexts) (h .written);
+      written = written-same (other w b) (next w b n) (other w' b) (next w' b n) n p ever (k .others) (k .nexts) (h .written);
     }
 
 -- `stands` reads the birth of one record and `touched` of two nodes

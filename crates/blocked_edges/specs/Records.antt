@@ -1,9 +1,9 @@
 -- The area of the refused edges: at b, with room for n records and p nodes, 3 n + 2 p numbers.
--- A record stands in the list of its edge's smaller node; it holds the other node, its birth and the next record of the list.
+-- A record stands in one of p lists, by the sum of its edge's nodes; it holds the larger node, its birth and the next record of the list.
 use mathlib.Core.Path.{_≡_}
 use mathlib.Core.Bool.{Bool, false, _&&_, cond}
 use mathlib.Core.List.{List, [], _∷_}
-use Prim.Native.Nat.{ℕ, _+_, _*_, _^_, _<_, _≤_}
+use Prim.Native.Nat.{ℕ, _+_, _*_, _-_, _^_, _<_, _≤_}
 use lib.Dec.{leb, ltb, eqb}
 use lib.ListN.{length, getD}
 use Rattle.definition.specs.Plane.{Edge}
@@ -24,7 +24,7 @@ birth w b n i = getD w (b + n + i) 0
 abbrev pub next : List ℕ → ℕ → ℕ → ℕ → ℕ
 next w b n i = getD w (b + 2 * n + i) 0
 
--- the first record of node v; n: none
+-- the first record of list v; n: none
 abbrev pub head : List ℕ → ℕ → ℕ → ℕ → ℕ
 head w b n v = getD w (b + 3 * n + v) 0
 
@@ -52,10 +52,14 @@ Same w w' b m = Stays w w' b (b + m)
 
 -- ---- the records of a list of edges, newest first: a record's number is how many are older
 
--- the newest record of an edge whose smaller node is u; n: there is none
-unfoldable pub newest : ℕ → ℕ → List Edge → ℕ
-newest n u [] = n
-newest n u (e ∷ es) = cond (eqb (e .0) u) (length es) (newest n u es)
+-- the list of an edge of p nodes: with the larger node it tells the smaller
+unfoldable pub list-of : ℕ → Edge → ℕ
+list-of p e = cond (ltb (e .0 + e .1) p) (e .0 + e .1) (e .0 + e .1 - p)
+
+-- the newest record in list u; n: there is none
+unfoldable pub newest : ℕ → ℕ → ℕ → List Edge → ℕ
+newest n p u [] = n
+newest n p u (e ∷ es) = cond (eqb (list-of p e) u) (length es) (newest n p u es)
 
 -- the record of e; n: there is none
 unfoldable pub place : ℕ → Edge → List Edge → ℕ
@@ -72,18 +76,18 @@ abbrev pub Distinct : ℕ → List Edge → Type 0
 Distinct p [] = Unit {0}
 Distinct p (e ∷ es) = IsEdge p e × (has-edge-in es e ≡ false) × Distinct p es
 
--- each edge has its record: the other node, and before which record it came into its list
-abbrev pub Written : (ℕ → ℕ) → (ℕ → ℕ) → ℕ → List Edge → Type 0
-Written other next n [] = Unit {0}
-Written other next n (e ∷ es) = (other (length es) ≡ e .1) × (next (length es) ≡ newest n (e .0) es) × Written other next n es
+-- each edge has its record: the larger node, and before which record it came into its list
+abbrev pub Written : (ℕ → ℕ) → (ℕ → ℕ) → ℕ → ℕ → List Edge → Type 0
+Written other next n p [] = Unit {0}
+Written other next n p (e ∷ es) = (other (length es) ≡ e .1) × (next (length es) ≡ newest n p (list-of p e) es) × Written other next n p es
 
 -- the area's lists are those of the records of ever
 pub record Lists (w : List ℕ) (b n p : ℕ) (ever : List Edge) : Type 0 where
   pub room : Room w b n p
   pub count : length ever ≤ n
   pub distinct : Distinct p ever
-  pub heads : (v : ℕ) → v < p → head w b n v ≡ newest n v ever
-  pub written : Written (other w b) (next w b n) n ever
+  pub heads : (v : ℕ) → v < p → head w b n v ≡ newest n p v ever
+  pub written : Written (other w b) (next w b n) n p ever
 
 -- e has a record whose birth is at least `touched` of both its nodes
 unfoldable pub stands : List ℕ → ℕ → ℕ → ℕ → List Edge → Edge → Bool

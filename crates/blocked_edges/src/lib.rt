@@ -1,10 +1,10 @@
 // Refused edges in lent memory: records that are never removed, in an area of a slice at b with room for n records and p nodes.
 ghost use mathlib.Core.Path.{_≡_};
 ghost use mathlib.Core.List.{List};
-ghost use Prim.Native.Nat.{ℕ, _<_};
+ghost use Prim.Native.Nat.{ℕ, _^_, _<_, _≤_};
 ghost use Rattle.definition.specs.Plane.{Edge};
 ghost use Rattle.definition.specs.Cells.{has-edge-in};
-ghost use Rattle.blocked_edges.specs.Records.{Room, IsEdge, Lists, place};
+ghost use Rattle.blocked_edges.specs.Records.{Room, IsEdge, Lists, list-of, place};
 ghost use Rattle.blocked_edges.specs.Blocks.{Blocks, OpenTo, CanBlock, BlockTo, CanFree, FreeTo};
 
 // A number of the slice as an index.
@@ -27,13 +27,27 @@ pub fn open(w: &mut [u32], b: usize, n: usize, p: usize)
     }
 }
 
-// The record of the edge u-v; n: it has none. Time: the length of u's list.
+// The list of the edge u-v, by the sum of its nodes: the edges of one node stand in different lists.
+fn list_of(p: usize, u: usize, v: usize) -> usize
+    requires { ⌜ IsEdge p (u, v) ⌝ }
+    requires { ⌜ p ≤ 2 ^ 32 ⌝ }
+    ensures { λ r. ⌜ (r ≡ list-of p (u, v)) × (r < p) ⌝ }
+{
+    let sum = u + v;
+    if sum < p {
+        return sum;
+    }
+    sum - p
+}
+
+// The record of the edge u-v; n: it has none. Time: the length of its list.
 fn seek(w: &[u32], b: usize, n: usize, p: usize, u: usize, v: usize) -> usize
     requires { ⌜ ((ever : List Edge) × Lists (now w) b n p ever) ⌝ }
-    requires { ⌜ u < p ⌝ }
+    requires { ⌜ IsEdge p (u, v) ⌝ }
     ensures { λ r. ⌜ ((ever : List Edge) → Lists (now (w .entry)) b n p ever → r ≡ place n (u, v) ever) ⌝ }
 {
-    let mut i = wide(w[b + 3 * n + u]);
+    let g = list_of(p, u, v);
+    let mut i = wide(w[b + 3 * n + g]);
     while i < n {
         if wide(w[b + i]) == v {
             return i;
@@ -83,11 +97,12 @@ pub fn block(
         w[b + n + i] = k as u32;
         return c;
     }
-    let first = w[b + 3 * n + u];
+    let g = list_of(p, u, v);
+    let first = w[b + 3 * n + g];
     w[b + c] = v as u32;
     w[b + n + c] = k as u32;
     w[b + 2 * n + c] = first;
-    w[b + 3 * n + u] = c as u32;
+    w[b + 3 * n + g] = c as u32;
     c + 1
 }
 

@@ -1,4 +1,4 @@
-// Owners of an edge, found by walking the ring of corners of one of its nodes; of a front edge a note may tell.
+// Owners of an edge, found by walking the ring of corners of one of its nodes, in the same order around both; of a front edge a note may tell.
 use crate::layout::BEFORE;
 use crate::layout::CORNERS;
 use crate::layout::fronts_at;
@@ -6,14 +6,18 @@ use crate::layout::notes_at;
 use rings::next;
 use rings::wide;
 ghost use mathlib.Core.Path.{_≡_};
+ghost use mathlib.Core.Bool.{true};
 ghost use mathlib.Core.List.{List, [], _∷_};
 ghost use Prim.Native.Nat.{_+_, _*_, _/_, _<_, _≤_};
 ghost use lib.Dec.{eqb};
 ghost use lib.ListN.{length, getD};
 ghost use Rattle.definition.specs.Cells.{Live, Mesh, key, owners, is-front, has-edge, tri-owner};
-ghost use Rattle.cells.specs.Rep.{Rep};
+ghost use Rattle.cells.specs.Rep.{Rep, Room};
 ghost use Rattle.cells.specs.Notes.{IsNoted};
 ghost use Rattle.cells.specs.Walk.{node-in, node-after, node-before, after, before, beside, CanSee, CanRead, IsEdge, Pos, Sought, At, Next, one-if, slot-or};
+
+// A ring of no more corners is walked, whatever the other end's ring has.
+const FEW: usize = 12;
 
 // The kind of the cell in slot i: 3 a triangle, 4 a quad, 0 none.
 pub fn kind(w: &[u32], s: usize, i: usize) -> usize
@@ -136,6 +140,60 @@ pub fn has_edge(w: &[u32], s: usize, p: usize, u: usize, v: usize) -> bool
     first_owner(w, s, p, u, v) < CORNERS * s
 }
 
+// The ring of u has more than FEW corners.
+fn is_long(w: &[u32], s: usize, p: usize, u: usize) -> bool
+    requires { ⌜ Room (now w) s p ⌝ }
+    requires { ⌜ u < p ⌝ }
+{
+    let mut c = next(w, BEFORE * s, CORNERS * s + p, CORNERS * s + u);
+    let mut n: usize = 0;
+    while n < FEW {
+        if c >= CORNERS * s {
+            return false;
+        }
+        c = next(w, BEFORE * s, CORNERS * s + p, c);
+        n += 1;
+    }
+    c < CORNERS * s
+}
+
+// Followed in step, the ring of v ends before that of u. No ring has more corners than there are slots.
+fn ends_before(w: &[u32], s: usize, p: usize, u: usize, v: usize) -> bool
+    requires { ⌜ Room (now w) s p ⌝ }
+    requires { ⌜ (u < p) × (v < p) ⌝ }
+{
+    let mut a = next(w, BEFORE * s, CORNERS * s + p, CORNERS * s + u);
+    let mut b = next(w, BEFORE * s, CORNERS * s + p, CORNERS * s + v);
+    let mut n: usize = 0;
+    while n < s {
+        if a >= CORNERS * s {
+            return false;
+        }
+        if b >= CORNERS * s {
+            return true;
+        }
+        a = next(w, BEFORE * s, CORNERS * s + p, a);
+        b = next(w, BEFORE * s, CORNERS * s + p, b);
+        n += 1;
+    }
+    false
+}
+
+// The owners of u-v are better sought around v, which has a ring: that of u is long, and that of v is shorter.
+fn is_shorter(w: &[u32], s: usize, p: usize, u: usize, v: usize) -> bool
+    requires { ⌜ Room (now w) s p ⌝ }
+    requires { ⌜ u < p ⌝ }
+    ensures { λ r. ⌜ (r ≡ true → v < p) ⌝ }
+{
+    if v >= p {
+        return false;
+    }
+    if is_long(w, s, p, u) {
+        return ends_before(w, s, p, u, v);
+    }
+    false
+}
+
 // One where slot i holds a triangle, else nothing.
 fn tri_count(w: &[u32], s: usize, i: usize) -> usize
     requires { ⌜ CanSee (now w) s i ⌝ }
@@ -147,8 +205,8 @@ fn tri_count(w: &[u32], s: usize, i: usize) -> usize
     0
 }
 
-// The edge u-v has one or two owners, exactly one of them a triangle: found by a walk.
-fn front_by_walk(w: &[u32], s: usize, p: usize, u: usize, v: usize) -> bool
+// The edge u-v has one or two owners, exactly one of them a triangle: found by a walk around u.
+fn front_around(w: &[u32], s: usize, p: usize, u: usize, v: usize) -> bool
     requires { ⌜ ((m : Mesh) × Rep (now w) s p m) ⌝ }
     requires { ⌜ IsEdge p u v ⌝ }
     ensures { λ r. ⌜ ((m : Mesh) → Rep (now (w .entry)) s p m → r ≡ is-front m (key u v)) ⌝ }
@@ -168,6 +226,18 @@ fn front_by_walk(w: &[u32], s: usize, p: usize, u: usize, v: usize) -> bool
         c = next_owner(w, s, p, u, v, c);
     }
     tri == 1
+}
+
+// The same, around the end with the shorter ring.
+fn front_by_walk(w: &[u32], s: usize, p: usize, u: usize, v: usize) -> bool
+    requires { ⌜ ((m : Mesh) × Rep (now w) s p m) ⌝ }
+    requires { ⌜ IsEdge p u v ⌝ }
+    ensures { λ r. ⌜ ((m : Mesh) → Rep (now (w .entry)) s p m → r ≡ is-front m (key u v)) ⌝ }
+{
+    if is_shorter(w, s, p, u, v) {
+        return front_around(w, s, p, v, u);
+    }
+    front_around(w, s, p, u, v)
 }
 
 // The same for u below v where the front edges of u are noted: v is one of the noted ends, of which there are known - 1.
@@ -204,7 +274,7 @@ fn front_from(w: &[u32], s: usize, p: usize, u: usize, v: usize) -> bool
     front_by_note(w, s, p, u, v, known)
 }
 
-// The same for u above v: by the note of v, and by a walk around u.
+// The same for u above v: by the note of v, and by a walk where its front edges are not noted.
 fn front_to(w: &[u32], s: usize, p: usize, u: usize, v: usize) -> bool
     requires { ⌜ ((m : Mesh) × Rep (now w) s p m) ⌝ }
     requires { ⌜ IsEdge p u v ⌝ }
@@ -218,7 +288,7 @@ fn front_to(w: &[u32], s: usize, p: usize, u: usize, v: usize) -> bool
     front_by_note(w, s, p, v, u, known)
 }
 
-// The edge u-v has one or two owners, exactly one of them a triangle. A walk goes around u.
+// The edge u-v has one or two owners, exactly one of them a triangle.
 pub fn is_front(w: &[u32], s: usize, p: usize, u: usize, v: usize) -> bool
     requires { ⌜ ((m : Mesh) × Rep (now w) s p m) ⌝ }
     requires { ⌜ IsEdge p u v ⌝ }
@@ -230,8 +300,8 @@ pub fn is_front(w: &[u32], s: usize, p: usize, u: usize, v: usize) -> bool
     front_to(w, s, p, u, v)
 }
 
-// The slot of the first triangle that has the edge u-v; s: there is none.
-pub fn tri_owner(w: &[u32], s: usize, p: usize, u: usize, v: usize) -> usize
+// The slot of the first triangle that has the edge u-v; s: there is none. A walk around u tells: for callers that name a node of few cells first.
+pub fn tri_around(w: &[u32], s: usize, p: usize, u: usize, v: usize) -> usize
     requires { ⌜ ((m : Mesh) × Rep (now w) s p m) ⌝ }
     requires { ⌜ IsEdge p u v ⌝ }
     ensures { λ r. ⌜ ((m : Mesh) → Rep (now (w .entry)) s p m → r ≡ slot-or s (tri-owner m (key u v))) ⌝ }
@@ -244,4 +314,16 @@ pub fn tri_owner(w: &[u32], s: usize, p: usize, u: usize, v: usize) -> usize
         c = next_owner(w, s, p, u, v, c);
     }
     s
+}
+
+// The same, around the end with the shorter ring.
+pub fn tri_owner(w: &[u32], s: usize, p: usize, u: usize, v: usize) -> usize
+    requires { ⌜ ((m : Mesh) × Rep (now w) s p m) ⌝ }
+    requires { ⌜ IsEdge p u v ⌝ }
+    ensures { λ r. ⌜ ((m : Mesh) → Rep (now (w .entry)) s p m → r ≡ slot-or s (tri-owner m (key u v))) ⌝ }
+{
+    if is_shorter(w, s, p, u, v) {
+        return tri_around(w, s, p, v, u);
+    }
+    tri_around(w, s, p, u, v)
 }

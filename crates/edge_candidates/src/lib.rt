@@ -5,7 +5,7 @@ mod words;
 use crate::wishes::Wish;
 use crate::wishes::ideal_toward;
 use crate::words::get;
-use cells::find::tri_owner;
+use cells::find::tri_around;
 use plane::vectors::Vec;
 use plane::vectors::dot;
 use plane::vectors::from_to;
@@ -160,7 +160,7 @@ pub fn edge_candidate(
     if !edge_reach(n, target) {
         return false;
     }
-    if tri_owner(w, s, p, v, a) >= s {
+    if tri_around(w, s, p, v, a) >= s {
         return false;
     }
     near_ideal(w, q, s, a, b, o, left, over(d, n))

@@ -62,7 +62,7 @@ returns-5 c =
     let t = e2 .before .before .before .before in
     let a = t .args in
     λ m r k z y. edge-bare (turn (a .left)) m (a .a) (a .other) (a .target) (a .v) (e2 .if2 .left) (e3 .if3 .left)
-    (owner-none (a .w .now) (a .s) (a .p) m r (key (a .a) (a .v)) (to .tri-owner .result) (to .tri-owner .ensures m r ∙ ap (λ (x : Edge). slot-or (a .s) (tri-owner m x)) (key-swap (a .v) (a .a))) (c .if5 .taken))
+    (owner-none (a .w .now) (a .s) (a .p) m r (key (a .a) (a .v)) (to .tri-around .result) (to .tri-around .ensures m r ∙ ap (λ (x : Edge). slot-or (a .s) (tri-owner m x)) (key-swap (a .v) (a .a))) (c .if5 .taken))
 
 returns-6 : tie.Need-returns-6
 returns-6 c =
@@ -82,8 +82,8 @@ returns-6 c =
     let d : vec (ft .from-to .result) ≡ toward m (a .a) (a .v) = toward-read (a .q .now) (a .p) m k (a .a) (a .v) y (vec (ft .from-to .result)) (ft .from-to .ensures) in
     let n : nm .norm .result ≡ norm (toward m (a .a) (a .v)) = nm .norm .ensures ∙ ap norm d in
     let o : vec (ov .over .result) ≡ over (toward m (a .a) (a .v)) (norm (toward m (a .a) (a .v))) = ov .over .ensures ∙ ap (λ (x : Vec). over x (nm .norm .result)) d ∙ ap (over (toward m (a .a) (a .v))) n in
-    let f = owner-found (a .w .now) (a .s) (a .p) m r (key (a .a) (a .v)) (to .tri-owner .result) (to .tri-owner .ensures m r ∙ ap (λ (x : Edge). slot-or (a .s) (tri-owner m x)) (key-swap (a .v) (a .a))) (e5 .if5 .left) in
-    edge-near (turn (a .left)) m (a .a) (a .other) (a .target) (a .v) (c .near-ideal .result) (new-live (to .tri-owner .result) (tri (f .t))) (e2 .if2 .left) (e3 .if3 .left)
+    let f = owner-found (a .w .now) (a .s) (a .p) m r (key (a .a) (a .v)) (to .tri-around .result) (to .tri-around .ensures m r ∙ ap (λ (x : Edge). slot-or (a .s) (tri-owner m x)) (key-swap (a .v) (a .a))) (e5 .if5 .left) in
+    edge-near (turn (a .left)) m (a .a) (a .other) (a .target) (a .v) (c .near-ideal .result) (new-live (to .tri-around .result) (tri (f .t))) (e2 .if2 .left) (e3 .if3 .left)
     (sym (not-false (er .edge-reach .result) (e4 .if4 .left)) ∙ er .edge-reach .ensures ∙ ap (λ (x : Float). edge-reach x (a .target)) n) (f .is)
     (sym (z .near) ∙ e1 .if1 .left)
     (c .near-ideal .ensures m (a .p) (a .other) k z ∙ ap (λ (x : Vec). near-ideal (turn (a .left)) m (a .a) (a .other) x (vec (ov .over .result))) (z .unit)
