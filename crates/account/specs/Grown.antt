@@ -32,10 +32,10 @@ Grown e (ended w n m) = Unit {0}
 
 -- and a quad that the pair gave
 abbrev Gave : Edge → Tried → Type 0
-Gave e (made q m) = q .edge ≡ e
-Gave e (failed why m) = Unit {0}
+Gave e (made j q m) = q .edge ≡ e
+Gave e (failed j why m) = Unit {0}
 Gave e orphaned = Unit {0}
-Gave e (no-slot m) = Unit {0}
+Gave e (no-slot j m) = Unit {0}
 
 -- so for the quads of some trials
 abbrev From : Edge → List Trial → Type 0
@@ -44,35 +44,35 @@ From e ts = (t : Trial) → In t ts → t .nodes .edge ≡ e
 -- ---- the pairs in their turns
 
 module _ (s : Settings) (e : Edge) where
-  replace-gave : (m : Mesh) (q : Quad) (cells : List Live) → q .edge ≡ e → Gave e (replace s m q cells)
+  replace-gave : (j : ℕ) (m : Mesh) (q : Quad) (cells : List Live) → q .edge ≡ e → Gave e (replace s j m q cells)
   unfolding replace born
-  replace-gave m q cells h = cond-ok (Gave e) (ltb (s .slots) (m .used + 1)) _ _ (λ z. tt) (λ z. h)
+  replace-gave j m q cells h = cond-ok (Gave e) (ltb (s .slots) (m .used + 1)) _ _ (λ z. tt) (λ z. h)
 
-  region-gave : (m : Mesh) (q : Quad) (o : Option (List Live)) → q .edge ≡ e → Gave e (try-region s m q o)
+  region-gave : (j : ℕ) (m : Mesh) (q : Quad) (o : Option (List Live)) → q .edge ≡ e → Gave e (try-region s j m q o)
   unfolding try-region
-  region-gave m q none h = tt
-  region-gave m q (some cells) h = cond-ok (Gave e) (s .even && removing-leaves-odd-component m cells) _ _ (λ z. tt) (λ z. replace-gave m q cells h)
+  region-gave j m q none h = tt
+  region-gave j m q (some cells) h = cond-ok (Gave e) (s .even && removing-leaves-odd-component m cells) _ _ (λ z. tt) (λ z. replace-gave j m q cells h)
 
   pair-gave : (m : Mesh) (q : Quad) (o : Option Live) → q .edge ≡ e → Gave e (try-pair s m q o)
   unfolding try-pair try-recovered
   pair-gave m q none h = tt
   pair-gave m q (some x) h =
       let w = recover-all m (open-sides q) in
-      cond-ok (Gave e) (w .there) _ _ (λ z. region-gave (w .mesh) q (region (w .mesh) (x .slot) q) h) (λ z. tt)
+      cond-ok (Gave e) (w .there) _ _ (λ z. region-gave (w .flips) (w .mesh) q (region (w .mesh) (x .slot) q) h) (λ z. tt)
 
   pairs-case : (n : Spent) (m : Mesh) (f : Edge) (last : Refusal) (t : Trial) (ts : List Trial) (r : Tried) → try-pair s m (t .nodes) (tri-owner m f) ≡ r → Gave e r
-      → ((m′ : Mesh) (why : Refusal) → Grown e (try-pairs s (trying n) m′ f why ts)) → Grown e (try-pairs s n m f last (t ∷ ts))
+      → ((j : ℕ) (m′ : Mesh) (why : Refusal) → Grown e (try-pairs s (trying j n) m′ f why ts)) → Grown e (try-pairs s n m f last (t ∷ ts))
   unfolding try-pairs
-  pairs-case n m f last t ts (made q m′) g h next = rw (g, try-pairs) h
-  pairs-case n m f last t ts (failed why m′) g h next = rw (g, try-pairs) (next m′ why)
+  pairs-case n m f last t ts (made j q m′) g h next = rw (g, try-pairs) h
+  pairs-case n m f last t ts (failed j why m′) g h next = rw (g, try-pairs) (next j m′ why)
   pairs-case n m f last t ts orphaned g h next = rw (g, try-pairs) tt
-  pairs-case n m f last t ts (no-slot m′) g h next = rw (g, try-pairs) tt
+  pairs-case n m f last t ts (no-slot j m′) g h next = rw (g, try-pairs) tt
 
   pairs-grown : (n : Spent) (m : Mesh) (f : Edge) (last : Refusal) (ts : List Trial) → From e ts → Grown e (try-pairs s n m f last ts)
   unfolding try-pairs
   pairs-grown n m f last [] h = tt
   pairs-grown n m f last (t ∷ ts) h =
-      pairs-case n m f last t ts (try-pair s m (t .nodes) (tri-owner m f)) refl (pair-gave m (t .nodes) (tri-owner m f) (h t (inl refl))) (λ m′ why. pairs-grown (trying n) m′ f why ts (λ u i. h u (inr i)))
+      pairs-case n m f last t ts (try-pair s m (t .nodes) (tri-owner m f)) refl (pair-gave m (t .nodes) (tri-owner m f) (h t (inl refl))) (λ j m′ why. pairs-grown (trying j n) m′ f why ts (λ u i. h u (inr i)))
 
   trials-grown : (n : Spent) (m : Mesh) (f : Edge) (ts : List Trial) → From e ts → Grown e (try-trials s n m f ts)
   unfolding try-trials

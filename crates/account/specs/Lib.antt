@@ -58,6 +58,7 @@ pub mod Attempts
 pub mod Trials
 pub mod Smaller
 pub mod Jobs
+pub mod Previews
 pub mod Listed
 pub mod LiveTris
 pub mod Meshes

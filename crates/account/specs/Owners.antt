@@ -139,15 +139,15 @@ module _ (s : Settings) (e : Edge) where
 
   -- what a pair leaves
   abbrev Fine : Tried → Type 0
-  Fine (made q m) = Unit {0}
-  Fine (failed why m) = (why ≢ Placement) × Owned 0 m
+  Fine (made j q m) = Unit {0}
+  Fine (failed j why m) = (why ≢ Placement) × Owned 0 m
   Fine orphaned = ⊥
-  Fine (no-slot m) = Unit {0}
+  Fine (no-slot j m) = Unit {0}
 
-  region-fine : (m : Mesh) (q : Quad) (o : Option (List Live)) → Owned 0 m → Fine (try-region s m q o)
+  region-fine : (j : ℕ) (m : Mesh) (q : Quad) (o : Option (List Live)) → Owned 0 m → Fine (try-region s j m q o)
   unfolding try-region replace
-  region-fine m q none h = (other Region tt, h)
-  region-fine m q (some cells) h =
+  region-fine j m q none h = (other Region tt, h)
+  region-fine j m q (some cells) h =
       cond-ok Fine (s .even && removing-leaves-odd-component m cells) _ _ (λ z. (other OddRegion tt, h))
       (λ z. cond-ok Fine (ltb (s .slots) (m .used + 1)) _ _ (λ y. tt) (λ y. tt))
 
@@ -157,24 +157,24 @@ module _ (s : Settings) (e : Edge) where
       let o = owner-there m e (h .1) in
       let r = recover-all m (open-sides q) in
       let k = recover-all-ok Owned owned-flips 0 m (open-sides q) h in
-      rw (o .1) (cond-ok Fine (r .there) _ _ (λ z. region-fine (r .mesh) q (region (r .mesh) (o .0 .slot) q) k) (λ z. (other Recovery tt, k)))
+      rw (o .1) (cond-ok Fine (r .there) _ _ (λ z. region-fine (r .flips) (r .mesh) q (region (r .mesh) (o .0 .slot) q) k) (λ z. (other Recovery tt, k)))
 
   -- no pair finds the edge without an owner
   pub never-orphaned : (m : Mesh) (q : Quad) → Owned 0 m → try-pair s m q (tri-owner m e) ≢ orphaned
   never-orphaned m q h f = subst Fine f (pair-fine m q h)
 
   pairs-case : (n : Spent) (m : Mesh) (last : Refusal) (t : Trial) (ts : List Trial) (r : Tried) → try-pair s m (t .nodes) (tri-owner m e) ≡ r → Fine r
-      → ((why : Refusal) (m′ : Mesh) → why ≢ Placement → Owned 0 m′ → By-pair (try-pairs s (trying n) m′ e why ts)) → By-pair (try-pairs s n m e last (t ∷ ts))
+      → ((j : ℕ) (why : Refusal) (m′ : Mesh) → why ≢ Placement → Owned 0 m′ → By-pair (try-pairs s (trying j n) m′ e why ts)) → By-pair (try-pairs s n m e last (t ∷ ts))
   unfolding try-pairs
-  pairs-case n m last t ts (made q m′) f h next = rw (f, try-pairs) tt
-  pairs-case n m last t ts (failed why m′) f h next = rw (f, try-pairs) (next why m′ (h .0) (h .1))
+  pairs-case n m last t ts (made j q m′) f h next = rw (f, try-pairs) tt
+  pairs-case n m last t ts (failed j why m′) f h next = rw (f, try-pairs) (next j why m′ (h .0) (h .1))
   pairs-case n m last t ts orphaned f h next = absurd h
-  pairs-case n m last t ts (no-slot m′) f h next = rw (f, try-pairs) tt
+  pairs-case n m last t ts (no-slot j m′) f h next = rw (f, try-pairs) tt
 
   pairs-by : (n : Spent) (m : Mesh) (last : Refusal) (ts : List Trial) → last ≢ Placement → Owned 0 m → By-pair (try-pairs s n m e last ts)
   unfolding try-pairs
   pairs-by n m last [] l h = l
-  pairs-by n m last (t ∷ ts) l h = pairs-case n m last t ts (try-pair s m (t .nodes) (tri-owner m e)) refl (pair-fine m (t .nodes) h) (λ why m′ l′ h′. pairs-by (trying n) m′ why ts l′ h′)
+  pairs-by n m last (t ∷ ts) l h = pairs-case n m last t ts (try-pair s m (t .nodes) (tri-owner m e)) refl (pair-fine m (t .nodes) h) (λ j why m′ l′ h′. pairs-by (trying j n) m′ why ts l′ h′)
 
   trials-by : (n : Spent) (m : Mesh) (ts : List Trial) → Owned 0 m → By-pair (try-trials s n m e ts)
   unfolding try-trials

@@ -76,18 +76,18 @@ module _ (k : ℕ) (s : Settings) where
   unfolding side-nodes limited-to
   side-nodes-same t f n m p other = sides-from-same f n m p (candidates (s .quality) t m p other (f .seed) (f .normal) (f .target))
 
-  replace-same : (m : Mesh) (q : Quad) (cells : List Live) → replace s′ m q cells ≡ replace s m q cells
+  replace-same : (j : ℕ) (m : Mesh) (q : Quad) (cells : List Live) → replace s′ j m q cells ≡ replace s j m q cells
   unfolding replace limited-to
-  replace-same m q cells = refl
+  replace-same j m q cells = refl
 
-  region-same : (m : Mesh) (q : Quad) (o : Option (List Live)) → try-region s′ m q o ≡ try-region s m q o
+  region-same : (j : ℕ) (m : Mesh) (q : Quad) (o : Option (List Live)) → try-region s′ j m q o ≡ try-region s j m q o
   unfolding try-region limited-to
-  region-same m q none = refl
-  region-same m q (some cells) = ap (λ z. cond (s .even && removing-leaves-odd-component m cells) (failed OddRegion m) z) (replace-same m q cells)
+  region-same j m q none = refl
+  region-same j m q (some cells) = ap (λ z. cond (s .even && removing-leaves-odd-component m cells) (failed j OddRegion m) z) (replace-same j m q cells)
 
   recovered-same : (seed : ℕ) (q : Quad) (r : Recovered) → try-recovered s′ seed q r ≡ try-recovered s seed q r
   unfolding try-recovered
-  recovered-same seed q r = ap (λ z. cond (r .there) z (failed Recovery (r .mesh))) (region-same (r .mesh) q (region (r .mesh) seed q))
+  recovered-same seed q r = ap (λ z. cond (r .there) z (failed (r .flips) Recovery (r .mesh))) (region-same (r .flips) (r .mesh) q (region (r .mesh) seed q))
 
   pair-same : (m : Mesh) (q : Quad) (o : Option Live) → try-pair s′ m q o ≡ try-pair s m q o
   unfolding try-pair
@@ -95,17 +95,17 @@ module _ (k : ℕ) (s : Settings) where
   pair-same m q (some x) = recovered-same (x .slot) q (recover-all m (open-sides q))
 
   pairs-case : (n : Spent) (m : Mesh) (e : Edge) (last : Refusal) (t : Trial) (ts : List Trial) (r : Tried) → try-pair s m (t .nodes) (tri-owner m e) ≡ r
-      → ((m : Mesh) (last : Refusal) → try-pairs s′ (trying n) m e last ts ≡ try-pairs s (trying n) m e last ts) → try-pairs s′ n m e last (t ∷ ts) ≡ try-pairs s n m e last (t ∷ ts)
+      → ((j : ℕ) (m : Mesh) (last : Refusal) → try-pairs s′ (trying j n) m e last ts ≡ try-pairs s (trying j n) m e last ts) → try-pairs s′ n m e last (t ∷ ts) ≡ try-pairs s n m e last (t ∷ ts)
   unfolding try-pairs
-  pairs-case n m e last t ts (made q m′) f next = rw (pair-same m (t .nodes) (tri-owner m e), f, try-pairs) refl
-  pairs-case n m e last t ts (failed why m′) f next = rw (pair-same m (t .nodes) (tri-owner m e), f, try-pairs) (next m′ why)
+  pairs-case n m e last t ts (made j q m′) f next = rw (pair-same m (t .nodes) (tri-owner m e), f, try-pairs) refl
+  pairs-case n m e last t ts (failed j why m′) f next = rw (pair-same m (t .nodes) (tri-owner m e), f, try-pairs) (next j m′ why)
   pairs-case n m e last t ts orphaned f next = rw (pair-same m (t .nodes) (tri-owner m e), f, try-pairs) refl
-  pairs-case n m e last t ts (no-slot m′) f next = rw (pair-same m (t .nodes) (tri-owner m e), f, try-pairs) refl
+  pairs-case n m e last t ts (no-slot j m′) f next = rw (pair-same m (t .nodes) (tri-owner m e), f, try-pairs) refl
 
   pairs-same : (n : Spent) (m : Mesh) (e : Edge) (last : Refusal) (ts : List Trial) → try-pairs s′ n m e last ts ≡ try-pairs s n m e last ts
   unfolding try-pairs
   pairs-same n m e last [] = refl
-  pairs-same n m e last (t ∷ ts) = pairs-case n m e last t ts (try-pair s m (t .nodes) (tri-owner m e)) refl (λ m last. pairs-same (trying n) m e last ts)
+  pairs-same n m e last (t ∷ ts) = pairs-case n m e last t ts (try-pair s m (t .nodes) (tri-owner m e)) refl (λ j m last. pairs-same (trying j n) m e last ts)
 
   trials-same : (n : Spent) (m : Mesh) (e : Edge) (ts : List Trial) → try-trials s′ n m e ts ≡ try-trials s n m e ts
   unfolding try-trials

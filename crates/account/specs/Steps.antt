@@ -23,7 +23,7 @@ use Rattle.definition.specs.Insertion.{Inserted, nowhere, inserted, full, holds
 use Rattle.definition.specs.Components.{removing-leaves-odd-component}
 use Rattle.definition.specs.Region.{cell-inside, area-agrees, fills, may-go, spares-locked, if-filled, region-from, region}
 use Rattle.definition.specs.Trials.{Trial, trials}
-use Rattle.definition.specs.Attempt.{Tried, made, failed, orphaned, no-slot, recover-all, replaced, replace, try-region, try-recovered, open-sides, try-pair, Attempt, placed, refused, ended, try-pairs, try-trials, Stance, Sides, found, missing, overfull, sides-by, sides-from, side-nodes, try-both, try-first, target-of, inward-normal, stance, try-along, lies-left, try-seed, try-owner, try-quad}
+use Rattle.definition.specs.Attempt.{Tried, made, failed, orphaned, no-slot, flipping, recover-all, replaced, replace, try-region, try-recovered, open-sides, try-pair, Attempt, placed, refused, ended, try-pairs, try-trials, Stance, Sides, found, missing, overfull, sides-by, sides-from, side-nodes, try-both, try-first, target-of, inward-normal, stance, try-along, lies-left, try-seed, try-owner, try-quad}
 use Rattle.definition.specs.Account.{measures}
 use Rattle.laws.specs.Bools.{which, or-none, cond-ok}
 use Rattle.laws.specs.Lists.{In, in-filter, known, in-below}
@@ -86,10 +86,10 @@ Sides-ok P (overfull w n m) = P (n .insertions) m
 
 -- ps are the points by which the pair's quad was rated
 abbrev pub Tried-ok : Settings → (ℕ → Mesh → Type 0) → ℕ → List Node → Tried → Type 0
-Tried-ok s P n ps (made q m) = Made s P n m q
-Tried-ok s P n ps (failed why m) = P n m × (m .points ≡ ps)
+Tried-ok s P n ps (made j q m) = Made s P n m q
+Tried-ok s P n ps (failed j why m) = P n m × (m .points ≡ ps)
 Tried-ok s P n ps orphaned = Unit {0}
-Tried-ok s P n ps (no-slot m) = P n m
+Tried-ok s P n ps (no-slot j m) = P n m
 
 -- what an attempt leaves
 abbrev pub Attempt-ok : Settings → (ℕ → Mesh → Type 0) → Attempt → Type 0
@@ -113,25 +113,25 @@ module _ (P : ℕ → Mesh → Type 0) (flips : Flips-keep P) where
   flip-first-ok k m m′ none p i e = absurd (let z : _≡_ {A = ℕ} 0 1 = cc in omega arith)
   flip-first-ok k m m′ (some f) p i e = flips k m m′ f p (i f refl) e
 
-  recover-in-ok : (n k : ℕ) (m : Mesh) (u v : ℕ) → P k m → P k (recover-in n m u v .mesh)
+  recover-in-ok : (n i k : ℕ) (m : Mesh) (u v : ℕ) → P k m → P k (recover-in n i m u v .mesh)
   unfolding recover-in
-  recover-in-ok zero k m u v p = p
-  recover-in-ok (suc n) k m u v p = elim (which (has-edge m u v)) [
+  recover-in-ok zero i k m u v p = p
+  recover-in-ok (suc n) i k m u v p = elim (which (has-edge m u v)) [
     | inl e ↦ rw (e, recover-in) p
     | inr e ↦ elim (known (flip-first m (first-crossing m u v))) [
       | inl f ↦ rw (e, recover-in, f) p
-      | inr g ↦ rw (e, recover-in, g .1) (recover-in-ok n k (g .0) u v (flip-first-ok k m (g .0) (first-crossing m u v) p (crossing-in m u v) (g .1)))
+      | inr g ↦ rw (e, recover-in, g .1) (recover-in-ok n (suc i) k (g .0) u v (flip-first-ok k m (g .0) (first-crossing m u v) p (crossing-in m u v) (g .1)))
     ]
   ]
 
   -- recovery is flips
   pub recover-ok : (k : ℕ) (m : Mesh) (u v : ℕ) → P k m → P k (recover m u v .mesh)
   unfolding recover
-  recover-ok k m u v p = recover-in-ok (m .used) k m u v p
+  recover-ok k m u v p = recover-in-ok (m .used) 0 k m u v p
 
   -- so is that of several sides
   pub recover-all-ok : (k : ℕ) (m : Mesh) (es : List Edge) → P k m → P k (recover-all m es .mesh)
-  unfolding recover-all
+  unfolding recover-all flipping
   recover-all-ok k m [] p = p
   recover-all-ok k m (e ∷ es) p =
       let r = recover m (e .0) (e .1) in
@@ -240,11 +240,11 @@ unfolding region
 born-region m seed r k q = born-from m r k q (cell-of m seed)
 
 module _ (s : Settings) (P : ℕ → Mesh → Type 0) (flips : Flips-keep P) where
-  replace-ok : (k : ℕ) (m : Mesh) (q : Quad) (seed : ℕ) (cells : List Live) → P k m → Tri-at m seed → Rated (s .quality) (m .points) q
+  replace-ok : (k j : ℕ) (m : Mesh) (q : Quad) (seed : ℕ) (cells : List Live) → P k m → Tri-at m seed → Rated (s .quality) (m .points) q
       → region m seed q ≡ some cells
-      → (s .even ≡ true → removing-leaves-odd-component m cells ≡ false) → Tried-ok s P k (m .points) (replace s m q cells)
+      → (s .even ≡ true → removing-leaves-odd-component m cells ≡ false) → Tried-ok s P k (m .points) (replace s j m q cells)
   unfolding replace born
-  replace-ok k m q seed cells h sd r e f =
+  replace-ok k j m q seed cells h sd r e f =
       cond-ok (Tried-ok s P k (m .points)) (ltb (s .slots) (m .used + 1)) _ _ (λ z. h)
       (λ z. record {
         mesh = m;
@@ -261,13 +261,13 @@ module _ (s : Settings) (P : ℕ → Mesh → Type 0) (flips : Flips-keep P) whe
         after = refl;
       })
 
-  try-region-ok : (k : ℕ) (m : Mesh) (q : Quad) (seed : ℕ) (o : Option (List Live)) → P k m → Tri-at m seed → Rated (s .quality) (m .points) q
-      → region m seed q ≡ o → Tried-ok s P k (m .points) (try-region s m q o)
+  try-region-ok : (k j : ℕ) (m : Mesh) (q : Quad) (seed : ℕ) (o : Option (List Live)) → P k m → Tri-at m seed → Rated (s .quality) (m .points) q
+      → region m seed q ≡ o → Tried-ok s P k (m .points) (try-region s j m q o)
   unfolding try-region
-  try-region-ok k m q seed none h sd r e = (h, refl)
-  try-region-ok k m q seed (some cells) h sd r e =
+  try-region-ok k j m q seed none h sd r e = (h, refl)
+  try-region-ok k j m q seed (some cells) h sd r e =
       cond-ok (Tried-ok s P k (m .points)) (s .even && removing-leaves-odd-component m cells) _ _ (λ z. (h, refl))
-      (λ z. replace-ok k m q seed cells h sd r e (λ ev. rw ev at z))
+      (λ z. replace-ok k j m q seed cells h sd r e (λ ev. rw ev at z))
 
   try-pair-ok : (k : ℕ) (m : Mesh) (q : Quad) (o : Option Live) → P k m → Rated (s .quality) (m .points) q → ((x : Live) → o ≡ some x → Tri-at m (x .slot))
       → Tried-ok s P k (m .points) (try-pair s m q o)
@@ -280,17 +280,17 @@ module _ (s : Settings) (P : ℕ → Mesh → Type 0) (flips : Flips-keep P) whe
       (λ n a b e h i f. (flips n a b e (h .0) i f, flip-tri-at a e b (x .slot) f (h .1), flip-points a e b f ∙ h .2)) k m (open-sides q) (h, sd x refl, refl) in
       let r′ = subst (λ ps. Rated (s .quality) ps q) (sym (kept .2)) r in
       cond-ok (Tried-ok s P k (m .points)) (w .there) _ _
-      (λ z. subst (λ ps. Tried-ok s P k ps (try-region s (w .mesh) q (region (w .mesh) (x .slot) q))) (kept .2) (try-region-ok k (w .mesh) q (x .slot) (region (w .mesh) (x .slot) q) (kept .0) (kept .1) r′ refl))
+      (λ z. subst (λ ps. Tried-ok s P k ps (try-region s (w .flips) (w .mesh) q (region (w .mesh) (x .slot) q))) (kept .2) (try-region-ok k (w .flips) (w .mesh) q (x .slot) (region (w .mesh) (x .slot) q) (kept .0) (kept .1) r′ refl))
       (λ z. (kept .0, kept .2))
 
   try-pairs-case : (k : Spent) (m : Mesh) (e : Edge) (last : Refusal) (t : Trial) (ts : List Trial) (r : Tried) → P (k .insertions) m
       → try-pair s m (t .nodes) (tri-owner m e) ≡ r → Tried-ok s P (k .insertions) (m .points) r
-      → ((why : Refusal) (m′ : Mesh) → P (k .insertions) m′ → m′ .points ≡ m .points → Attempt-ok s P (try-pairs s (trying k) m′ e why ts)) → Attempt-ok s P (try-pairs s k m e last (t ∷ ts))
+      → ((j : ℕ) (why : Refusal) (m′ : Mesh) → P (k .insertions) m′ → m′ .points ≡ m .points → Attempt-ok s P (try-pairs s (trying j k) m′ e why ts)) → Attempt-ok s P (try-pairs s k m e last (t ∷ ts))
   unfolding try-pairs trying
-  try-pairs-case k m e last t ts (made q m′) h f ok next = rw (f, try-pairs) ok
-  try-pairs-case k m e last t ts (failed why m′) h f ok next = rw (f, try-pairs) (next why m′ (ok .0) (ok .1))
+  try-pairs-case k m e last t ts (made j q m′) h f ok next = rw (f, try-pairs) ok
+  try-pairs-case k m e last t ts (failed j why m′) h f ok next = rw (f, try-pairs) (next j why m′ (ok .0) (ok .1))
   try-pairs-case k m e last t ts orphaned h f ok next = rw (f, try-pairs) h
-  try-pairs-case k m e last t ts (no-slot m′) h f ok next = rw (f, try-pairs) ok
+  try-pairs-case k m e last t ts (no-slot j m′) h f ok next = rw (f, try-pairs) ok
 
   owner-at : (m : Mesh) (e : Edge) (x : Live) → tri-owner m e ≡ some x → Tri-at m (x .slot)
   owner-at m e x f = let w = owner-in m e x f in record { x = x; at = w .at; slot-is = refl; is-one = w .is-one }
@@ -301,7 +301,7 @@ module _ (s : Settings) (P : ℕ → Mesh → Type 0) (flips : Flips-keep P) whe
   try-pairs-ok k m e last [] h r = h
   try-pairs-ok k m e last (t ∷ ts) h r =
       try-pairs-case k m e last t ts (try-pair s m (t .nodes) (tri-owner m e)) h refl (try-pair-ok (k .insertions) m (t .nodes) (tri-owner m e) h (r t (inl refl)) (owner-at m e))
-      (λ why m′ h′ same. try-pairs-ok (trying k) m′ e why ts h′ (λ u i. subst (λ ps. Rated (s .quality) ps (u .nodes)) (sym same) (r u (inr i))))
+      (λ j why m′ h′ same. try-pairs-ok (trying j k) m′ e why ts h′ (λ u i. subst (λ ps. Rated (s .quality) ps (u .nodes)) (sym same) (r u (inr i))))
 
   -- the pairs in their order
   pub try-trials-ok : (k : Spent) (m : Mesh) (e : Edge) (ts : List Trial) → P (k .insertions) m → ((t : Trial) → In t ts → Rated (s .quality) (m .points) (t .nodes))

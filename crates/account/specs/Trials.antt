@@ -55,19 +55,19 @@ none-number s = omega arith
 module _ (s : Settings) (e : Edge) where
   -- what a pair leaves
   abbrev Fine : Quad → Tried → Type 0
-  Fine q (made p m) = quad-nodes p ≡ quad-nodes q
-  Fine q (failed why m) = Owned s e 0 m
+  Fine q (made j p m) = quad-nodes p ≡ quad-nodes q
+  Fine q (failed j why m) = Owned s e 0 m
   Fine q orphaned = ⊥
-  Fine q (no-slot m) = Unit {0}
+  Fine q (no-slot j m) = Unit {0}
 
-  replace-fine : (m : Mesh) (q : Quad) (cells : List Live) → Fine q (replace s m q cells)
+  replace-fine : (j : ℕ) (m : Mesh) (q : Quad) (cells : List Live) → Fine q (replace s j m q cells)
   unfolding replace born quad-nodes
-  replace-fine m q cells = cond-ok (Fine q) (ltb (s .slots) (m .used + 1)) _ _ (λ z. tt) (λ z. refl)
+  replace-fine j m q cells = cond-ok (Fine q) (ltb (s .slots) (m .used + 1)) _ _ (λ z. tt) (λ z. refl)
 
-  region-fine : (m : Mesh) (q : Quad) (o : Option (List Live)) → Owned s e 0 m → Fine q (try-region s m q o)
+  region-fine : (j : ℕ) (m : Mesh) (q : Quad) (o : Option (List Live)) → Owned s e 0 m → Fine q (try-region s j m q o)
   unfolding try-region
-  region-fine m q none h = h
-  region-fine m q (some cells) h = cond-ok (Fine q) (s .even && removing-leaves-odd-component m cells) _ _ (λ z. h) (λ z. replace-fine m q cells)
+  region-fine j m q none h = h
+  region-fine j m q (some cells) h = cond-ok (Fine q) (s .even && removing-leaves-odd-component m cells) _ _ (λ z. h) (λ z. replace-fine j m q cells)
 
   pair-fine : (m : Mesh) (q : Quad) → Owned s e 0 m → Fine q (try-pair s m q (tri-owner m e))
   unfolding try-pair try-recovered
@@ -75,7 +75,7 @@ module _ (s : Settings) (e : Edge) where
       let o = owner-there m e (h .1) in
       let r = recover-all m (open-sides q) in
       let k = recover-all-ok (Owned s e) (owned-flips s e) 0 m (open-sides q) h in
-      rw (o .1) (cond-ok (Fine q) (r .there) _ _ (λ z. region-fine (r .mesh) q (region (r .mesh) (o .0 .slot) q) k) (λ z. k))
+      rw (o .1) (cond-ok (Fine q) (r .there) _ _ (λ z. region-fine (r .flips) (r .mesh) q (region (r .mesh) (o .0 .slot) q) k) (λ z. k))
 
   later : (n : ℕ) (t : Trial) (ts : List Trial) (a : Attempt) → Exactly (suc n) ts a → Exactly n (t ∷ ts) a
   later n t ts (placed k m q) h = (t ∷ h .0, h .1, h .2, ap (λ l. t ∷ l) (h .3), omega (arith, h .4), h .5)
@@ -83,18 +83,18 @@ module _ (s : Settings) (e : Edge) where
   later n t ts (ended w k m) h = omega arith
 
   pairs-case : (k : Spent) (m : Mesh) (last : Refusal) (t : Trial) (ts : List Trial) (r : Tried) → try-pair s m (t .nodes) (tri-owner m e) ≡ r → Fine (t .nodes) r
-      → ((why : Refusal) (m′ : Mesh) → Owned s e 0 m′ → Exactly (suc (k .trials)) ts (try-pairs s (trying k) m′ e why ts)) → Exactly (k .trials) (t ∷ ts) (try-pairs s k m e last (t ∷ ts))
+      → ((j : ℕ) (why : Refusal) (m′ : Mesh) → Owned s e 0 m′ → Exactly (suc (k .trials)) ts (try-pairs s (trying j k) m′ e why ts)) → Exactly (k .trials) (t ∷ ts) (try-pairs s k m e last (t ∷ ts))
   unfolding try-pairs trying
-  pairs-case k m last t ts (made p m′) f h next = rw (f, try-pairs) ([], t, ts, refl, omega arith, h)
-  pairs-case k m last t ts (failed why m′) f h next = rw (f, try-pairs) (later (k .trials) t ts (try-pairs s (trying k) m′ e why ts) (next why m′ h))
+  pairs-case k m last t ts (made j p m′) f h next = rw (f, try-pairs) ([], t, ts, refl, omega arith, h)
+  pairs-case k m last t ts (failed j why m′) f h next = rw (f, try-pairs) (later (k .trials) t ts (try-pairs s (trying j k) m′ e why ts) (next j why m′ h))
   pairs-case k m last t ts orphaned f h next = absurd h
-  pairs-case k m last t ts (no-slot m′) f h next = rw (f, try-pairs) (omega arith)
+  pairs-case k m last t ts (no-slot j m′) f h next = rw (f, try-pairs) (omega arith)
 
   pairs-exact : (k : Spent) (m : Mesh) (last : Refusal) (ts : List Trial) → Owned s e 0 m → Exactly (k .trials) ts (try-pairs s k m e last ts)
   unfolding try-pairs trying
   pairs-exact k m last [] h = omega arith
   pairs-exact k m last (t ∷ ts) h =
-      pairs-case k m last t ts (try-pair s m (t .nodes) (tri-owner m e)) refl (pair-fine m (t .nodes) h) (λ why m′ h′. pairs-exact (trying k) m′ why ts h′)
+      pairs-case k m last t ts (try-pair s m (t .nodes) (tri-owner m e)) refl (pair-fine m (t .nodes) h) (λ j why m′ h′. pairs-exact (trying j k) m′ why ts h′)
 
   trials-exactly : (k : Spent) (m : Mesh) (ts : List Trial) → Owned s e 0 m → Exactly (k .trials) ts (try-trials s k m e ts)
   unfolding try-trials
@@ -141,17 +141,17 @@ module _ (s : Settings) (e : Edge) where
   up-later n t ts (ended w k m) h = omega arith
 
   up-case : (k : Spent) (m : Mesh) (last : Refusal) (t : Trial) (ts : List Trial) (r : Tried) → try-pair s m (t .nodes) (tri-owner m e) ≡ r
-      → ((why : Refusal) (m′ : Mesh) → Up-to (suc (k .trials)) ts (try-pairs s (trying k) m′ e why ts)) → Up-to (k .trials) (t ∷ ts) (try-pairs s k m e last (t ∷ ts))
+      → ((j : ℕ) (why : Refusal) (m′ : Mesh) → Up-to (suc (k .trials)) ts (try-pairs s (trying j k) m′ e why ts)) → Up-to (k .trials) (t ∷ ts) (try-pairs s k m e last (t ∷ ts))
   unfolding try-pairs trying
-  up-case k m last t ts (made p m′) f next = rw (f, try-pairs) (omega arith)
-  up-case k m last t ts (failed why m′) f next = rw (f, try-pairs) (up-later (k .trials) t ts (try-pairs s (trying k) m′ e why ts) (next why m′))
+  up-case k m last t ts (made j p m′) f next = rw (f, try-pairs) (omega arith)
+  up-case k m last t ts (failed j why m′) f next = rw (f, try-pairs) (up-later (k .trials) t ts (try-pairs s (trying j k) m′ e why ts) (next j why m′))
   up-case k m last t ts orphaned f next = rw (f, try-pairs) (omega arith)
-  up-case k m last t ts (no-slot m′) f next = rw (f, try-pairs) (omega arith)
+  up-case k m last t ts (no-slot j m′) f next = rw (f, try-pairs) (omega arith)
 
   pairs-up : (k : Spent) (m : Mesh) (last : Refusal) (ts : List Trial) → Up-to (k .trials) ts (try-pairs s k m e last ts)
   unfolding try-pairs trying
   pairs-up k m last [] = omega arith
-  pairs-up k m last (t ∷ ts) = up-case k m last t ts (try-pair s m (t .nodes) (tri-owner m e)) refl (λ why m′. pairs-up (trying k) m′ why ts)
+  pairs-up k m last (t ∷ ts) = up-case k m last t ts (try-pair s m (t .nodes) (tri-owner m e)) refl (λ j why m′. pairs-up (trying j k) m′ why ts)
 
   trials-up : (k : Spent) (m : Mesh) (ts : List Trial) → Up-to (k .trials) ts (try-trials s k m e ts)
   unfolding try-trials

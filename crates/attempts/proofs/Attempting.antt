@@ -502,13 +502,13 @@ module _ (x : Setup) (w : List ℕ) (q : List Float) (quads : List ℕ) (g : Sta
   was-front b h e = sym (front-as b h) ∙ not-false b e
 
   -- off the front nothing is tried
-  pub off-to : (t : Tried) → Plain ends.Placement (g .counters) 0 0 t → AttemptTo w q q (x .rules) (g .counters) (refused Placement nothing-spent (st .mesh)) t
+  pub off-to : (t : Tried) → Plain ends.Placement (g .counters) 0 0 0 t → AttemptTo w q q (x .rules) (g .counters) (refused Placement nothing-spent (st .mesh)) t
   unfolding end-of nothing-spent
   off-to t h = (
     h .end,
     record {
       ready = subst (λ (z : Counters). Ready w q (x .rules) z (st .mesh)) (sym (h .counters)) (ready x w q quads g st u v es k);
-      spent = ap (λ (z : ℕ). spent z (t .trials)) (h .inserted) ∙ ap (spent 0) (h .trials);
+      spent = ap (λ (z : ℕ). spent z (t .trials) (t .flips)) (h .inserted) ∙ ap (λ (z : ℕ). spent 0 z (t .flips)) (h .trials) ∙ ap (spent 0 0) (h .flips);
       attempts = ap (λ c. c .attempts) (h .counters);
       behind = record { len = refl; rest = refl };
     },

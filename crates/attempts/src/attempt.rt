@@ -55,7 +55,7 @@ fn make_attempt(
 {
     let c = g.counters;
     if !is_front(w, rules.slots, rules.capacity, u, v) {
-        let off = without_quad(End::Placement, c, 0, 0);
+        let off = without_quad(End::Placement, c, 0, 0, 0);
         return settle(w, quads, rules.slots, rules.capacity, g, off, u, v);
     }
     let t = try_quad(w, q, j, rules, c, u, v);

@@ -21,43 +21,47 @@ use Rattle.definition.specs.Trials.{Trial, trials}
 -- ---- one pair
 
 -- the quad stands; the pair failed, and the next one's turn comes; no triangle owns the edge any more; no slot is left for the quad.
--- The flips of a pair that failed stay.
+-- The number is that of the pair's flips; those of a pair that failed stay.
 pub data Tried : Type 0 where
-  made : Quad → Mesh → Tried
-  failed : Refusal → Mesh → Tried
+  made : ℕ → Quad → Mesh → Tried
+  failed : ℕ → Refusal → Mesh → Tried
   orphaned : Tried
-  no-slot : Mesh → Tried
+  no-slot : ℕ → Mesh → Tried
+
+-- k flips more
+unfoldable pub flipping : ℕ → Recovered → Recovered
+flipping k r = record { there = r .there; flips = k + r .flips; mesh = r .mesh }
 
 -- the sides one after the other, until one cannot be recovered
 unfoldable pub recover-all : Mesh → List Edge → Recovered
-recover-all m [] = record { there = true; mesh = m }
+recover-all m [] = record { there = true; flips = 0; mesh = m }
 recover-all m (e ∷ es) =
     let r = recover m (e .0) (e .1) in
-    elim (r .there) [ true ↦ recover-all (r .mesh) es | false ↦ r ]
+    elim (r .there) [ true ↦ flipping (r .flips) (recover-all (r .mesh) es) | false ↦ r ]
 
 -- the quad in place of the region's cells, in a slot of its own
 unfoldable pub replaced : Mesh → Quad → List Live → Mesh
 replaced m q cells = push-cell (remove-cells m cells) (quad q)
 
--- with its birth, if a slot is left
-unfoldable pub replace : Settings → Mesh → Quad → List Live → Tried
-replace s m q cells =
+-- with its birth, if a slot is left; k flips were made
+unfoldable pub replace : Settings → ℕ → Mesh → Quad → List Live → Tried
+replace s k m q cells =
     let b = born (this-round m) (length cells) q in
-    let done = made b (replaced m b cells) in
-    cond (ltb (s .slots) (m .used + 1)) (no-slot m) done
+    let done = made k b (replaced m b cells) in
+    cond (ltb (s .slots) (m .used + 1)) (no-slot k m) done
 
--- the region is refused, or is refused as odd, or gives way to the quad
-unfoldable pub try-region : Settings → Mesh → Quad → Option (List Live) → Tried
-try-region s m q none = failed Region m
-try-region s m q (some cells) =
+-- the region is refused, or is refused as odd, or gives way to the quad, after k flips
+unfoldable pub try-region : Settings → ℕ → Mesh → Quad → Option (List Live) → Tried
+try-region s k m q none = failed k Region m
+try-region s k m q (some cells) =
     let odd = removing-leaves-odd-component m cells in
-    cond (s .even && odd) (failed OddRegion m) (replace s m q cells)
+    cond (s .even && odd) (failed k OddRegion m) (replace s k m q cells)
 
 -- the seed was taken before the recovery
 unfoldable pub try-recovered : Settings → ℕ → Quad → Recovered → Tried
 try-recovered s seed q r =
-    let next = try-region s (r .mesh) q (region (r .mesh) seed q) in
-    cond (r .there) next (failed Recovery (r .mesh))
+    let next = try-region s (r .flips) (r .mesh) q (region (r .mesh) seed q) in
+    cond (r .there) next (failed (r .flips) Recovery (r .mesh))
 
 -- the sides of the quad a b d c that are not the front edge a b, in the order in which they are recovered
 unfoldable pub open-sides : Quad → List Edge
@@ -81,10 +85,10 @@ unfoldable pub try-pairs : Settings → Spent → Mesh → Edge → Refusal → 
 try-pairs s n m e last [] = refused last n m
 try-pairs s n m e last (t ∷ ts) =
     elim (try-pair s m (t .nodes) (tri-owner m e)) [
-      | made q m′ ↦ placed (trying n) m′ q
-      | failed why m′ ↦ try-pairs s (trying n) m′ e why ts
+      | made k q m′ ↦ placed (trying k n) m′ q
+      | failed k why m′ ↦ try-pairs s (trying k n) m′ e why ts
       | orphaned ↦ refused Placement n m
-      | no-slot m′ ↦ ended of-slots (trying n) m′
+      | no-slot k m′ ↦ ended of-slots (trying k n) m′
     ]
 
 -- without a pair the attempt is refused under the shape

@@ -118,23 +118,24 @@ unfoldable pub flip-first : Mesh → Option Edge → Option Mesh
 flip-first m none = none
 flip-first m (some e) = flip m e
 
--- whether the edge is there, and the mesh after the flips
+-- whether the edge is there, the flips made, and the mesh after them
 pub record Recovered : Type 0 where
   pub there : Bool
+  pub flips : ℕ
   pub mesh : Mesh
 
--- at most n flips; the flips made stay
-unfoldable pub recover-in : ℕ → Mesh → ℕ → ℕ → Recovered
-recover-in zero m u v = record { there = has-edge m u v; mesh = m }
-recover-in (suc n) m u v =
+-- at most n flips after the k made so far; the flips made stay
+unfoldable pub recover-in : ℕ → ℕ → Mesh → ℕ → ℕ → Recovered
+recover-in zero k m u v = record { there = has-edge m u v; flips = k; mesh = m }
+recover-in (suc n) k m u v =
     elim (has-edge m u v) [
-      | true ↦ record { there = true; mesh = m }
+      | true ↦ record { there = true; flips = k; mesh = m }
       | false ↦ elim (flip-first m (first-crossing m u v)) [
-        | none ↦ record { there = false; mesh = m }
-        | some flipped-once ↦ recover-in n flipped-once u v
+        | none ↦ record { there = false; flips = k; mesh = m }
+        | some flipped-once ↦ recover-in n (suc k) flipped-once u v
       ]
     ]
 
 -- as many flips as slots were given out, removed ones included
 unfoldable pub recover : Mesh → ℕ → ℕ → Recovered
-recover m u v = recover-in (m .used) m u v
+recover m u v = recover-in (m .used) 0 m u v

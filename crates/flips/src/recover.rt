@@ -9,6 +9,12 @@ ghost use Rattle.joints.specs.Table.{Locks};
 ghost use Rattle.crossings.specs.Cross.{Known, Segment};
 ghost use Rattle.flips.specs.Recover.{Recovers};
 
+// Whether the edge is there then, and the flips made.
+pub struct Recovered {
+    pub there: bool,
+    pub flips: usize,
+}
+
 // The edge u-v recovered by flips of edges that cross it, at most as many as slots were given out; the flips made stay.
 pub fn recover(
     w: &mut [u32],
@@ -21,7 +27,7 @@ pub fn recover(
     bucket: f64,
     u: usize,
     v: usize,
-) -> bool
+) -> Recovered
     requires { ⌜ ((m : Mesh) × Known (now w) (now q) s p n bucket m × (m .used ≡ used) × Locks (now j) (m .locked)) ⌝ }
     requires { ⌜ Segment n u v ⌝ }
     ensures { λ r. ⌜ Recovers (now (w .entry)) (now (w .exit)) (now (q .entry)) (now (j .entry)) s p n used bucket u v r ⌝ }
@@ -29,16 +35,26 @@ pub fn recover(
     let mut k = 0;
     while k < used {
         if has_edge(w, s, p, u, v) {
-            return true;
+            return Recovered {
+                there: true,
+                flips: k,
+            };
         }
         let e = first_crossing(w, q, s, p, n, bucket, u, v);
         let Crossing::At(a, b) = e else {
-            return false;
+            return Recovered {
+                there: false,
+                flips: k,
+            };
         };
         if !flip(w, q, j, s, p, a, b) {
-            return false;
+            return Recovered {
+                there: false,
+                flips: k,
+            };
         }
         k += 1;
     }
-    has_edge(w, s, p, u, v)
+    let there = has_edge(w, s, p, u, v);
+    Recovered { there, flips: k }
 }

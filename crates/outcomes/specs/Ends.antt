@@ -14,20 +14,21 @@ use Rattle.outcomes.specs.declared.End.{End}
 use Rattle.outcomes.specs.declared.End.the-variants as ends
 use Rattle.outcomes.specs.declared.Tried.{Tried}
 
--- so many insertions and trials
-abbrev pub spent : ℕ → ℕ → Spent
-spent n k = record { insertions = n; trials = k }
+-- so many insertions, trials and flips
+abbrev pub spent : ℕ → ℕ → ℕ → Spent
+spent n k f = record { insertions = n; trials = k; flips = f }
 
 -- insertions alone, as before the first pair is tried
 abbrev pub only-inserted : ℕ → Spent
-only-inserted n = spent n 0
+only-inserted n = spent n 0 0
 
--- the end, the counters, the insertions and the trials as handed in
-pub record Plain (e : End) (c : Counters) (n k : ℕ) (r : Tried) : Type 0 where
+-- the end, the counters, the insertions, the trials and the flips as handed in
+pub record Plain (e : End) (c : Counters) (n k f : ℕ) (r : Tried) : Type 0 where
   pub end : r .end ≡ e
   pub counters : r .counters ≡ c
   pub inserted : r .inserted ≡ n
   pub trials : r .trials ≡ k
+  pub flips : r .flips ≡ f
 
 -- the end that stands for a refusal
 unfoldable pub end-of : Refusal → End
@@ -53,7 +54,7 @@ pub record Grew (k : Quad) (r : Tried) : Type 0 where
 
 -- what the attempt spent
 abbrev pub spent-of : Tried → Spent
-spent-of r = spent (r .inserted) (r .trials)
+spent-of r = spent (r .inserted) (r .trials) (r .flips)
 
 -- the slices and the counters stand for the mesh m after n was spent; c were the counters before
 pub record Left (w' : List ℕ) (q q' : List Float) (rules : Rules) (c : Counters) (n : Spent) (m : Mesh) (r : Tried) : Type 0 where

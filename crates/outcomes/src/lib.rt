@@ -15,12 +15,13 @@ pub enum End {
     NoSlots,
 }
 
-// The end of an attempt, the counters after it, the insertions that it made, the pairs that it tried, and where a quad is placed its nodes and how many triangles it replaced.
+// The end of an attempt, the counters after it, the insertions that it made, the pairs that it tried and the flips that it made, and where a quad is placed its nodes and how many triangles it replaced.
 pub struct Tried {
     pub end: End,
     pub counters: Counters,
     pub inserted: usize,
     pub trials: usize,
+    pub flips: usize,
     pub n0: usize,
     pub n1: usize,
     pub n2: usize,
@@ -29,14 +30,21 @@ pub struct Tried {
 }
 
 // An end without a quad.
-pub fn without_quad(end: End, counters: Counters, inserted: usize, trials: usize) -> Tried
-    ensures { λ r. ⌜ Plain end counters inserted trials r ⌝ }
+pub fn without_quad(
+    end: End,
+    counters: Counters,
+    inserted: usize,
+    trials: usize,
+    flips: usize,
+) -> Tried
+    ensures { λ r. ⌜ Plain end counters inserted trials flips r ⌝ }
 {
     Tried {
         end,
         counters,
         inserted,
         trials,
+        flips,
         n0: 0,
         n1: 0,
         n2: 0,

@@ -30,16 +30,16 @@ all-locks-stay j m es l = subst (Locks j) (sym (recover-all-locked m es)) l
 
 -- the locked edges are k afterwards
 abbrev Kept : (Edge → Bool) → Tried → Type 0
-Kept k (made q m) = m .locked ≡ k
-Kept k (failed why m) = m .locked ≡ k
+Kept k (made n q m) = m .locked ≡ k
+Kept k (failed n why m) = m .locked ≡ k
 Kept k orphaned = Unit {0}
-Kept k (no-slot m) = m .locked ≡ k
+Kept k (no-slot n m) = m .locked ≡ k
 
 module _ (s : Settings) (q : Quad) (k : Edge → Bool) where
-  region-kept : (m : Mesh) (o : Option (List Live)) → m .locked ≡ k → Kept k (try-region s m q o)
+  region-kept : (n : ℕ) (m : Mesh) (o : Option (List Live)) → m .locked ≡ k → Kept k (try-region s n m q o)
   unfolding try-region replace
-  region-kept m none h = h
-  region-kept m (some xs) h =
+  region-kept n m none h = h
+  region-kept n m (some xs) h =
       cond-ok (Kept k) (s .even && removing-leaves-odd-component m xs) _ _ (λ z. h) (λ z. cond-ok (Kept k) (ltb (s .slots) (m .used + 1)) _ _ (λ y. h) (λ y. replaced-locked m (born (this-round m) (length xs) q) xs ∙ h))
 
   pair-kept : (m : Mesh) (o : Option Live) → m .locked ≡ k → Kept k (try-pair s m q o)
@@ -48,8 +48,8 @@ module _ (s : Settings) (q : Quad) (k : Edge → Bool) where
   pair-kept m (some x) h =
       let r = recover-all m (open-sides q) in
       let e : r .mesh .locked ≡ k = recover-all-locked m (open-sides q) ∙ h in
-      cond-ok (Kept k) (r .there) _ _ (λ z. region-kept (r .mesh) (region (r .mesh) (x .slot) q) e) (λ z. e)
+      cond-ok (Kept k) (r .there) _ _ (λ z. region-kept (r .flips) (r .mesh) (region (r .mesh) (x .slot) q) e) (λ z. e)
 
 -- what a pair that failed leaves
-pub failed-locked : (s : Settings) (m : Mesh) (q : Quad) (o : Option Live) (why : Refusal) (m' : Mesh) → try-pair s m q o ≡ failed why m' → m' .locked ≡ m .locked
-failed-locked s m q o why m' e = subst (Kept (m .locked)) e (pair-kept s q (m .locked) m o refl)
+pub failed-locked : (s : Settings) (m : Mesh) (q : Quad) (o : Option Live) (n : ℕ) (why : Refusal) (m' : Mesh) → try-pair s m q o ≡ failed n why m' → m' .locked ≡ m .locked
+failed-locked s m q o n why m' e = subst (Kept (m .locked)) e (pair-kept s q (m .locked) m o refl)

@@ -78,7 +78,7 @@ module _ (w quads : List ℕ) (s p : ℕ) (g : Standing) (t : Tried) (u v : ℕ)
   so-far = record { blocks = can .so-far .blocks; records = tm .records ∙ can .so-far .records; number = tm .quads ∙ can .so-far .number; text = can .so-far .text }
 
   counted : Counted-on g t (counts-of g ⊞ spending (spent-of t)) h
-  counted = record { counters = tm .counters; counts = tm .counts }
+  counted = record { counters = tm .counters; counts = λ a. tm .counts a (t .flips) }
 
   -- ---- a quad
 
@@ -92,7 +92,7 @@ module _ (w quads : List ℕ) (s p : ℕ) (g : Standing) (t : Tried) (u v : ℕ)
         kept = to .kept;
         placed = λ f. record {
           kind = to .kind;
-          counted = record { counters = to .standing .counters ∙ tm .counters; counts = λ a. to .standing .counts ∙ tm .counts a };
+          counted = record { counters = to .standing .counters ∙ tm .counters; counts = λ a. to .standing .counts ∙ tm .counts a (t .flips) };
           so-far = to .so-far;
         };
         refused = λ why f. absurd (omega (arith, e, sort-of-refusal (t .end) why f));
@@ -133,7 +133,7 @@ module _ (w quads : List ℕ) (s p : ℕ) (g : Standing) (t : Tried) (u v : ℕ)
               let number = m .quads ∙ tm .quads ∙ can .so-far .number in
               record {
                 kind = to .kind;
-                counted = record { counters = to .standing .counters ∙ m .counters ∙ tm .counters; counts = λ a. to .standing .counts ∙ m .counts ∙ ap (λ z. z ⊞ refused-by why) (tm .counts a) };
+                counted = record { counters = to .standing .counters ∙ m .counters ∙ tm .counters; counts = λ a. to .standing .counts ∙ m .counts ∙ ap (λ z. z ⊞ refused-by why) (tm .counts a (t .flips)) };
                 so-far = record {
                   blocks = subst (λ (z : ℕ). Blocks w' (refused-at s p) (3 * s) p z (with-edge (u, v) ever) ((u, v) ∷ bl)) number (to .blocks);
                   records = to .standing .records;
@@ -154,7 +154,7 @@ module _ (w quads : List ℕ) (s p : ℕ) (g : Standing) (t : Tried) (u v : ℕ)
   ends-as wt r k f =
       record {
         kind = k;
-        counted = record { counters = ap (λ z. z .counters) f ∙ tm .counters; counts = λ a. ap counts-of f ∙ tm .counts a };
+        counted = record { counters = ap (λ z. z .counters) f ∙ tm .counters; counts = λ a. ap counts-of f ∙ tm .counts a (t .flips) };
         so-far = record { blocks = can .so-far .blocks; records = ap (λ z. z .records) f ∙ so-far .records; number = ap (λ z. z .quads) f ∙ so-far .number; text = can .so-far .text };
       }
 

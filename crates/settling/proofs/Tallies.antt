@@ -36,9 +36,9 @@ pub emptied-counts : (t : Tally) (a : ℕ) → tally (t .«front_empty» + 1) a 
 unfolding tally _⊞_ emptied
 emptied-counts t a = same-counts _ _ (omega arith) (omega arith) (omega arith) (omega arith) (omega arith) (omega arith) (omega arith) (omega arith) (omega arith) (omega arith)
 
-pub tried-counts : (t : Tally) (a b n k : ℕ) → b ≡ a → tally (t .«front_empty») b (t .placement) (t .«invalid_quad») (t .recovery) (t .region) (t .«odd_region») (t .«mismatch_insertions» + n) (t .limit) (t .trials + k) ≡ counts-by t a ⊞ spending (spent n k)
+pub tried-counts : (t : Tally) (a b n k f : ℕ) → b ≡ a → tally (t .«front_empty») b (t .placement) (t .«invalid_quad») (t .recovery) (t .region) (t .«odd_region») (t .«mismatch_insertions» + n) (t .limit) (t .trials + k) ≡ counts-by t a ⊞ spending (spent n k f)
 unfolding tally _⊞_ spending
-tried-counts t a b n k e = same-counts _ _ (omega arith) (omega arith) (omega arith) (omega arith) (omega arith) (omega arith) (omega arith) (omega arith) (omega arith) (omega arith)
+tried-counts t a b n k f e = same-counts _ _ (omega arith) (omega arith) (omega arith) (omega arith) (omega arith) (omega arith) (omega arith) (omega arith) (omega arith) (omega arith)
 
 refusal-counts : (t : Tally) (a : ℕ) (why : Refusal) → counts-by (tally-refused (end-of why) t) a ≡ counts-by t a ⊞ refused-by why
 unfolding tally _⊞_ refused-by end-of

@@ -92,7 +92,7 @@ pub record CountsMore (g : Standing) (c : Counts) (r : Standing) : Type 0 where
 -- n insertions and k trials more, and the counters are c; attempts stay where c has those of g
 pub record TriedMore (g : Standing) (c : Counters) (n k : ℕ) (r : Standing) : Type 0 where
   pub counters : r .counters ≡ c
-  pub counts : c .attempts ≡ g .counters .attempts → counts-of r ≡ counts-of g ⊞ spending (spent n k)
+  pub counts : c .attempts ≡ g .counters .attempts → (f : ℕ) → counts-of r ≡ counts-of g ⊞ spending (spent n k f)
   pub few : FewTally (r .tally)
   pub quads : r .quads ≡ g .quads
   pub records : r .records ≡ g .records

@@ -87,32 +87,32 @@ module _ (w : List ℕ) (q q' : List Float) (rules : Rules) (at : ℕ) (c : Coun
   at-found (overfull of-points n m) h e = clash (let a = h .0 in cc)
   at-found (overfull of-slots n m) h e = clash (let a = h .0 in cc)
 
-  left-plain : (n : Spent) (m : Mesh) (e : End) (t : Tried) → LeftAt w q q' rules c n m r → Plain e (r .counters) (r .inserted) 0 t → Left w q q' rules c n m t
+  left-plain : (n : Spent) (m : Mesh) (e : End) (t : Tried) → LeftAt w q q' rules c n m r → Plain e (r .counters) (r .inserted) 0 0 t → Left w q q' rules c n m t
   left-plain n m e t l h =
       record {
         ready = subst (λ (d : Counters). Ready w q' rules d m) (sym (h .counters)) (l .ready);
-        spent = spent-is (r .inserted) 0 t (h .inserted) (h .trials) ∙ l .spent;
+        spent = spent-is (r .inserted) 0 0 t (h .inserted) (h .trials) (h .flips) ∙ l .spent;
         attempts = ap (λ (d : Counters). d .attempts) (h .counters) ∙ l .attempts;
         behind = l .behind;
       }
 
   -- an attempt that goes on only where side nodes are found
   module _ (A : Sides → Attempt) (am : (n : Spent) (m : Mesh) → A (missing n m) ≡ refused Placement n m) (ao : (o : Want) (n : Spent) (m : Mesh) → A (overfull o n m) ≡ ended o n m) (t : Tried) where
-    pub if-missing : (x : Sides) → SidesAre w q q' rules at c x r → r .found ≡ founds.Missing → Plain ends.Placement (r .counters) (r .inserted) 0 t → AttemptTo w q q' rules c (A x) t
+    pub if-missing : (x : Sides) → SidesAre w q q' rules at c x r → r .found ≡ founds.Missing → Plain ends.Placement (r .counters) (r .inserted) 0 0 t → AttemptTo w q q' rules c (A x) t
     unfolding end-of
     if-missing (found cs n m) h e k = clash (let a = h .0 in cc)
     if-missing (missing n m) h e k = subst (λ (y : Attempt). AttemptTo w q q' rules c y t) (sym (am n m)) (k .end, left-plain n m ends.Placement t (h .1) k)
     if-missing (overfull of-points n m) h e k = clash (let a = h .0 in cc)
     if-missing (overfull of-slots n m) h e k = clash (let a = h .0 in cc)
 
-    pub if-no-point : (x : Sides) → SidesAre w q q' rules at c x r → r .found ≡ founds.NoPoint → Plain ends.NoPoint (r .counters) (r .inserted) 0 t → AttemptTo w q q' rules c (A x) t
+    pub if-no-point : (x : Sides) → SidesAre w q q' rules at c x r → r .found ≡ founds.NoPoint → Plain ends.NoPoint (r .counters) (r .inserted) 0 0 t → AttemptTo w q q' rules c (A x) t
     unfolding end-for
     if-no-point (found cs n m) h e k = clash (let a = h .0 in cc)
     if-no-point (missing n m) h e k = clash (let a = h .0 in cc)
     if-no-point (overfull of-points n m) h e k = subst (λ (y : Attempt). AttemptTo w q q' rules c y t) (sym (ao of-points n m)) (k .end, left-plain n m ends.NoPoint t (h .1) k)
     if-no-point (overfull of-slots n m) h e k = clash (let a = h .0 in cc)
 
-    pub if-no-slots : (x : Sides) → SidesAre w q q' rules at c x r → r .found ≡ founds.NoSlots → Plain ends.NoSlots (r .counters) (r .inserted) 0 t → AttemptTo w q q' rules c (A x) t
+    pub if-no-slots : (x : Sides) → SidesAre w q q' rules at c x r → r .found ≡ founds.NoSlots → Plain ends.NoSlots (r .counters) (r .inserted) 0 0 t → AttemptTo w q q' rules c (A x) t
     unfolding end-for
     if-no-slots (found cs n m) h e k = clash (let a = h .0 in cc)
     if-no-slots (missing n m) h e k = clash (let a = h .0 in cc)

@@ -65,7 +65,7 @@ counted-by w q q' rules at c (overfull of-slots n m) r h = ap (λ z. z .insertio
 
 -- ---- an attempt that ends before anything is done
 
-pub refused-at-once : (w : List ℕ) (q : List Float) (rules : Rules) (c : Counters) (m : Mesh) → Ready w q rules c m → (t : Tried) → Plain ends.Placement c 0 0 t
+pub refused-at-once : (w : List ℕ) (q : List Float) (rules : Rules) (c : Counters) (m : Mesh) → Ready w q rules c m → (t : Tried) → Plain ends.Placement c 0 0 0 t
     → (x : Attempt) → x ≡ refused Placement nothing-spent m → TriedTo w w q q rules c x t
 unfolding end-of nothing-spent
 refused-at-once w q rules c m y t k x e =
@@ -74,7 +74,7 @@ refused-at-once w q rules c m y t k x e =
         k .end,
         record {
           ready = subst (λ (d : Counters). Ready w q rules d m) (sym (k .counters)) y;
-          spent = spent-is 0 0 t (k .inserted) (k .trials);
+          spent = spent-is 0 0 0 t (k .inserted) (k .trials) (k .flips);
           attempts = ap (λ (d : Counters). d .attempts) (k .counters);
           behind = record { len = refl; rest = refl };
         },

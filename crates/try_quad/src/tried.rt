@@ -57,9 +57,9 @@ fn with_both(
     let c = far.counters;
     let inserted = far.inserted;
     match found {
-        Found::Missing => without_quad(End::Placement, c, inserted, 0),
-        Found::NoPoint => without_quad(End::NoPoint, c, inserted, 0),
-        Found::NoSlots => without_quad(End::NoSlots, c, inserted, 0),
+        Found::Missing => without_quad(End::Placement, c, inserted, 0, 0),
+        Found::NoPoint => without_quad(End::NoPoint, c, inserted, 0, 0),
+        Found::NoSlots => without_quad(End::NoSlots, c, inserted, 0, 0),
         Found::Found => {
             let mut scores = [0.0; ROOM];
             let mut nodes = [0; NODES];
@@ -101,9 +101,9 @@ fn with_first(
     let c = near.counters;
     let inserted = near.inserted;
     match found {
-        Found::Missing => without_quad(End::Placement, c, inserted, 0),
-        Found::NoPoint => without_quad(End::NoPoint, c, inserted, 0),
-        Found::NoSlots => without_quad(End::NoSlots, c, inserted, 0),
+        Found::Missing => without_quad(End::Placement, c, inserted, 0, 0),
+        Found::NoPoint => without_quad(End::NoPoint, c, inserted, 0, 0),
+        Found::NoSlots => without_quad(End::NoSlots, c, inserted, 0, 0),
         Found::Found => {
             let far = side_nodes(
                 w,
@@ -144,10 +144,10 @@ fn try_along(
     let long = norm(tangent);
     let target = target_of(rules.size, span);
     if target <= TINY_LENGTH {
-        return without_quad(End::Placement, c, 0, 0);
+        return without_quad(End::Placement, c, 0, 0, 0);
     }
     if long <= TINY_LENGTH {
-        return without_quad(End::Placement, c, 0, 0);
+        return without_quad(End::Placement, c, 0, 0, 0);
     }
     let normal = inward_normal(tangent, long);
     let mismatch = size_mismatch(span, target);
@@ -187,7 +187,7 @@ pub fn try_quad(
 {
     let seed = tri_owner(w, rules.slots, rules.capacity, u, v);
     if seed >= rules.slots {
-        return without_quad(End::Placement, c, 0, 0);
+        return without_quad(End::Placement, c, 0, 0, 0);
     }
     let apex = third(w, rules.slots, seed, u, v);
     if cross(q, u, v, apex) > 0.0 {

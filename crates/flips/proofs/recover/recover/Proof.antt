@@ -1,5 +1,5 @@
 -- After k flips the memory stands for a mesh from which the rest of the flips gives what the whole recovery gives.
-use mathlib.Core.Path.{_≡_, _∙_, subst}
+use mathlib.Core.Path.{_≡_, refl, _∙_, subst}
 use Prim.Native.Nat.{_-_, _≤_}
 use native.Mathlib.Omega.{arith}
 use borrow.Author.Needs.{needs}
@@ -9,7 +9,6 @@ use Rattle.laws.specs.Frames.{Keeps, keeps-refl, keeps-trans}
 use Rattle.cells.specs.Layout.{mesh-end}
 use Rattle.joints.specs.Table.{Locks}
 use Rattle.crossings.specs.Cross.{Known, FirstAt}
-use Rattle.joints.specs.Table.{Locks}
 use Rattle.crossings.specs.Crossings.{IsFirst}
 use Rattle.flips.proofs.Recovers.{is-edge, is-up, Going, going-start, going-as, going-there, going-none, going-stuck, going-on, going-end}
 use Rattle.flips.proofs.recover.recover.Statement.{statement}
@@ -47,8 +46,8 @@ returns c =
     record {
       is = λ m k e o.
           let g = l .loop .inv .2 m k e o in
-          going-there (l .loop .w) (a .q .now) (a .s) (a .p) (a .n) (a .used) (a .bucket) (a .u) (a .v) (l .loop .k) m e g (i .loop-test .taken)
-          (h .has-edge .result) (h .has-edge .ensures (g .mesh) (g .known .rep)) (c .if1 .taken);
+          going-there (l .loop .w) (a .q .now) (a .s) (a .p) (a .n) (a .used) (a .bucket) (a .u) (a .v) (l .loop .k) m e (l .loop .inv .0) g (i .loop-test .taken)
+          (h .has-edge .result) (h .has-edge .ensures (g .mesh) (g .known .rep)) _ (c .if1 .taken) (record { there = refl; flips = refl });
       keeps = l .loop .inv .1;
     }
 
@@ -81,9 +80,9 @@ returns-2 c =
           let g = l .loop .inv .2 m k e o in
           let z = f .first-crossing .ensures .1 (g .mesh) (g .known) in
           let g' = going-as (l .loop .w) w' (a .q .now) (a .s) (a .p) (a .n) (a .used) (a .bucket) (a .u) (a .v) (l .loop .k) m g (z .0) in
-          going-none w' (a .q .now) (a .s) (a .p) (a .n) (a .used) (a .bucket) (a .u) (a .v) (l .loop .k) m e g' (i .loop-test .taken)
-          (h .has-edge .result) (h .has-edge .ensures (g .mesh) (g .known .rep)) (e1 .if1 .left)
-          (subst (λ x. IsFirst (g .mesh) (a .n) (a .u) (a .v) x) (c .enum-told .given .1) (z .1));
+          going-none w' (a .q .now) (a .s) (a .p) (a .n) (a .used) (a .bucket) (a .u) (a .v) (l .loop .k) m e (l .loop .inv .0) g' (i .loop-test .taken)
+          (h .has-edge .result) (h .has-edge .ensures (g .mesh) (g .known .rep)) _ (e1 .if1 .left)
+          (subst (λ x. IsFirst (g .mesh) (a .n) (a .u) (a .v) x) (c .enum-told .given .1) (z .1)) (record { there = refl; flips = refl });
       keeps = keeps-trans (a .w .now) (l .loop .w) w' (mesh-end (a .s) (a .p)) (l .loop .inv .1) (f .first-crossing .ensures .0);
     }
 
@@ -124,10 +123,10 @@ returns-3 c =
           let g = l .loop .inv .2 m j e o in
           let z = f .first-crossing .ensures .1 (g .mesh) (g .known) in
           let g' = going-as (l .loop .w) w' (a .q .now) (a .s) (a .p) (a .n) (a .used) (a .bucket) (a .u) (a .v) (l .loop .k) m g (z .0) in
-          going-stuck w' (a .q .now) (a .s) (a .p) (a .n) (a .used) (a .bucket) (a .u) (a .v) (l .loop .k) m e g' (i .loop-test .taken)
+          going-stuck w' (a .q .now) (a .s) (a .p) (a .n) (a .used) (a .bucket) (a .u) (a .v) (l .loop .k) m e (l .loop .inv .0) g' (i .loop-test .taken)
           (h .has-edge .result) (h .has-edge .ensures (g .mesh) (g .known .rep)) (e1 .if1 .left) (k .before .e .given .0 .0) (k .before .e .given .0 .1 .0)
           (subst (λ x. IsFirst (g .mesh) (a .n) (a .u) (a .v) x) (k .before .e .given .1) (z .1))
-          (q .flip .last .0) (q .flip .result) (q .flip .ensures .is (g .mesh) (z .0 .rep) (z .0 .pts) (rw (g .locks) o)) (not-true (q .flip .result) (c .if2 .taken));
+          (q .flip .last .0) (q .flip .result) (q .flip .ensures .is (g .mesh) (z .0 .rep) (z .0 .pts) (rw (g .locks) o)) (not-true (q .flip .result) (c .if2 .taken)) _ (record { there = refl; flips = refl });
       keeps = keeps-trans (a .w .now) w' (q .flip .last .0) (mesh-end (a .s) (a .p)) (keeps-trans (a .w .now) (l .loop .w) w' (mesh-end (a .s) (a .p)) (l .loop .inv .1) (f .first-crossing .ensures .0))
           (q .flip .ensures .keeps);
     }
@@ -150,7 +149,7 @@ loop-again c =
           let g = l .loop .inv .2 m j e o in
           let z = f .first-crossing .ensures .1 (g .mesh) (g .known) in
           let g' = going-as (l .loop .w) w' (a .q .now) (a .s) (a .p) (a .n) (a .used) (a .bucket) (a .u) (a .v) (l .loop .k) m g (z .0) in
-          going-on w' (a .q .now) (a .s) (a .p) (a .n) (a .used) (a .bucket) (a .u) (a .v) (l .loop .k) m e g' (i .loop-test .taken)
+          going-on w' (a .q .now) (a .s) (a .p) (a .n) (a .used) (a .bucket) (a .u) (a .v) (l .loop .k) m e (l .loop .inv .0) g' (i .loop-test .taken)
           (h .has-edge .result) (h .has-edge .ensures (g .mesh) (g .known .rep)) (e1 .if1 .left) (k .before .e .given .0 .0) (k .before .e .given .0 .1 .0)
           (subst (λ x. IsFirst (g .mesh) (a .n) (a .u) (a .v) x) (k .before .e .given .1) (z .1))
           (q .flip .last .0) (q .flip .result) (q .flip .ensures .is (g .mesh) (z .0 .rep) (z .0 .pts) (rw (g .locks) o)) (not-false (q .flip .result) (c .if2 .left)),
@@ -175,8 +174,8 @@ returns-4 c =
     record {
       is = λ m k e o.
           let g = l .loop .inv .2 m k e o in
-          going-end (l .loop .w) (a .q .now) (a .s) (a .p) (a .n) (a .used) (a .bucket) (a .u) (a .v) (l .loop .k) m e g (n .loop-test .left)
-          (c .has-edge2 .result) (c .has-edge2 .ensures (g .mesh) (g .known .rep));
+          going-end (l .loop .w) (a .q .now) (a .s) (a .p) (a .n) (a .used) (a .bucket) (a .u) (a .v) (l .loop .k) m e (l .loop .inv .0) g (n .loop-test .left)
+          _ (record { there = c .has-edge2 .ensures (g .mesh) (g .known .rep); flips = refl });
       keeps = l .loop .inv .1;
     }
 
