@@ -104,7 +104,7 @@ def table(s, nodes):
 
 def drawn(s):
     """The histogram as a picture for the report's page."""
-    most, high, wide = max(*counts(s), 1), 160, 96
+    most, high, wide = max(*counts(s), 1), 160, 108
     bars = []
     for i, (name, n) in enumerate(zip(step_names(), counts(s))):
         tall = high * n / most
