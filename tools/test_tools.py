@@ -1,5 +1,5 @@
 #!/usr/bin/env python3
-"""Tests of tools/convert and tools/draw: python3 tools/test_tools.py"""
+"""Tests of tools/convert, tools/draw and tools/change-definition: python3 tools/test_tools.py"""
 import contextlib, glob, io, math, os, random, sys, tempfile, unittest
 import xml.etree.ElementTree as xml
 from importlib.machinery import SourceFileLoader
@@ -19,7 +19,7 @@ def script(name):
     return module
 
 
-CONVERT, DRAW = script('convert'), script('draw')
+CONVERT, DRAW, CHANGE = script('convert'), script('draw'), script('change-definition')
 
 SQUARE = [(0.0, 0.0, 0.0), (1.0, 0.0, 0.0), (1.0, 1.0, 0.0), (0.0, 1.0, 0.0)]
 S_TEXT = """triangles points size stop
@@ -582,6 +582,12 @@ def lightness(colour):
     """L* of CIELAB."""
     linear = [(v / 12.92 if v <= 0.04045 else ((v + 0.055) / 1.055) ** 2.4) for v in (int(colour[i:i + 2], 16) / 255 for i in (1, 3, 5))]
     return 116 * (0.2126 * linear[0] + 0.7152 * linear[1] + 0.0722 * linear[2]) ** (1 / 3) - 16
+
+
+class Changes(unittest.TestCase):
+    def test_each_text_stands_once_in_the_definition(self):
+        self.assertEqual(CHANGE.misplaced(), [])
+        self.assertGreater(len(CHANGE.CHANGES), 50)
 
 
 if __name__ == '__main__':
