@@ -1,4 +1,4 @@
-/* Tests of sedgepick_mesh.h: results, growth of what is lent, refusals, jobs, two threads. Prints what failed; exit status 1 then. */
+/* Tests of sedgepick_mesh.h: results, growth of what is lent, refusals, jobs, previews, two threads. Prints what failed; exit status 1 then. */
 #include <sedgepick_mesh.h>
 #include <math.h>
 #include <pthread.h>
@@ -377,6 +377,75 @@ static void test_bad_jobs(void) {
     }
 }
 
+enum { LENT_POINTS = 6, LENT_SLOTS = 7, LENT_WORK = 64 * LENT_SLOTS + 8 * LENT_POINTS };
+
+/* What is lent for a preview of two triangles, full of other numbers; one more of each than is stated. */
+typedef struct lent {
+    double points[3 * LENT_POINTS + 1], float_work[4 * LENT_SLOTS + 1];
+    uint32_t quads[8 * LENT_SLOTS + 1], left[3 * LENT_SLOTS + 1], components[LENT_SLOTS + 1], work[LENT_WORK + 1];
+} lent;
+
+/* A preview of the mesh that is wider at the top, with so many points, slots and joints stated. Nothing but the work may change. */
+static size_t preview(size_t u, size_t v, size_t capacity, size_t slots, double size, size_t joints, size_t *answer, size_t answer_len) {
+    const double flared[] = {0, 0, 7, 1, 0, 7, 2, 2, 7, -1, 2, 7};
+    const uint32_t halves[] = {0, 1, 2, 0, 2, 3}, joint[] = {2, 0};
+    const sedgepick_quality q = sedgepick_standard_quality();
+    lent now, before;
+    memset(&now, 7, sizeof now);
+    memcpy(now.points, flared, sizeof flared);
+    memcpy(&before, &now, sizeof now);
+    size_t refusal = sedgepick_preview(
+        now.points, 3 * LENT_POINTS + 1, halves, 6, joint, 2, now.quads, 8 * LENT_SLOTS + 1, now.left, 3 * LENT_SLOTS + 1, now.components, LENT_SLOTS + 1,
+        now.work, LENT_WORK + 1, now.float_work, 4 * LENT_SLOTS + 1, 4, capacity, 2, slots, joints, size, 0,
+        q.least_jacobian, q.largest_cosine, q.side_low, q.side_high, q.pairs, 0, u, v, answer, answer_len);
+    if (refusal == SEDGEPICK_FINISHED || refusal == SEDGEPICK_NO_POINT || refusal == SEDGEPICK_NO_SLOTS) {
+        memset(before.work, 0, sizeof before.work);
+        memset(before.float_work, 0, sizeof before.float_work);
+    }
+    CHECK(!memcmp(&now, &before, sizeof now));
+    return refusal;
+}
+
+/* What the edge shows: the twelve numbers, and what was behind them. */
+static int shows(size_t u, size_t v, double size, size_t joints, const size_t *numbers) {
+    size_t answer[SEDGEPICK_PREVIEW + 1];
+    memset(answer, 7, sizeof answer);
+    size_t behind = answer[SEDGEPICK_PREVIEW];
+    return preview(u, v, LENT_POINTS, LENT_SLOTS, size, joints, answer, SEDGEPICK_PREVIEW + 1) == SEDGEPICK_FINISHED
+        && !memcmp(answer, numbers, SEDGEPICK_PREVIEW * sizeof *answer) && answer[SEDGEPICK_PREVIEW] == behind;
+}
+
+static void test_preview(void) {
+    const size_t none[SEDGEPICK_PREVIEW] = {SEDGEPICK_OFF_FRONT};
+    const size_t whole[SEDGEPICK_PREVIEW] = {SEDGEPICK_SHOWN_QUAD, SEDGEPICK_NOT_REFUSED, 0, 0, 0, 1, 2, 3, 0, 1, 1, 2};
+    const size_t added[SEDGEPICK_PREVIEW] = {SEDGEPICK_SHOWN_QUAD, SEDGEPICK_NOT_REFUSED, 2, 1, 0, 1, 5, 4, 0, 1, 1, 2};
+    const size_t placement[SEDGEPICK_PREVIEW] = {SEDGEPICK_SHOWN_REFUSED, SEDGEPICK_KIND_PLACEMENT, 1, 0};
+    const size_t invalid[SEDGEPICK_PREVIEW] = {SEDGEPICK_SHOWN_REFUSED, SEDGEPICK_KIND_INVALID_QUAD, 1, 0};
+    const size_t region[SEDGEPICK_PREVIEW] = {SEDGEPICK_SHOWN_REFUSED, SEDGEPICK_KIND_REGION, 0, 0};
+    const size_t off[][2] = {{0, 2}, {2, 0}, {1, 3}, {1, 1}, {0, 4}, {9, 8}, {(size_t)-1, 0}, {(size_t)1 << 32, 1}};
+    CHECK(SEDGEPICK_PREVIEW == 12);
+    CHECK(shows(0, 1, 1.5, 0, whole) && shows(1, 0, 1.5, 0, whole));
+    CHECK(shows(0, 1, 0.25, 0, added) && shows(1, 0, 0.25, 0, added));
+    CHECK(shows(1, 2, 0.25, 0, placement) && shows(0, 1, 0.6, 0, invalid) && shows(0, 1, 1.5, 1, region));
+    for (int i = 0; i < 8; i++)
+        CHECK(shows(off[i][0], off[i][1], 1.5, 0, none));
+}
+
+/* A refusal leaves the answer as it was; 4 for a short one comes behind 2 and before 8. */
+static void test_preview_refused(void) {
+    const size_t sevens[SEDGEPICK_PREVIEW] = {7, 7, 7, 7, 7, 7, 7, 7, 7, 7, 7, 7};
+    size_t answer[SEDGEPICK_PREVIEW];
+    memcpy(answer, sevens, sizeof answer);
+    CHECK(preview(0, 1, 5, LENT_SLOTS, 0.25, 0, answer, SEDGEPICK_PREVIEW) == SEDGEPICK_NO_POINT);
+    CHECK(preview(0, 1, LENT_POINTS, LENT_SLOTS - 1, 0.25, 0, answer, SEDGEPICK_PREVIEW) == SEDGEPICK_NO_SLOTS);
+    CHECK(preview(0, 1, 5, LENT_SLOTS, 0.25, 0, answer, SEDGEPICK_PREVIEW - 1) == SEDGEPICK_TOO_SHORT);
+    CHECK(preview(0, 1, LENT_POINTS, LENT_SLOTS, 0.25, 0, answer, 0) == SEDGEPICK_TOO_SHORT);
+    CHECK(preview(0, 1, LENT_POINTS, 1, 0.25, 0, answer, SEDGEPICK_PREVIEW) == SEDGEPICK_TOO_SHORT);
+    CHECK(preview(0, 1, LENT_POINTS, LENT_SLOTS, 9, 0, answer, SEDGEPICK_PREVIEW - 1) == SEDGEPICK_BAD_SIZE);
+    CHECK(preview(0, 1, SEDGEPICK_MOST_CAPACITY + 1, LENT_SLOTS, 9, 0, answer, 0) == SEDGEPICK_OVER_LIMIT);
+    CHECK(!memcmp(answer, sevens, sizeof answer));
+}
+
 int main(void) {
     test_threads();
     test_growth();
@@ -390,6 +459,8 @@ int main(void) {
     test_grid();
     test_job();
     test_bad_jobs();
+    test_preview();
+    test_preview_refused();
     CHECK(!strcmp(sedgepick_version(), SEDGEPICK_VERSION));
     CHECK(strlen(sedgepick_commit()) > 0);
     printf("%s\n", failures ? "failed" : "ok");

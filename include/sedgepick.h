@@ -238,6 +238,62 @@ size_t sedgepick_job(
     size_t *job, size_t job_len,
     size_t *answer, size_t answer_len);
 
+/* What an edge shows. */
+enum sedgepick_shown {
+    SEDGEPICK_OFF_FRONT,     /* it is not on the front, which in the starting mesh are the edges of one triangle alone; nothing is attempted */
+    SEDGEPICK_SHOWN_QUAD,    /* the quad that the attempt on it places */
+    SEDGEPICK_SHOWN_REFUSED  /* the attempt is refused */
+};
+
+/* What an attempt is refused under, by the names of the counts of a run. */
+enum sedgepick_kind {
+    SEDGEPICK_NOT_REFUSED,
+    SEDGEPICK_KIND_PLACEMENT,
+    SEDGEPICK_KIND_INVALID_QUAD,
+    SEDGEPICK_KIND_RECOVERY,
+    SEDGEPICK_KIND_REGION,
+    SEDGEPICK_KIND_ODD_REGION
+};
+
+/* Places in the answer of a preview. */
+enum sedgepick_preview_place {
+    SEDGEPICK_PREVIEW_SHOWN,                    /* enum sedgepick_shown */
+    SEDGEPICK_PREVIEW_KIND,                     /* enum sedgepick_kind */
+    SEDGEPICK_PREVIEW_INSERTIONS,               /* what the attempt costs: points added, at most 2, */
+    SEDGEPICK_PREVIEW_FLIPS,                    /* and edges flipped */
+    SEDGEPICK_PREVIEW_QUAD,                     /* the quad's record (enum sedgepick_quad), its round 1; zeros where there is none */
+    SEDGEPICK_PREVIEW = SEDGEPICK_PREVIEW_QUAD + SEDGEPICK_QUAD_WORDS /* how many they are */
+};
+
+/* Shows what an edge would give: one attempt on the mesh that the run of the same numbers starts from, of which nothing stays. So of the edge that the run tries
+ * first it shows how that attempt ends.
+ *
+ * The parameters are those of sedgepick_run_front_with, but for these:
+ *
+ * quads, triangles_out, components  as long as for a run; neither read nor written.
+ * u, v    the edge's nodes, in either order. Any numbers are safe: a pair that is no edge is not on the front.
+ * answer  12 numbers (SEDGEPICK_PREVIEW), written only where 0 is returned; entries past them are as they were. All are 0 where the edge is not on the front. A
+ *         node of the quad that is not below `given` is a point that the attempt would add.
+ *
+ * 0 is returned where something is shown, otherwise a refusal, 1 to 9 or 13 to 15, under the conditions of a run and in their order; an answer of fewer than 12
+ * numbers is 4, behind 1, 2, 3 and 14. 8 and 9 are those of this one attempt: with room for two points and five slots beyond the given ones neither comes. 1 to 7 and
+ * 13 to 15 touch nothing. Otherwise, also after 8 and 9, both work slices are zeros, the whole slices, and the points are as they were.
+ */
+size_t sedgepick_preview(
+    double *points, size_t points_len,
+    const uint32_t *triangles, size_t triangles_len,
+    const uint32_t *joints, size_t joints_len,
+    const uint32_t *quads, size_t quads_len,
+    const uint32_t *triangles_out, size_t triangles_out_len,
+    const uint32_t *components, size_t components_len,
+    uint32_t *work, size_t work_len,
+    double *float_work, size_t float_work_len,
+    size_t given, size_t capacity, size_t count, size_t slots, size_t joint_count, double size, uint32_t stop,
+    double least_jacobian, double largest_cosine, double side_low, double side_high, size_t pairs,
+    uint32_t grid,
+    size_t u, size_t v,
+    size_t *answer, size_t answer_len);
+
 /* Numbers of work for a mesh of so many triangles that is filed. */
 #define SEDGEPICK_FILING_WORK(count) (4 * (size_t)(count))
 

@@ -10,7 +10,16 @@ fn main() {
     let text = std::fs::read_to_string("src/patched.rs").expect("src/patched.rs");
     let out = std::env::var("OUT_DIR").expect("OUT_DIR");
     // What is asked for by papers of document 02 and by default changes nothing.
-    let asked = ["quality", "joints", "grid", "birth", "trials", "allowance", "sheet"];
+    let asked = [
+        "quality",
+        "joints",
+        "grid",
+        "birth",
+        "trials",
+        "allowance",
+        "sheet",
+        "preview",
+    ];
     let variants: [(&str, &[&str]); 5] = [
         ("without_asked", &[]),
         ("without_second_end", &["second-end"]),

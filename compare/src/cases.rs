@@ -110,6 +110,18 @@ pub fn mesh(seed: u64, case: u64) -> (&'static str, Input, Random) {
     (kind.0, kind.1(&mut r, &room), r)
 }
 
+/// The mesh under both rules; under the given one where it is neither.
+pub fn rules(input: Input) -> Vec<Input> {
+    if input.stop > 1 {
+        return vec![input];
+    }
+    let under = |stop| Input {
+        stop,
+        ..input.clone()
+    };
+    vec![under(0), under(1)]
+}
+
 /// The large shapes are listed as one kind each, apart from the small ones of their name.
 fn large_name(name: &str) -> &'static str {
     match name {
@@ -141,15 +153,7 @@ impl Case<'_> {
     /// Both rules, and the given one where it is neither: with document 01's set and no joints, then with others and with joints.
     pub fn run(&mut self, input: Input) {
         self.tally.meshes += 1;
-        let rules = if input.stop > 1 {
-            vec![input]
-        } else {
-            let under = |stop| Input {
-                stop,
-                ..input.clone()
-            };
-            vec![under(0), under(1)]
-        };
+        let rules = rules(input);
         let plain: Vec<Option<FrontResult>> = rules.iter().map(|i| self.run_rule(i)).collect();
         self.export = Export::With;
         for (input, plain) in rules.into_iter().zip(plain) {

@@ -1,10 +1,12 @@
 //! The port, linked from its static library, against the patched Rust on generated meshes: answers and every lent slice, bit for bit. `filing` compares the
-//! filing order with a plain one, `jobs` runs jobs of several meshes, `sheet` compares the quality sheet with the reference's.
+//! filing order with a plain one, `jobs` runs jobs of several meshes, `preview` asks what edges would give, `sheet` compares the quality sheet with the reference's.
 
+mod asked;
 mod cases;
 mod filing;
 mod jobs;
 mod memory;
+mod preview;
 mod sheet;
 mod threads;
 
@@ -18,6 +20,8 @@ const USAGE: &str = "usage: compare SEED COUNT [THREADS]
   grid profile, THREADS at a time (1 without it)
 compare jobs SEED COUNT [THREADS]
   runs COUNT jobs of 1 to 16 generated meshes, refused ones among them, and states that are refused
+compare preview SEED COUNT [THREADS]
+  asks on COUNT generated meshes what each front edge would give, on larger ones some of them, and what inner edges and pairs that are no edge, in both node orders
 compare filing SEED COUNT
   runs the filing order on COUNT generated pairs of meshes
 compare sheet SEED COUNT
@@ -101,10 +105,11 @@ fn show(partings: &mut [(u64, Parting)]) {
     }
 }
 
-/// What to run: meshes of a seed or jobs of them on so many threads, pairs of them, or lists of quads.
+/// What to run: meshes of a seed, jobs of them or previews on them on so many threads, pairs of them, or lists of quads.
 enum Asked {
     Runs(u64, u64, u64),
     Jobs(u64, u64, u64),
+    Previews(u64, u64, u64),
     Filing(u64, u64),
     Sheets(u64, u64),
 }
@@ -119,6 +124,8 @@ fn asked() -> Option<Asked> {
         (Some("sheet"), &[seed, count]) => Some(Asked::Sheets(seed, count)),
         (Some("jobs"), &[seed, count]) => Some(Asked::Jobs(seed, count, 1)),
         (Some("jobs"), &[seed, count, threads]) => Some(Asked::Jobs(seed, count, threads)),
+        (Some("preview"), &[seed, count]) => Some(Asked::Previews(seed, count, 1)),
+        (Some("preview"), &[seed, count, threads]) => Some(Asked::Previews(seed, count, threads)),
         (None, &[seed, count]) => Some(Asked::Runs(seed, count, 1)),
         (None, &[seed, count, threads]) => Some(Asked::Runs(seed, count, threads)),
         _ => None,
@@ -129,6 +136,7 @@ fn main() {
     let good = match asked() {
         Some(Asked::Filing(seed, count)) => filing::run(seed, count),
         Some(Asked::Jobs(seed, count, threads)) => jobs::run(seed, count, threads),
+        Some(Asked::Previews(seed, count, threads)) => preview::run(seed, count, threads),
         Some(Asked::Runs(seed, count, threads)) => runs(seed, count, threads),
         Some(Asked::Sheets(seed, count)) => sheet::run(seed, count),
         None => {

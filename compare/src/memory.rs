@@ -229,6 +229,7 @@ pub fn first_difference(got: &Slices, want: &Slices) -> Option<String> {
         Some(format!("{name}, entry {at}"))
     }
     place("points", &got.points, &want.points)
+        .or_else(|| place("joints", &got.joints, &want.joints))
         .or_else(|| place("quads", &got.quads, &want.quads))
         .or_else(|| place("triangles", &got.triangles, &want.triangles))
         .or_else(|| place("components", &got.components, &want.components))

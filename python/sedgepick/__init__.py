@@ -22,6 +22,16 @@ Joints are edges that no run takes away, here the diagonal:
     >>> len(mesh.quads), len(mesh.triangles)
     (0, 2)
 
+What an edge would give, were it the first that a run tries, can be asked before any run; an edge of a square, the same with a joint, and all edges of the front:
+
+    >>> square = [(0, 0), (1, 0), (1, 1), (0, 1)], [(0, 1, 2), (0, 2, 3)]
+    >>> sedgepick.preview(*square, edge=(1, 0), size=1.0)
+    Preview(quad=Quad(nodes=(0, 1, 2, 3), edge=(0, 1), round=1, replaced=2), refused=None, insertions=0, flips=0)
+    >>> print(sedgepick.preview(*square, edge=(1, 0), size=1.0, joints=[(0, 2)]))
+    refused, region: the triangles inside the quad do not fill it; no insertion, no flip
+    >>> [str(shown) for shown in sedgepick.preview_front(*square, size=1.0).values()][0]
+    'quad 0 1 2 3 in place of 2 triangles; no insertion, no flip'
+
 Several meshes can share an allowance of attempts, and what one leaves goes to the next:
 
     >>> job = sedgepick.Job(2, 7)
@@ -46,9 +56,10 @@ from .front import (EVEN_COMPONENTS, EXHAUST, FAR, GRID_LINES, LARGEST_SIZE, LEA
                     Quad, Quads, Quality, Refused, cosine_of, run_front)
 from .job import MOST_ALLOWANCE, MOST_MESHES, Job, Slab
 from .library import NoLibrary, VERSION, commit
+from .previews import KINDS, Preview, preview, preview_front
 from .sheets import Sheet, Worst, sheet
 
 __version__ = VERSION
-__all__ = ['Counts', 'EVEN_COMPONENTS', 'EXHAUST', 'FAR', 'GRID_LINES', 'Job', 'LARGEST_SIZE', 'LEAST_SIZE', 'MOST_ALLOWANCE', 'MOST_CAPACITY', 'MOST_GIVEN', 'MOST_JOINTS',
-           'MOST_MESHES', 'MOST_SLOTS', 'Mesh', 'NoLibrary', 'Quad', 'Quads', 'Quality', 'RANGES', 'REFUSALS', 'Refused', 'Sheet', 'Slab', 'Worst', 'commit', 'cosine_of',
-           'run_front', 'sheet']
+__all__ = ['Counts', 'EVEN_COMPONENTS', 'EXHAUST', 'FAR', 'GRID_LINES', 'Job', 'KINDS', 'LARGEST_SIZE', 'LEAST_SIZE', 'MOST_ALLOWANCE', 'MOST_CAPACITY', 'MOST_GIVEN', 'MOST_JOINTS',
+           'MOST_MESHES', 'MOST_SLOTS', 'Mesh', 'NoLibrary', 'Preview', 'Quad', 'Quads', 'Quality', 'RANGES', 'REFUSALS', 'Refused', 'Sheet', 'Slab', 'Worst', 'commit', 'cosine_of',
+           'preview', 'preview_front', 'run_front', 'sheet']

@@ -3,6 +3,7 @@
   sedgepick-mesh slab.msh -o quads.msh
   sedgepick-mesh slab.msh -o quads.inp --report report.html --sheet sheet.csv
   sedgepick-mesh --job 60000 ground.msh first.msh roof.msh -o quads --report job.txt
+  sedgepick-mesh slab.msh --preview front.html
 
 Files are read and written by meshio: Gmsh, VTK, VTU, Abaqus .inp, STL, OFF, OBJ, MED, XDMF and others, by their suffix. The triangles are paired into
 quads by the proved library; those that find no partner stay triangles. More than 4,096 triangles are cut into parts, which are run on all cores.
@@ -14,10 +15,15 @@ number, and to what the one before it left. Each is run once: with --size auto a
 has to be run again with more; and not in parts: a file of more than 4,096 triangles or nodes is refused with 1. A refused file is charged the attempts it
 began, gets its number, and the job goes on. All files are read and checked before the first run.
 
-Exit status: 0 the mesh is written; 1 refused, nothing is written; 2 wrong options; 3 the mesh is written, and something that was a line, a point or a
+With --preview the file's mesh is drawn, and each edge of its boundary, where the front of a run begins, is shaded by what it would give: a quad, by its scaled
+Jacobian, or the kind of refusal. Each is tried by itself, as the first attempt of a run with the same options; a run tries one after the other, so its quads are
+not these all together. Without -o no mesh is written. More than 4,096 triangles are looked at in the parts in which they would be run; the edges between parts
+are on the front of both and are shown on either side.
+
+Exit status: 0 the mesh, or the preview, is written; 1 refused, nothing is written; 2 wrong options; 3 the mesh is written, and something that was a line, a point or a
 surface's border in the file is lost (with --allow-loss or --free), or a warning was given: standard error says what. Of a job: 1 where a file is refused or not written, the others
 are; otherwise 3 where one would have 3."""
-import argparse, math, os, sys, time
+import os, sys, time
 from dataclasses import dataclass, field
 
 
@@ -37,127 +43,22 @@ class Work:
     warnings: list = field(default_factory=list)
     seconds: float = 0.0
     plan: object = None          # the parts before their run
+    looked: object = None        # what the front edges would give, where that is asked for
     slab: object = None          # in a job: what it was given, charged and left
     fault: str = ''              # in a job: why nothing is written
-
-
-def size_of(word):
-    if word == 'auto':
-        return None
-    value = float(word)
-    if not 0.0 <= value < math.inf:
-        raise ValueError(word)
-    return value
-
-
-def count_of(word):
-    if int(word) < 1:
-        raise ValueError(word)
-    return int(word)
-
-
-def number_from(low, high, kind=float):
-    """Reads a number within its bounds."""
-    def read(word):
-        try:
-            value = kind(word)
-        except ValueError:
-            raise argparse.ArgumentTypeError('%r is not a %snumber' % (word, 'whole ' if kind is int else ''))
-        if not low <= value <= high:
-            raise argparse.ArgumentTypeError('%s is out of range: from %g to %g' % (word, low, high))
-        return value
-    return read
-
-
-def angle_of(word):
-    """The cosine of a least angle in degrees."""
-    from .front import RANGES, cosine_of
-    low, high = RANGES['largest_cosine']
-    try:
-        cosine = cosine_of(float(word)) if 0 <= float(word) <= 90 else math.nan
-    except ValueError:
-        raise argparse.ArgumentTypeError('%r is not a number' % word)
-    if not low <= cosine <= high:
-        raise argparse.ArgumentTypeError('%s is out of range: from 8.11 to 60 degrees' % word)
-    return cosine
-
-
-def quality_options(parser):
-    from .front import RANGES, Quality
-    usual, group = Quality(), parser.add_argument_group('quality of the quads', 'What a quad is held to; fewer quads come out where it is more.')
-    add = group.add_argument
-    add('--least-jacobian', type=number_from(*RANGES['least_jacobian']), default=usual.least_jacobian, metavar='J',
-        help='least scaled Jacobian of a quad, from 0 to 1; %(default)s if left out')
-    corner = group.add_mutually_exclusive_group().add_argument
-    corner('--least-angle', dest='largest_cosine', type=angle_of, default=usual.largest_cosine, metavar='DEGREES',
-           help="least angle of a quad's corner, from 8.11 to 60 degrees; 25 if left out")
-    corner('--largest-cosine', type=number_from(*RANGES['largest_cosine']), default=usual.largest_cosine, metavar='C',
-           help='the same by its cosine, from 0.5 to 0.99')
-    add('--side-low', type=number_from(*RANGES['side_low']), default=usual.side_low, metavar='F',
-        help='a side node is looked for at this many times the size from the end of an edge at least, from 0.1 to 4; %(default)s if left out')
-    add('--side-high', type=number_from(*RANGES['side_high']), default=usual.side_high, metavar='F', help='and at most; %(default)s if left out')
-    add('--pairs', type=number_from(*RANGES['pairs'], int), default=usual.pairs, metavar='N',
-        help='pairs of side nodes tried for an edge, from 1 to 64; %(default)s if left out')
-
-
-def quality_of(options):
-    from .front import Quality
-    return Quality(options.least_jacobian, options.largest_cosine, options.side_low, options.side_high, options.pairs)
 
 
 def check_folders(options):
     """That the files to write can be, before a long run."""
     from .surfaces import Fault
-    for path in [options.output, options.node_map, *options.report, *options.sheet]:
+    for path in [options.output, options.node_map, *options.report, *options.sheet, *options.preview]:
         if path and not os.path.isdir(os.path.dirname(path) or '.'):
             raise Fault('cannot write %s: there is no folder %s' % (path, os.path.dirname(path)))
 
 
-def arguments(words):
-    from . import slabs
-    from .job import MOST_ALLOWANCE
-    from .library import VERSION
-    parser = argparse.ArgumentParser(prog='sedgepick-mesh', description=__doc__.split('\n', 2)[2], formatter_class=argparse.RawDescriptionHelpFormatter)
-    add = parser.add_argument
-    add('input', metavar='IN', nargs='+', help='a mesh file with triangles; with --job several')
-    add('-o', '--output', metavar='OUT', required=True, help='the mesh file to write; with --job a folder, where each file is written under its name, or a path in '
-        "which * stands for the name without its suffix: 'quads/*.vtu'")
-    add('--job', type=number_from(1, MOST_ALLOWANCE, int), metavar='ALLOWANCE', help='run the files as one job, in their order, under this many attempts, from 1 to '
-        '1,000,000')
-    add('--size', type=size_of, default='auto', metavar='S', help='the length of an edge that the quads should have, in the units of the file; 0: each edge sets '
-        'its own; auto, the default: the best of six runs, with 0.55 to 0.75 of the mean edge and 0 (docs/SIZE.md)')
-    add('--grid', action='store_true', help='the grid profile: every node lies on a fixed grid, no node is added, and the summed area of the cells is that of the '
-        'triangles, exactly (docs/GRID.md); --size is 0')
-    add('--stop', type=int, choices=(0, 1), default=0, help='0, the default: go on while an edge is open; 1: and leave only even components of triangles')
-    add('--report', metavar='FILE', action='append', default=[], help='a report: .html with the picture, otherwise text; may be given twice')
-    add('--sheet', metavar='FILE', action='append', default=[], help='the quality sheet of the quads: .csv a table, otherwise text; may be given twice')
-    add('--allow-loss', action='store_true', help='write the mesh also where a line, a point or a border of the file could not be kept; what is lost is listed')
-    add('--free', action='store_true', help="do not keep the file's lines, points and borders of surfaces at all; what is lost is listed")
-    add('--keep-nodes', action='store_true', help='write nodes that no cell has, too')
-    add('--node-map', metavar='FILE', help='a table: each node of OUT and its number in IN, both from 1 in the order of the file; none for added nodes')
-    add('--flatten', action='store_true', help='set every z to 0')
-    add('--from', dest='form', metavar='FORMAT', help="meshio's name of IN's format, where the suffix does not say it")
-    add('--to', metavar='FORMAT', help="meshio's name of OUT's format")
-    add('--jobs', type=count_of, metavar='N', help='parts run at once; all cores if left out')
-    add('-q', '--quiet', action='store_true', help='no summary on standard output')
-    add('--version', action='version', version='sedgepick-mesh ' + VERSION)
-    quality_options(parser)
-    options = parser.parse_args(words)
-    if options.side_low > options.side_high:
-        parser.error('--side-low %g is above --side-high %g' % (options.side_low, options.side_high))
-    if options.grid and options.size not in (None, 0.0):
-        parser.error('--grid takes no --size but 0: in the profile each edge sets its own')
-    if options.job:
-        slabs.check(parser, options)
-    elif len(options.input) > 1:
-        parser.error('one mesh file is run at a time; --job ALLOWANCE runs several under one allowance of attempts')
-    options.files, options.input = options.input, options.input[0]
-    options.quality = quality_of(options)
-    return options
-
-
 def main(words=None):
-    options = arguments(words)
+    from .options import arguments
+    options = arguments(words, __doc__.split('\n', 2)[2])
     try:
         from . import slabs
         return slabs.worked(options) if options.job else worked(options)
@@ -184,27 +85,53 @@ def say(words):
 
 
 def worked(options):
-    from . import files, library, parts, report
+    from . import files, library
     library.load()
-    files.writing_form(options.output, options.to)
+    if options.output:
+        files.writing_form(options.output, options.to)
     check_folders(options)
     begin = time.perf_counter()
     work = prepared(options)
+    if options.output:
+        meshed(work, begin)
+    if options.preview:
+        previewed(work, begin)
+    told(work)
+    return 3 if work.warnings else 0
+
+
+def meshed(work, begin):
+    """Runs the file and writes the mesh, its sheets and its reports."""
+    from . import parts, report
+    options = work.options
     finished(work, parts.ran(work.plan, options.stop, options.quality, progress, options.jobs))
     written(work)
     work.seconds = time.perf_counter() - begin
     put(options.report, lambda page: report.page(work) if page else report.text(work))
-    told(work)
     if not options.quiet:
         print(report.summary(work))
-    return 3 if work.warnings else 0
+
+
+def previewed(work, begin):
+    """Looks at the front before the run, with the sizes of the run where there was one, and draws it."""
+    from . import preview_edges, preview_page
+    options, result = work.options, work.result
+    work.looked = preview_edges.looked(work.plan, options.stop, options.quality, result and result.sizes, progress, options.jobs)
+    if result is None:
+        work.surface.notes += work.plan.notes
+        warn_odd(work, work.plan.odd(), 'few edges or none give a quad (%d here)' % len(work.looked.quads()))
+    work.seconds = time.perf_counter() - begin
+    put(options.preview, lambda page: preview_page.page(work) if page else preview_page.drawn(work))
+    if not options.quiet:
+        print(preview_page.summary(work))
 
 
 def put(paths, content):
     """Writes the reports."""
+    from .options import PAGES
     for path in paths:
         with open(path, 'w', encoding='utf-8') as file:
-            file.write(content(path.lower().endswith(('.html', '.htm'))))
+            file.write(content(path.lower().endswith(PAGES)))
 
 
 def told(work, name=''):
@@ -254,10 +181,14 @@ def progress(done, count):
         print('\rpart %d of %d' % (done, count), end='\n' if done == count else '', file=sys.stderr, flush=True)
 
 
+def warn_odd(work, odd, then):
+    if work.options.stop == 1 and odd:
+        work.warnings.append('%d components have an odd number of triangles; under --stop 1 a quad that leaves one odd is refused, and %s: use --stop 0, or split '
+                            'one triangle of each' % (odd, then))
+
+
 def warn(work):
-    if work.options.stop == 1 and work.result.odd:
-        work.warnings.append('%d components have an odd number of triangles; under --stop 1 a quad that leaves one odd is refused, and few quads or none come '
-                            'out (%d here): use --stop 0, or split one triangle of each' % (work.result.odd, len(work.result.quads)))
+    warn_odd(work, work.result.odd, 'few quads or none come out (%d here)' % len(work.result.quads))
     for loss in work.losses:
         if len(loss.lost):
             work.warnings.append('%s; the first is %s' % (loss.words(), places(work.points, loss.lost[0])))

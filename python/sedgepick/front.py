@@ -1,4 +1,4 @@
-"""One call of `sedgepick_run_front_with`, or of `sedgepick_job`, with the memory that it needs."""
+"""One call of `sedgepick_run_front_with`, or of `sedgepick_job`, with the memory that it needs; `sedgepick_preview` takes the same."""
 import ctypes, math
 from array import array
 from collections.abc import Sequence
@@ -199,25 +199,34 @@ def first(asked, usual, least, most):
     return max(least, min(usual if asked is None else asked, most), 1)
 
 
+class Memory:
+    """The slices of a call, with what is given in them, as long as the call states. A call over the limits is refused before any memory is looked at."""
+
+    def __init__(self, points, triangles, call):
+        over = call.given > MOST_GIVEN or call.count > MOST_GIVEN
+        capacity, slots = (1, 1) if over else (call.capacity, call.slots)
+        self.xyz = (ctypes.c_double * max(3 * capacity, len(points), 1))()
+        ctypes.memmove(self.xyz, points.buffer_info()[0], 8 * len(points))
+        numbers = lambda n: (ctypes.c_uint32 * n)()
+        self.quads, self.left, self.components = numbers(QUAD_WORDS * slots), numbers(3 * slots), numbers(slots)
+        written = (self.quads, self.left, self.components, numbers(64 * slots + 8 * capacity), (ctypes.c_double * (4 * slots))())
+        given = ((self.xyz, len(self.xyz)), (lent(triangles), len(triangles)), (lent(call.joints), len(call.joints)))
+        q = call.quality
+        self.arguments = (*(word for pair in given for word in pair), *(word for slice in written for word in (slice, len(slice))),
+                          call.given, call.capacity, call.count, call.slots, len(call.joints) // 2, call.size, call.stop,
+                          q.least_jacobian, q.largest_cosine, q.side_low, q.side_high, int(q.pairs), call.grid)
+
+
 def attempt(run, points, triangles, call, job=()):
-    """(refusal, mesh) of one run with as much memory as the call states; of a job, whose slice and its length are handed in. A call over the limits is refused
-    before any memory is looked at."""
-    over = call.given > MOST_GIVEN or call.count > MOST_GIVEN
-    capacity, slots = (1, 1) if over else (call.capacity, call.slots)
-    xyz = (ctypes.c_double * max(3 * capacity, len(points), 1))()
-    ctypes.memmove(xyz, points.buffer_info()[0], 8 * len(points))
-    given, joints = lent(triangles), lent(call.joints)
-    quads, left, components, work = ((ctypes.c_uint32 * n)() for n in (QUAD_WORDS * slots, 3 * slots, slots, 64 * slots + 8 * capacity))
-    float_work = (ctypes.c_double * (4 * slots))()
+    """(refusal, mesh) of one run with as much memory as the call states; of a job, whose slice and its length are handed in."""
+    memory = Memory(points, triangles, call)
     answer = (ctypes.c_size_t * 14)()
-    q = call.quality
-    refusal = run(xyz, len(xyz), given, len(triangles), joints, len(call.joints), quads, len(quads), left, len(left), components, len(components),
-                  work, len(work), float_work, len(float_work), call.given, call.capacity, call.count, call.slots, len(call.joints) // 2, call.size, call.stop,
-                  q.least_jacobian, q.largest_cosine, q.side_low, q.side_high, int(q.pairs), call.grid, *job, answer, len(answer))
+    refusal = run(*memory.arguments, *job, answer, len(answer))
     if refusal:
         return refusal, None
     counts, lengths, trials = answer[:9], answer[9:13], answer[13]
-    return 0, Mesh(rows(xyz, lengths[2], 3), Quads(rows(quads, lengths[0], QUAD_WORDS)), rows(left, lengths[1], 3), rows(components, lengths[3], 1), Counts(*counts, trials))
+    return 0, Mesh(rows(memory.xyz, lengths[2], 3), Quads(rows(memory.quads, lengths[0], QUAD_WORDS)), rows(memory.left, lengths[1], 3),
+                   rows(memory.components, lengths[3], 1), Counts(*counts, trials))
 
 
 def lent(numbers):

@@ -18,6 +18,7 @@ REAL = ctypes.c_double
 RUN_FRONT = [DOUBLES, LENGTH, NUMBERS, LENGTH, NUMBERS, LENGTH, NUMBERS, LENGTH, NUMBERS, LENGTH, NUMBERS, LENGTH, NUMBERS, LENGTH, DOUBLES, LENGTH,
              LENGTH, LENGTH, LENGTH, LENGTH, LENGTH, REAL, ctypes.c_uint32, REAL, REAL, REAL, REAL, LENGTH, ctypes.c_uint32, SIZES, LENGTH]
 JOB = RUN_FRONT[:-2] + [SIZES, LENGTH] + RUN_FRONT[-2:]
+PREVIEW = RUN_FRONT[:-2] + [LENGTH, LENGTH] + RUN_FRONT[-2:]
 SHEET = [DOUBLES, LENGTH, NUMBERS, LENGTH, DOUBLES, LENGTH, LENGTH, LENGTH, SIZES, LENGTH]
 
 loaded = None
@@ -58,7 +59,8 @@ def opened():
                         % (SONAME, ', '.join(places()), VARIABLE))
     try:
         library = ctypes.CDLL(path)
-        for function, takes in ((library.sedgepick_run_front_with, RUN_FRONT), (library.sedgepick_job, JOB), (library.sedgepick_sheet, SHEET)):
+        for function, takes in ((library.sedgepick_run_front_with, RUN_FRONT), (library.sedgepick_job, JOB), (library.sedgepick_preview, PREVIEW),
+                                (library.sedgepick_sheet, SHEET)):
             function.argtypes, function.restype = takes, LENGTH
     except (OSError, AttributeError) as error:
         raise NoLibrary('%s does not load: %s' % (path, error))

@@ -46,6 +46,10 @@ class Plan:
     def count(self):
         return int(self.part.max()) + 1
 
+    def odd(self):
+        """Components, as they go to the library, with an odd number of triangles."""
+        return sum(odd_components(self.triangles[self.part == which]) for which in range(self.count()))
+
     def fitted(self, which):
         """A part in the library's range, in the grid profile on its grid; or a Fault."""
         own = self.triangles[self.part == which]
@@ -151,11 +155,21 @@ def planned(points, triangles, size, hard=joints.Hard(), grid=False, whole=False
     return Plan(len(points), doubled, cells, origin, part, cutter, notes, hard, size, grid)
 
 
-def ran(plan, stop, quality=Quality(), progress=None, jobs=None, call=best_run):
-    """Runs the parts, each fitted into the library's range by itself, on all cores; `call` runs one as best_run does."""
+def each(plan, one, progress=None, jobs=None):
+    """What `one` gives for each part, on all cores."""
     count = plan.count()
     answers = [None] * count
+    with ThreadPoolExecutor(jobs or os.cpu_count() or 1) as pool:
+        waiting = {pool.submit(one, which): which for which in range(count)}
+        for done, future in enumerate(as_completed(waiting), 1):
+            answers[waiting[future]] = future.result()
+            if progress and count > 1:
+                progress(done, count)
+    return answers
 
+
+def ran(plan, stop, quality=Quality(), progress=None, jobs=None, call=best_run):
+    """Runs the parts, each fitted into the library's range by itself; `call` runs one as best_run does."""
     def one(which):
         own = plan.fitted(which)
         taken, mesh = call(own.points, own.triangles, own.size, stop, quality=quality, joints=own.joints, grid=plan.grid)
@@ -163,17 +177,11 @@ def ran(plan, stop, quality=Quality(), progress=None, jobs=None, call=best_run):
         return Answer(own.nodes, taken / own.placed.scale, mesh, own.placed.back(added), (own.placed.rounded(given), own.placed.rounded_back(added)),
                       len(own.joints), own.placed.scale, sheets.sheet(mesh.points, mesh.quads))
 
-    with ThreadPoolExecutor(jobs or os.cpu_count() or 1) as pool:
-        waiting = {pool.submit(one, which): which for which in range(count)}
-        for done, future in enumerate(as_completed(waiting), 1):
-            answers[waiting[future]] = future.result()
-            if progress and count > 1:
-                progress(done, count)
-    result = merged(len(plan.points), answers, plan.part, plan.cutter)
+    result = merged(len(plan.points), each(plan, one, progress, jobs), plan.part, plan.cutter)
     result.notes = plan.notes
     number = numpy.concatenate([plan.origin, numpy.arange(plan.given, plan.given + len(result.added))])
     result.quads, result.triangles = number[result.quads], number[result.triangles]
-    result.odd = sum(odd_components(plan.triangles[plan.part == which]) for which in range(count))
+    result.odd = plan.odd()
     return result
 
 

@@ -4,11 +4,10 @@ from html import escape
 import meshio, numpy
 from . import library, losses, picture, quality, sheets, slits
 from .front import Quality
+from .previews import KINDS
 
 WORST = 10   # cells that a list names
 LISTED = 50  # lost edges or points that a list names
-REFUSED = (('placement', 'no side nodes'), ('invalid_quad', 'no pair of side nodes with a good quad'), ('recovery', 'a side that flips could not bring in'),
-           ('region', 'the triangles inside the quad do not fill it'), ('odd_region', 'a component would be left odd'))
 
 
 @dataclass
@@ -70,7 +69,6 @@ def sections(work):
     result, points, surface = work.result, work.points, work.surface
     jacobians, least = quality.scaled_jacobians(points, result.quads), quality.least_angles(points, result.quads)
     angles = quality.least_angles(points, result.triangles)
-    sizes = sorted({'%.6g' % size for size in result.sizes}, key=float)
     total = lambda name: sum(getattr(counts, name) for counts in result.counts)
     after = numpy.bincount(quality.components(result.triangles)) if len(result.triangles) else []
     made = 2 * len(result.quads) + len(result.triangles)
@@ -87,15 +85,15 @@ def sections(work):
     replaced = ('triangles that a quad replaced', '%d to %d, %.2f on average' % (result.replaced.min(), result.replaced.max(), result.replaced.mean())) \
         if len(result.quads) else None
     return [
-        ('Run', [('file', surface.name), ('given', '%d triangles, %d nodes' % (len(surface.triangles.cells), len(numpy.unique(surface.triangles.cells)))),
+        ('Run', [('file', surface.name), ('given', given_words(surface)),
                  ('profile', 'grid' if work.options.grid else 'none'),
-                 ('size', ('auto: ' if work.options.size is None and not work.options.grid else '') + (sizes[0] if len(sizes) == 1 else '%s to %s, part by part' % (sizes[0], sizes[-1]))),
+                 ('size', size_words(work.options, result.sizes)),
                  *([('in the job', account(work.slab))] if work.slab else []), ('stop rule', work.options.stop), ('quality', quality_words(work.options.quality)),
                  ('parts', '%d (%s), %d edges between them, all found' % (len(result.sizes), result.cutter, work.cuts)),
                  ('coordinates rounded', '%d of given nodes on their way to the library, %d of added ones on their way back' % result.rounded),
                  ('library', 'sedgepick %s' % library.VERSION), ('commit', library.commit()), ('meshio', meshio.__version__), ('seconds', '%.1f' % work.seconds)]),
         ('Result', counted),
-        ('Attempts', [('attempts', total('attempts')), ('pairs of side nodes tried', total('trials'))] + [('refused: ' + words, total(name)) for name, words in REFUSED] + [('ended by a limit', total('limit'))]),
+        ('Attempts', [('attempts', total('attempts')), ('pairs of side nodes tried', total('trials'))] + [('refused: ' + words, total(name)) for name, words in KINDS.items()] + [('ended by a limit', total('limit'))]),
         ('Area', [('before', '%.15g' % work.areas[0]), ('after', '%.15g' % work.areas[1]), ('boundary', 'every edge found')] + exact_words(work)),
         ('Quads', [('least scaled Jacobian', '%.4f' % jacobians.min()), ('least angle', '%.2f degrees' % least.min()), replaced] + list(map(place, quad_rows))
          if len(result.quads) else [('none', '')]),
@@ -124,6 +122,16 @@ def job_rows(works, job):
                      ('charged', '%d attempts' % job.charged), ('left', '%d attempts, behind the last file' % job.left),
                      ('each file', 'run once, whole, with all memory that the library takes')]),
             ('Files', [('%d of %d' % (place, len(works)), slab_words(work) + outcome(work)) for place, work in enumerate(works, 1)])]
+
+
+def given_words(surface):
+    return '%d triangles, %d nodes' % (len(surface.triangles.cells), len(numpy.unique(surface.triangles.cells)))
+
+
+def size_words(options, taken):
+    """The size, or those of the parts."""
+    sizes = sorted({'%.6g' % size for size in taken}, key=float)
+    return ('auto: ' if options.size is None and not options.grid else '') + (sizes[0] if len(sizes) == 1 else '%s to %s, part by part' % (sizes[0], sizes[-1]))
 
 
 def quality_words(q):

@@ -163,6 +163,17 @@ impl Input {
 
     /// The same with another limit on attempts than the usual one.
     pub fn run_within(&self, lent: Lent, limit: Option<usize>) -> FrontResult {
+        self.run_on(lent, limit, None)
+    }
+
+    /// The same where one edge alone has a turn, smaller node first: one attempt on a copy of the
+    /// starting mesh, or none where the edge is not on its front.
+    pub fn run_on(
+        &self,
+        lent: Lent,
+        limit: Option<usize>,
+        only: Option<(usize, usize)>,
+    ) -> FrontResult {
         let stop = if self.even() {
             FrontStop::EvenComponents
         } else {
@@ -180,6 +191,7 @@ impl Input {
             &self.pairs(),
             self.grid != 0,
             limit,
+            only,
         )
     }
 }

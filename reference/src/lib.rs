@@ -9,6 +9,7 @@ pub mod input;
 pub mod job;
 mod mesh;
 pub mod patched;
+pub mod preview;
 pub mod random;
 pub mod records;
 pub mod sheet;

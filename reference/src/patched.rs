@@ -217,6 +217,11 @@ pub struct CellMesh {
     /// The limit on attempts where it is not the usual one.
     most_attempts: Option<usize>,
     // end patch
+    // patch: preview
+    /// The only edge that has a turn, where one is asked for; and the flips so far.
+    only: Option<(usize, usize)>,
+    flips: usize,
+    // end patch
 }
 
 impl CellMesh {
@@ -263,6 +268,10 @@ impl CellMesh {
             // end patch
             // patch: allowance
             most_attempts: None,
+            // end patch
+            // patch: preview
+            only: None,
+            flips: 0,
             // end patch
         };
         for id in 0..mesh.cells.len() {
@@ -1151,6 +1160,9 @@ impl CellMesh {
             self.set_cell(owners0, Cell::Tri([p, q, u]));
             self.set_cell(owners1, Cell::Tri([q, p, v]));
         }
+        // patch: preview
+        self.flips += 1;
+        // end patch
         true
     }
 
@@ -1464,6 +1476,10 @@ pub struct FrontResult {
     /// The births of `quads`, one each.
     pub births: Vec<Birth>,
     // end patch
+    // patch: preview
+    /// Flips made.
+    pub flips: usize,
+    // end patch
 }
 
 /// Run the Q-Morph front and return its state, **without** the Sun closure.
@@ -1494,6 +1510,9 @@ pub fn run_front(
     // patch: allowance
     most_attempts: Option<usize>,
     // end patch
+    // patch: preview
+    only: Option<(usize, usize)>,
+    // end patch
 ) -> FrontResult {
     // end patch
     let mut refusals = Refusals::default();
@@ -1517,6 +1536,9 @@ pub fn run_front(
     // patch: allowance
     mesh.most_attempts = most_attempts;
     // end patch
+    // patch: preview
+    mesh.only = only;
+    // end patch
     let mut quads: Vec<[usize; 4]> = Vec::new();
     front_loop(&mut mesh, tris.len(), size, &mut quads, &mut refusals, stop);
     let region_components = mesh.live_tri_component_sizes();
@@ -1532,6 +1554,9 @@ pub fn run_front(
         // end patch
         // patch: birth
         births: mesh.births,
+        // end patch
+        // patch: preview
+        flips: mesh.flips,
         // end patch
     }
 }
@@ -1595,6 +1620,9 @@ fn front_loop(
                 .into_iter()
                 .filter(|edge| mesh.front.contains(edge) && !blocked.contains(edge))
                 .collect();
+            // patch: preview
+            candidates.retain(|edge| mesh.only.is_none_or(|only| only == *edge));
+            // end patch
             if candidates.is_empty() {
                 continue;
             }
@@ -1628,6 +1656,12 @@ fn front_loop(
                 // end patch
                 match try_quad(mesh, edge, size, quads, refusals, stop, &mut fragment) {
                     Ok(()) => {
+                        // patch: preview
+                        // One attempt is asked for.
+                        if mesh.only.is_some() {
+                            break 'outer;
+                        }
+                        // end patch
                         progressed = true;
                         // Rule 4: only edges touching the new quad can have
                         // become feasible again.

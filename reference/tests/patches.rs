@@ -11,7 +11,7 @@ fn without_its_patches_the_patched_module_is_the_published_one() {
     assert_eq!(marks::take_back(PATCHED, |_| true).unwrap(), PUBLISHED);
 }
 
-const NAMES: [&str; 12] = [
+const NAMES: [&str; 13] = [
     "cosine",
     "limit",
     "off-front",
@@ -24,10 +24,11 @@ const NAMES: [&str; 12] = [
     "trials",
     "allowance",
     "sheet",
+    "preview",
 ];
 
 #[test]
-fn every_patch_is_one_of_twelve() {
+fn every_patch_is_one_of_thirteen() {
     for name in marks::names(PATCHED) {
         assert!(NAMES.contains(&name));
     }
@@ -196,6 +197,39 @@ fn the_limit_on_attempts_is_handed_in_and_nothing_else_changes() {
         lines[place.unwrap() - 1],
         "let max_attempts = 200 * tris_len + 10_000;"
     );
+}
+
+#[test]
+fn flips_are_counted_and_one_edge_alone_is_tried_once_and_nothing_else_changes() {
+    let new = marks::take_back(PATCHED, |_| false).unwrap();
+    let old = marks::take_back(PATCHED, |patch| patch == "preview").unwrap();
+    assert!(fresh(&old, &new).is_empty());
+    let mut added = fresh(&new, &old);
+    added.retain(|line| !line.starts_with("//") && *line != "}" && *line != "break 'outer;");
+    assert_eq!(
+        added,
+        [
+            "only: Option<(usize, usize)>,",
+            "flips: usize,",
+            "only: None,",
+            "flips: 0,",
+            "self.flips += 1;",
+            "pub flips: usize,",
+            "only: Option<(usize, usize)>,",
+            "mesh.only = only;",
+            "flips: mesh.flips,",
+            "candidates.retain(|edge| mesh.only.is_none_or(|only| only == *edge));",
+            "if mesh.only.is_some() {",
+        ]
+    );
+    // Where nothing can refuse the flip any more, and where a quad is placed.
+    let lines: Vec<&str> = new.lines().map(str::trim).collect();
+    let place = |line: &str| lines.iter().position(|l| *l == line).unwrap();
+    let flip = place("self.flips += 1;");
+    assert_eq!(lines[flip + 1..flip + 3], ["true", "}"]);
+    let only = place("if mesh.only.is_some() {");
+    assert_eq!(lines[only - 2], "Ok(()) => {");
+    assert_eq!(lines[only + 1..only + 3], ["break 'outer;", "}"]);
 }
 
 #[test]

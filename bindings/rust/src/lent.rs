@@ -1,8 +1,10 @@
 //! The call over memory that the caller lends: nothing is allocated, and every number is tested before any slice is touched.
 
 mod job;
+mod preview;
 
 pub use job::{job, State, Step};
+pub use preview::preview;
 
 use std::cmp::Ordering;
 
@@ -310,13 +312,17 @@ fn answered(number: usize, a: [usize; ANSWER]) -> Result<Answer, Refusal> {
 
 /// The first `count` quads of a slice.
 pub fn quads(records: &[u32], count: usize) -> impl Iterator<Item = Quad> + '_ {
-    let quad = |q: &[u32]| Quad {
+    records.chunks_exact(QUAD_WORDS).take(count).map(quad)
+}
+
+/// A quad's record.
+fn quad(q: &[u32]) -> Quad {
+    Quad {
         nodes: [q[0], q[1], q[2], q[3]],
         edge: [q[4], q[5]],
         round: q[6],
         replaced: q[7],
-    };
-    records.chunks_exact(QUAD_WORDS).take(count).map(quad)
+    }
 }
 
 /// A mesh that is filed. Any numbers are safe: those that do not fit are refused. Each slice may be longer than they need, and what the work holds does not

@@ -46,6 +46,23 @@
 //! # Ok::<(), Refusal>(())
 //! ```
 //!
+//! What one edge would give is told before a run, see [`preview`]:
+//!
+//! ```
+//! use sedgepick::{preview, Cost, Kind, Options, Refusal, Shown};
+//!
+//! let points = [[0.0, 0.0, 0.0], [1.0, 0.0, 0.0], [1.0, 1.0, 0.0], [0.0, 1.0, 0.0]];
+//! let triangles = [[0, 1, 2], [0, 2, 3]];
+//! let options = Options { size: 1.0, ..Options::default() };
+//! let shown = preview(&points, &triangles, [1, 0], &options)?;
+//! assert!(matches!(shown, Shown::Quad { quad, .. } if quad.nodes == [0, 1, 2, 3]));
+//! assert_eq!(preview(&points, &triangles, [0, 2], &options)?, Shown::OffFront);
+//! let locked = Options { joints: &[[0, 2]], ..options };
+//! let cost = Cost { insertions: 0, flips: 0 };
+//! assert_eq!(preview(&points, &triangles, [0, 1], &locked)?, Shown::Refused { kind: Kind::Region, cost });
+//! # Ok::<(), Refusal>(())
+//! ```
+//!
 //! Several slabs can share one attempt allowance, see [`Job`]:
 //!
 //! ```
@@ -79,6 +96,7 @@
 mod filing;
 mod job;
 pub mod lent;
+mod preview;
 mod quality;
 mod refusal;
 mod sheet;
@@ -86,6 +104,7 @@ mod small;
 
 pub use filing::{filing_order, Filed};
 pub use job::{Job, Over, Slab, MOST_ALLOWANCE, MOST_MESHES};
+pub use preview::{preview, Cost, Kind, Shown};
 pub use quality::{Quality, QualityBuilder, COSINES, JACOBIANS, PAIRS, SIDES};
 pub use refusal::Refusal;
 pub use sheet::{put_sheet, sheet, Metrics, Sheet, Worst, RECORD, SHEET_NUMBERS, STEPS};
@@ -127,6 +146,18 @@ pub struct Options<'a> {
     /// The grid profile: x and y of every point are multiples of 1/1024 and the size is 0. Nothing is inserted, and the summed area of quads and triangles,
     /// each without sign, equals that of the given triangles, exactly.
     pub grid: bool,
+}
+
+impl<'a> Options<'a> {
+    /// As a call over lent memory takes them, beside size and stop rule.
+    fn further(&self) -> Further<'a> {
+        Further {
+            joints: self.joints.as_flattened(),
+            joint_count: self.joints.len(),
+            set: self.quality.set(),
+            grid: self.grid as u32,
+        }
+    }
 }
 
 impl Default for Options<'_> {
@@ -248,51 +279,73 @@ fn attempt(
     options: &Options<'_>,
     run: impl FnOnce(&[u32], Memory<'_>, Call, Further<'_>) -> Result<lent::Answer, Refusal>,
 ) -> Result<Mesh, Refusal> {
-    // A call over the limits is refused before any memory is looked at.
-    let over = call.given > MOST_GIVEN || call.count > MOST_GIVEN;
-    let lend = if over {
-        Call {
-            capacity: 0,
-            slots: 0,
-            ..call
-        }
-    } else {
-        call
-    };
-    let mut xyz: Vec<f64> = points.iter().flatten().copied().collect();
-    xyz.resize(xyz.len().max(3 * lend.capacity), 0.0);
-    let mut quads = vec![0; lend.quads_len()];
-    let mut left = vec![0; 3 * lend.slots];
-    let mut components = vec![0; lend.slots];
-    let memory = Memory {
-        points: &mut xyz,
-        quads: &mut quads,
-        triangles: &mut left,
-        components: &mut components,
-        work: &mut vec![0; lend.work_len()],
-        float_work: &mut vec![0.0; lend.float_work_len()],
-    };
-    let further = Further {
-        joints: options.joints.as_flattened(),
-        joint_count: options.joints.len(),
-        set: options.quality.set(),
-        grid: options.grid as u32,
-    };
-    let answer = run(triangles.as_flattened(), memory, call, further)?;
-    components.truncate(answer.components);
+    let mut room = Room::new(points, call);
+    let further = options.further();
+    let cells = triangles.as_flattened();
+    let answer = run(cells, room.memory(), call, further)?;
+    room.components.truncate(answer.components);
     Ok(Mesh {
-        points: xyz
+        points: room
+            .points
             .chunks_exact(3)
             .take(answer.points)
             .map(|p| [p[0], p[1], p[2]])
             .collect(),
-        quads: lent::quads(&quads, answer.quads).collect(),
-        triangles: left
+        quads: lent::quads(&room.quads, answer.quads).collect(),
+        triangles: room
+            .triangles
             .chunks_exact(3)
             .take(answer.triangles)
             .map(|t| [t[0], t[1], t[2]])
             .collect(),
-        components,
+        components: room.components,
         counts: answer.counts,
     })
+}
+
+/// Memory that a call is lent, with the given points in it.
+struct Room {
+    points: Vec<f64>,
+    quads: Vec<u32>,
+    triangles: Vec<u32>,
+    components: Vec<u32>,
+    work: Vec<u32>,
+    float_work: Vec<f64>,
+}
+
+impl Room {
+    /// As much as the call states. One over the limits is refused before any memory is looked at.
+    fn new(points: &[[f64; 3]], call: Call) -> Room {
+        let over = call.given > MOST_GIVEN || call.count > MOST_GIVEN;
+        let lend = if over {
+            Call {
+                capacity: 0,
+                slots: 0,
+                ..call
+            }
+        } else {
+            call
+        };
+        let mut xyz: Vec<f64> = points.iter().flatten().copied().collect();
+        xyz.resize(xyz.len().max(3 * lend.capacity), 0.0);
+        Room {
+            points: xyz,
+            quads: vec![0; lend.quads_len()],
+            triangles: vec![0; 3 * lend.slots],
+            components: vec![0; lend.slots],
+            work: vec![0; lend.work_len()],
+            float_work: vec![0.0; lend.float_work_len()],
+        }
+    }
+
+    fn memory(&mut self) -> Memory<'_> {
+        Memory {
+            points: &mut self.points,
+            quads: &mut self.quads,
+            triangles: &mut self.triangles,
+            components: &mut self.components,
+            work: &mut self.work,
+            float_work: &mut self.float_work,
+        }
+    }
 }

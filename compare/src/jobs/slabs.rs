@@ -2,14 +2,18 @@
 
 use reference::account::slots_used;
 use reference::generators::shape::Room;
-use reference::generators::{joints, on_grid, sets, KINDS, TEXT};
+use reference::generators::{KINDS, TEXT};
 use reference::input::{Input, Lent, LARGEST};
 use reference::job::{Job, Step, MOST_ALLOWANCE};
 use reference::patched::FrontResult;
 use reference::random::Random;
 
+use crate::asked::asked;
 use crate::cases::BEFORE_SLICES;
 use crate::memory::{self, Tails, SLICES};
+
+/// Of so many meshes four have a set, four have joints, four are in the profile.
+const ASKED_OF: usize = 24;
 
 /// A mesh for a job, its memory, and its run by itself with all that may be lent.
 pub struct Slab {
@@ -27,7 +31,7 @@ impl Slab {
             input.stop = r.below(2) as u32;
         }
         if input.refusal(LARGEST).is_none() {
-            input = asked(input, r);
+            input = asked(input, ASKED_OF, r);
         }
         let mut slab = Slab {
             lent: Lent {
@@ -128,26 +132,6 @@ fn room(r: &mut Random) -> Room {
             points: 32,
         },
     }
-}
-
-/// The input in the profile, with a set, with joints, good or doubtful.
-fn asked(plain: Input, r: &mut Random) -> Input {
-    let mut input = match r.below(24) {
-        0..=3 => on_grid::good(&plain, r),
-        4 => on_grid::doubtful(&plain, r),
-        _ => plain,
-    };
-    match r.below(24) {
-        0..=3 => input.quality = sets::good(r),
-        4 => input.quality = sets::doubtful(r),
-        _ => {}
-    }
-    match r.below(24) {
-        0..=3 => input.joints = joints::good(&input, r),
-        4..=5 => input.joints = joints::doubtful(&input, r),
-        _ => {}
-    }
-    input
 }
 
 /// Allowances: so small that shares are 0, so small that limits bite, and all that there are.

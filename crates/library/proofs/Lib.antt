@@ -1,2 +1,3 @@
 pub mod Handing
 pub mod Meshes
+pub mod Showing

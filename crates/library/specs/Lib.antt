@@ -2,3 +2,4 @@
 pub mod Exported
 pub mod Filed
 pub mod Jobs
+pub mod Previews

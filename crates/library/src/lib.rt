@@ -1,6 +1,7 @@
-// The mesher, a mesh of a job, the quality sheet, the filing order and every small mesh for programs in C and Rust: numbers and slices only. include/sedgepick.h says the same to their authors.
+// The mesher, a mesh of a job, what an edge would give, the quality sheet, the filing order and every small mesh for programs in C and Rust: numbers and slices only. include/sedgepick.h says the same to their authors.
 mod jobs;
 mod orders;
+mod previews;
 mod sheets;
 mod small_meshes;
 

@@ -1,0 +1,127 @@
+"""The options of sedgepick-mesh."""
+import argparse, math
+
+PAGES = ('.html', '.htm')
+
+
+def size_of(word):
+    if word == 'auto':
+        return None
+    value = float(word)
+    if not 0.0 <= value < math.inf:
+        raise ValueError(word)
+    return value
+
+
+def count_of(word):
+    if int(word) < 1:
+        raise ValueError(word)
+    return int(word)
+
+
+def number_from(low, high, kind=float):
+    """Reads a number within its bounds."""
+    def read(word):
+        try:
+            value = kind(word)
+        except ValueError:
+            raise argparse.ArgumentTypeError('%r is not a %snumber' % (word, 'whole ' if kind is int else ''))
+        if not low <= value <= high:
+            raise argparse.ArgumentTypeError('%s is out of range: from %g to %g' % (word, low, high))
+        return value
+    return read
+
+
+def angle_of(word):
+    """The cosine of a least angle in degrees."""
+    from .front import RANGES, cosine_of
+    low, high = RANGES['largest_cosine']
+    try:
+        cosine = cosine_of(float(word)) if 0 <= float(word) <= 90 else math.nan
+    except ValueError:
+        raise argparse.ArgumentTypeError('%r is not a number' % word)
+    if not low <= cosine <= high:
+        raise argparse.ArgumentTypeError('%s is out of range: from 8.11 to 60 degrees' % word)
+    return cosine
+
+
+def quality_options(parser):
+    from .front import RANGES, Quality
+    usual, group = Quality(), parser.add_argument_group('quality of the quads', 'What a quad is held to; fewer quads come out where it is more.')
+    add = group.add_argument
+    add('--least-jacobian', type=number_from(*RANGES['least_jacobian']), default=usual.least_jacobian, metavar='J',
+        help='least scaled Jacobian of a quad, from 0 to 1; %(default)s if left out')
+    corner = group.add_mutually_exclusive_group().add_argument
+    corner('--least-angle', dest='largest_cosine', type=angle_of, default=usual.largest_cosine, metavar='DEGREES',
+           help="least angle of a quad's corner, from 8.11 to 60 degrees; 25 if left out")
+    corner('--largest-cosine', type=number_from(*RANGES['largest_cosine']), default=usual.largest_cosine, metavar='C',
+           help='the same by its cosine, from 0.5 to 0.99')
+    add('--side-low', type=number_from(*RANGES['side_low']), default=usual.side_low, metavar='F',
+        help='a side node is looked for at this many times the size from the end of an edge at least, from 0.1 to 4; %(default)s if left out')
+    add('--side-high', type=number_from(*RANGES['side_high']), default=usual.side_high, metavar='F', help='and at most; %(default)s if left out')
+    add('--pairs', type=number_from(*RANGES['pairs'], int), default=usual.pairs, metavar='N',
+        help='pairs of side nodes tried for an edge, from 1 to 64; %(default)s if left out')
+
+
+def quality_of(options):
+    from .front import Quality
+    return Quality(options.least_jacobian, options.largest_cosine, options.side_low, options.side_high, options.pairs)
+
+
+def check_written(parser, options):
+    """That there is something to write, and that what is asked for comes of it."""
+    if not options.output:
+        if not options.preview:
+            parser.error('the following arguments are required: -o/--output (or --preview)')
+        for name in ('report', 'sheet', 'node_map'):
+            if getattr(options, name):
+                parser.error('--%s is of a run: give -o too' % name.replace('_', '-'))
+    for path in options.preview:
+        if not path.lower().endswith(('.svg', *PAGES)):
+            parser.error('--preview %s: its name ends in .svg for the picture or in .html for the page' % path)
+
+
+def arguments(words, description):
+    from . import slabs
+    from .job import MOST_ALLOWANCE
+    from .library import VERSION
+    parser = argparse.ArgumentParser(prog='sedgepick-mesh', description=description, formatter_class=argparse.RawDescriptionHelpFormatter)
+    add = parser.add_argument
+    add('input', metavar='IN', nargs='+', help='a mesh file with triangles; with --job several')
+    add('-o', '--output', metavar='OUT', help='the mesh file to write; with --job a folder, where each file is written under its name, or a path in '
+        "which * stands for the name without its suffix: 'quads/*.vtu'; it may be left out with --preview")
+    add('--preview', metavar='FILE', action='append', default=[], help='what each edge of the front would give, tried first: .svg a picture, .html a page with it, which says of '
+        'an edge that is pointed at what it gives; may be given twice')
+    add('--job', type=number_from(1, MOST_ALLOWANCE, int), metavar='ALLOWANCE', help='run the files as one job, in their order, under this many attempts, from 1 to '
+        '1,000,000')
+    add('--size', type=size_of, default='auto', metavar='S', help='the length of an edge that the quads should have, in the units of the file; 0: each edge sets '
+        'its own; auto, the default: the best of six runs, with 0.55 to 0.75 of the mean edge and 0 (docs/SIZE.md)')
+    add('--grid', action='store_true', help='the grid profile: every node lies on a fixed grid, no node is added, and the summed area of the cells is that of the '
+        'triangles, exactly (docs/GRID.md); --size is 0')
+    add('--stop', type=int, choices=(0, 1), default=0, help='0, the default: go on while an edge is open; 1: and leave only even components of triangles')
+    add('--report', metavar='FILE', action='append', default=[], help='a report: .html with the picture, otherwise text; may be given twice')
+    add('--sheet', metavar='FILE', action='append', default=[], help='the quality sheet of the quads: .csv a table, otherwise text; may be given twice')
+    add('--allow-loss', action='store_true', help='write the mesh also where a line, a point or a border of the file could not be kept; what is lost is listed')
+    add('--free', action='store_true', help="do not keep the file's lines, points and borders of surfaces at all; what is lost is listed")
+    add('--keep-nodes', action='store_true', help='write nodes that no cell has, too')
+    add('--node-map', metavar='FILE', help='a table: each node of OUT and its number in IN, both from 1 in the order of the file; none for added nodes')
+    add('--flatten', action='store_true', help='set every z to 0')
+    add('--from', dest='form', metavar='FORMAT', help="meshio's name of IN's format, where the suffix does not say it")
+    add('--to', metavar='FORMAT', help="meshio's name of OUT's format")
+    add('--jobs', type=count_of, metavar='N', help='parts run at once; all cores if left out')
+    add('-q', '--quiet', action='store_true', help='no summary on standard output')
+    add('--version', action='version', version='sedgepick-mesh ' + VERSION)
+    quality_options(parser)
+    options = parser.parse_args(words)
+    if options.side_low > options.side_high:
+        parser.error('--side-low %g is above --side-high %g' % (options.side_low, options.side_high))
+    if options.grid and options.size not in (None, 0.0):
+        parser.error('--grid takes no --size but 0: in the profile each edge sets its own')
+    check_written(parser, options)
+    if options.job:
+        slabs.check(parser, options)
+    elif len(options.input) > 1:
+        parser.error('one mesh file is run at a time; --job ALLOWANCE runs several under one allowance of attempts')
+    options.files, options.input = options.input, options.input[0]
+    options.quality = quality_of(options)
+    return options
