@@ -1,4 +1,4 @@
-/* Tests of sedgepick_mesh.h: results, growth of what is lent, refusals, jobs, previews, two threads. Prints what failed; exit status 1 then. */
+/* Tests of sedgepick_mesh.h: results, growth of what is lent, refusals, jobs, previews, traces and replays, two threads. Prints what failed; exit status 1 then. */
 #include <sedgepick_mesh.h>
 #include <math.h>
 #include <pthread.h>
@@ -29,12 +29,17 @@ static void grid(unsigned seed, double *points, uint32_t *triangles) {
         }
 }
 
-static int same(const sedgepick_mesh *a, const sedgepick_mesh *b) {
-    return !memcmp(a->answer, b->answer, sizeof a->answer)
+static int same_lists(const sedgepick_mesh *a, const sedgepick_mesh *b) {
+    return !memcmp(a->answer + SEDGEPICK_QUAD_COUNT, b->answer + SEDGEPICK_QUAD_COUNT, SEDGEPICK_REPLAY * sizeof *a->answer)
         && !memcmp(a->points, b->points, 3 * a->answer[SEDGEPICK_POINT_COUNT] * sizeof *a->points)
         && !memcmp(a->quads, b->quads, SEDGEPICK_QUADS(a->answer[SEDGEPICK_QUAD_COUNT]) * sizeof *a->quads)
         && !memcmp(a->triangles, b->triangles, 3 * a->answer[SEDGEPICK_TRIANGLE_COUNT] * sizeof *a->triangles)
         && !memcmp(a->components, b->components, a->answer[SEDGEPICK_COMPONENT_COUNT] * sizeof *a->components);
+}
+
+/* The lists, and every number of the answer but the words of the trace. */
+static int same(const sedgepick_mesh *a, const sedgepick_mesh *b) {
+    return !memcmp(a->answer, b->answer, SEDGEPICK_TRACE_WORDS * sizeof *a->answer) && same_lists(a, b);
 }
 
 static double points[2][3 * POINTS];
@@ -134,6 +139,8 @@ static void test_refusals(void) {
     CHECK(refusal_of(3, 1, 1, 0, unknown) == SEDGEPICK_UNKNOWN_NODE);
     CHECK(refusal_of(3, 1, 1, 0, twice) == SEDGEPICK_REPEATED_NODE);
     CHECK(refusal_of(4, 1, 1, 0, good) == SEDGEPICK_FAR_POINT);
+    CHECK(strcmp(sedgepick_refusal_words(SEDGEPICK_NO_TRACE), sedgepick_refusal_words(77)) != 0);
+    CHECK(strcmp(sedgepick_refusal_words(SEDGEPICK_BAD_TRACE), sedgepick_refusal_words(77)) != 0);
     for (size_t i = 0; i <= SEDGEPICK_NO_SLOTS; i++)
         CHECK(strcmp(sedgepick_refusal_words(i), sedgepick_refusal_words(77)) != 0);
     CHECK(strcmp(sedgepick_refusal_words(SEDGEPICK_BAD_QUALITY), sedgepick_refusal_words(77)) != 0);
@@ -446,6 +453,125 @@ static void test_preview_refused(void) {
     CHECK(!memcmp(answer, sevens, sizeof answer));
 }
 
+/* A trace changes nothing else, however few words are lent at first; its replay has the run's lists, after every entry those of a mesh with one quad or point more, or a flip. */
+static void test_trace(void) {
+    for (size_t first = 1; first < 70000; first += 65535) {
+        sedgepick_options options = sedgepick_standard_options(0.15, 0);
+        sedgepick_mesh mesh, plain, step;
+        size_t entry, at = 0, inserted = 0, placed = 0, flipped = 0;
+        CHECK(sedgepick_mesh_run_with(points[0], POINTS, triangles[0], TRIANGLES, &options, &plain) == SEDGEPICK_FINISHED);
+        CHECK(plain.answer[SEDGEPICK_TRACE_WORDS] == 0);
+        options.trace = first;
+        CHECK(sedgepick_mesh_run_with(points[0], POINTS, triangles[0], TRIANGLES, &options, &mesh) == SEDGEPICK_FINISHED);
+        const size_t words = mesh.answer[SEDGEPICK_TRACE_WORDS];
+        CHECK(same(&mesh, &plain) && words > 0);
+        for (; at < words && (entry = sedgepick_entry_words(mesh.trace + at, words - at)); at += entry) {
+            inserted += mesh.trace[at] == SEDGEPICK_ENTRY_INSERTION;
+            flipped += mesh.trace[at] == SEDGEPICK_ENTRY_FLIP;
+            placed += mesh.trace[at] == SEDGEPICK_ENTRY_QUAD;
+            if (at % 64 && at + entry < words)
+                continue;
+            CHECK(sedgepick_mesh_replay(points[0], POINTS, triangles[0], TRIANGLES, mesh.trace, at + entry, &step) == SEDGEPICK_FINISHED);
+            CHECK(step.answer[SEDGEPICK_QUAD_COUNT] == placed && step.answer[SEDGEPICK_POINT_COUNT] == POINTS + inserted);
+            CHECK(!memcmp(step.quads, mesh.quads, SEDGEPICK_QUADS(placed) * sizeof *mesh.quads));
+            if (at + entry == words)
+                CHECK(same_lists(&step, &mesh));
+            sedgepick_mesh_free(&step);
+            CHECK(sedgepick_mesh_replay(points[0], POINTS, triangles[0], TRIANGLES, mesh.trace, at + entry - 1, &step) == SEDGEPICK_BAD_TRACE && !step.points);
+        }
+        CHECK(at == words && placed == mesh.answer[SEDGEPICK_QUAD_COUNT] && inserted == mesh.answer[SEDGEPICK_MISMATCH_INSERTIONS] && inserted && flipped);
+        sedgepick_mesh_free(&mesh);
+        sedgepick_mesh_free(&plain);
+    }
+}
+
+static const double unit[] = {0, 0, 0, 1, 0, 0, 1, 1, 0, 0, 1, 0};
+static const uint32_t halves[] = {0, 1, 2, 0, 2, 3}, placed[] = {4, 0, 1, 2, 3, 0, 1, 1, 2, 0, 1};
+
+/* The unit square in memory full of sevens, with so many words of trace; behind them stays what was there, and an entry that does not fit leaves the trace as it was. */
+static void test_trace_lent(void) {
+    for (size_t room = 0; room <= 13; room++) {
+        double p[12 + 3], float_work[4 * 3];
+        uint32_t quads[8 * 3], left[3 * 3], components[3], work[64 * 3 + 8 * 4], trace[13], sevens[13];
+        size_t answer[SEDGEPICK_ANSWER];
+        const sedgepick_quality q = sedgepick_standard_quality();
+        memcpy(p, unit, sizeof unit);
+        memset(trace, 7, sizeof trace);
+        memset(sevens, 7, sizeof sevens);
+        size_t refusal = sedgepick_run_front_with(
+            p, 15, halves, 6, halves, 6, quads, 24, left, 9, components, 3, work, 64 * 3 + 8 * 4, float_work, 12, trace, room,
+            4, 4, 2, 3, 0, 1, 0, q.least_jacobian, q.largest_cosine, q.side_low, q.side_high, q.pairs, 0, answer, SEDGEPICK_ANSWER);
+        size_t used = room < 11 ? 0 : 11;
+        CHECK(refusal == (room && room < 11 ? SEDGEPICK_NO_TRACE : SEDGEPICK_FINISHED));
+        CHECK(refusal || answer[SEDGEPICK_TRACE_WORDS] == used);
+        CHECK(!memcmp(trace, placed, used * sizeof *trace) && !memcmp(trace + used, sevens, (13 - used) * sizeof *trace));
+    }
+}
+
+/* A replay over slices of its own: what is returned and written, and that a refusal leaves the answer. */
+static size_t replayed(const uint32_t *trace, size_t trace_len, size_t words, size_t capacity, size_t slots, size_t *answer, size_t answer_len, uint32_t *left) {
+    double p[3 * LENT_POINTS], float_work[4 * LENT_SLOTS];
+    uint32_t quads[8 * LENT_SLOTS], components[LENT_SLOTS], work[LENT_WORK];
+    memcpy(p, unit, sizeof unit);
+    memset(answer, 7, answer_len * sizeof *answer);
+    return sedgepick_replay(
+        p, 3 * LENT_POINTS, halves, 6, trace, trace_len, quads, 8 * LENT_SLOTS, left, 3 * LENT_SLOTS, components, LENT_SLOTS,
+        work, LENT_WORK, float_work, 4 * LENT_SLOTS, 4, capacity, 2, slots, words, answer, answer_len);
+}
+
+static void test_replay_lent(void) {
+    const uint32_t flip[] = {2, 0, 2}, turned[] = {2, 2, 0}, other[] = {3, 0, 2}, twice[] = {4, 0, 2, 0, 2, 9, 8, 6, 0}, flipped[] = {1, 3, 0, 3, 1, 2};
+    const uint32_t inside[] = {1, 0, 0, 1072168960, 0, 1071644672}, on_edge[] = {1, 0, 0, 1071644672, 0, 1071644672}, past[] = {4, 0, 1, 2, 3, 0, 1, 1, 0xffffffff, 0, 1};
+    size_t a[SEDGEPICK_REPLAY + 1], seven;
+    uint32_t left[3 * LENT_SLOTS];
+    memset(&seven, 7, sizeof seven);
+    CHECK(replayed(placed, 11, 11, 4, 3, a, 5, left) == SEDGEPICK_FINISHED && a[0] == 1 && a[1] == 0 && a[2] == 4 && a[3] == 0 && a[4] == seven);
+    CHECK(replayed(placed, 11, 0, 4, 3, a, 4, left) == SEDGEPICK_FINISHED && a[0] == 0 && a[1] == 2 && a[2] == 4 && a[3] == 1);
+    CHECK(!memcmp(left, halves, sizeof halves));
+    CHECK(replayed(flip, 3, 3, 4, 3, a, 4, left) == SEDGEPICK_FINISHED && !memcmp(left, flipped, sizeof flipped));
+    CHECK(replayed(twice, 9, 9, 4, 3, a, 4, left) == SEDGEPICK_FINISHED && a[0] == 1 && a[1] == 2);
+    CHECK(replayed(inside, 6, 6, 5, 4, a, 4, left) == SEDGEPICK_FINISHED && a[1] == 4 && a[2] == 5);
+    CHECK(replayed(inside, 6, 6, 4, 2, a, 4, left) == SEDGEPICK_NO_POINT && a[0] == seven && a[3] == seven);
+    CHECK(replayed(inside, 6, 6, 5, 3, a, 4, left) == SEDGEPICK_NO_SLOTS);
+    CHECK(replayed(placed, 11, 11, 4, 2, a, 4, left) == SEDGEPICK_NO_SLOTS);
+    CHECK(replayed(on_edge, 6, 6, 4, 2, a, 4, left) == SEDGEPICK_BAD_TRACE && a[0] == seven);
+    CHECK(replayed(turned, 3, 3, 4, 3, a, 4, left) == SEDGEPICK_BAD_TRACE && replayed(other, 3, 3, 4, 3, a, 4, left) == SEDGEPICK_BAD_TRACE);
+    CHECK(replayed(past, 11, 11, 4, 3, a, 4, left) == SEDGEPICK_BAD_TRACE && replayed(placed, 11, 10, 4, 3, a, 4, left) == SEDGEPICK_BAD_TRACE);
+    CHECK(replayed(placed, 11, 12, 4, 3, a, 4, left) == SEDGEPICK_TOO_SHORT && replayed(placed, 11, (size_t)-1, 4, 3, a, 4, left) == SEDGEPICK_TOO_SHORT);
+    CHECK(replayed(placed, 11, 11, 4, 3, a, 3, left) == SEDGEPICK_TOO_SHORT && a[0] == seven);
+    CHECK(replayed(placed, 11, 11, SEDGEPICK_MOST_CAPACITY + 1, 3, a, 3, left) == SEDGEPICK_OVER_LIMIT);
+}
+
+/* With memory of its own. */
+static void test_replay(void) {
+    const uint32_t flip[] = {2, 0, 2}, flipped[] = {1, 3, 0, 3, 1, 2}, edge[] = {2, 0, 1}, unknown[] = {0, 1, 4};
+    sedgepick_mesh mesh;
+    CHECK(sedgepick_mesh_replay(unit, 4, halves, 2, flip, 3, &mesh) == SEDGEPICK_FINISHED);
+    CHECK(mesh.answer[SEDGEPICK_TRIANGLE_COUNT] == 2 && !memcmp(mesh.triangles, flipped, sizeof flipped) && mesh.answer[SEDGEPICK_ATTEMPTS] == 0);
+    sedgepick_mesh_free(&mesh);
+    CHECK(sedgepick_mesh_replay(NULL, 0, NULL, 0, NULL, 0, &mesh) == SEDGEPICK_FINISHED);
+    sedgepick_mesh_free(&mesh);
+    CHECK(sedgepick_mesh_replay(unit, 4, halves, 2, edge, 3, &mesh) == SEDGEPICK_BAD_TRACE && !mesh.points && !mesh.trace);
+    CHECK(sedgepick_mesh_replay(unit, 4, unknown, 1, flip, 3, &mesh) == SEDGEPICK_UNKNOWN_NODE);
+    CHECK(sedgepick_mesh_replay(unit, 4097, halves, 2, flip, 3, &mesh) == SEDGEPICK_OVER_LIMIT);
+    CHECK(sedgepick_entry_words(placed, 11) == 11 && sedgepick_entry_words(placed, 10) == 0 && sedgepick_entry_words(placed, 8) == 0);
+    CHECK(sedgepick_entry_words(flip, 3) == 3 && sedgepick_entry_words(flip, 2) == 0 && sedgepick_entry_words(flip, 0) == 0 && sedgepick_entry_words(flipped, 6) == 6);
+}
+
+/* A mesh of a job is run once: with too few words it is refused with 11 and charged what it began. */
+static void test_job_trace(void) {
+    size_t job[SEDGEPICK_JOB] = SEDGEPICK_JOB_START(2, 100000);
+    sedgepick_options options = sedgepick_standard_options(0.25, 0);
+    sedgepick_mesh mesh;
+    options.trace = 40;
+    CHECK(sedgepick_mesh_run_job(points[0], POINTS, triangles[0], TRIANGLES, &options, job, &mesh) == SEDGEPICK_NO_TRACE);
+    CHECK(!mesh.points && job[SEDGEPICK_JOB_CHARGED] > 0 && job[SEDGEPICK_JOB_LEFT] == 50000 - job[SEDGEPICK_JOB_CHARGED]);
+    options.trace = SEDGEPICK_TRACE;
+    CHECK(sedgepick_mesh_run_job(points[0], POINTS, triangles[0], TRIANGLES, &options, job, &mesh) == SEDGEPICK_FINISHED);
+    CHECK(same(&mesh, &alone[0]) && mesh.answer[SEDGEPICK_TRACE_WORDS] > 40);
+    sedgepick_mesh_free(&mesh);
+}
+
 int main(void) {
     test_threads();
     test_growth();
@@ -461,6 +587,11 @@ int main(void) {
     test_bad_jobs();
     test_preview();
     test_preview_refused();
+    test_trace();
+    test_trace_lent();
+    test_replay_lent();
+    test_replay();
+    test_job_trace();
     CHECK(!strcmp(sedgepick_version(), SEDGEPICK_VERSION));
     CHECK(strlen(sedgepick_commit()) > 0);
     printf("%s\n", failures ? "failed" : "ok");

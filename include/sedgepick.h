@@ -19,9 +19,9 @@ extern "C" {
 
 /* The version of this header. */
 #define SEDGEPICK_VERSION_MAJOR 0
-#define SEDGEPICK_VERSION_MINOR 1
+#define SEDGEPICK_VERSION_MINOR 2
 #define SEDGEPICK_VERSION_PATCH 0
-#define SEDGEPICK_VERSION "0.1.0"
+#define SEDGEPICK_VERSION "0.2.0"
 
 /* Limits on the numbers of a call. */
 #define SEDGEPICK_MOST_GIVEN 4096     /* given points, and given triangles */
@@ -88,7 +88,8 @@ static inline sedgepick_quality sedgepick_standard_quality(void) {
     return standard;
 }
 
-/* What is returned. The refusals are tested in this order, and 8 before 9; each is returned under its condition and under no other. */
+/* What is returned. The refusals are tested in this order, 8 before 9 and 9 before 11 of the same step, and in a replay 12 before 8 and 9 of the same entry; each is
+ * returned under its condition and under no other. */
 enum sedgepick_refusal {
     SEDGEPICK_FINISHED = 0,
     /* the job's state, in sedgepick_job alone */
@@ -108,7 +109,11 @@ enum sedgepick_refusal {
     SEDGEPICK_BAD_JOINT = 13,   /* a joint whose nodes are one, or one of them not below the given points; or over 256 joints */
     /* the run itself */
     SEDGEPICK_NO_POINT = 8,     /* an insertion, with the point capacity used up */
-    SEDGEPICK_NO_SLOTS = 9      /* a split with fewer than two slots free, or a quad with none */
+    SEDGEPICK_NO_SLOTS = 9,     /* a split with fewer than two slots free, or a quad with none */
+    SEDGEPICK_NO_TRACE = 11,    /* an insertion, a flip or a quad whose entry does not fit the lent trace */
+    /* the words of a replay, in sedgepick_replay alone */
+    SEDGEPICK_BAD_TRACE = 12    /* an entry cut short or of another kind, or one that names a slot without a triangle, a slot twice, a node that is not there, a point not
+                                   strictly inside its triangle, or an edge that is not in its node order or does not flip */
 };
 
 /* Places in the answer of a finished run. */
@@ -129,6 +134,7 @@ enum sedgepick_answer {
     SEDGEPICK_COMPONENT_COUNT,
     SEDGEPICK_TRIALS,              /* pairs of side nodes tried, over all attempts: in one that was refused all the pairs it had, up to the set's number; in one
                                       that placed a quad those up to the quad's. So at most the set's number for each attempt */
+    SEDGEPICK_TRACE_WORDS,         /* words of the trace; 0 where none is lent */
     SEDGEPICK_ANSWER               /* how many they are */
 };
 
@@ -151,10 +157,10 @@ enum sedgepick_answer {
  * slots          slots for cells, from the triangles to 16,384. Each given triangle takes one, each quad one more, each added point two more.
  * size           target length of an edge: 0 for none, otherwise from 1/64 to 8.
  * stop           stop rule: 0 or 1.
- * answer         14 numbers (SEDGEPICK_ANSWER), written only where 0 is returned; after a refusal all counts and lengths are zero, and the slice is as it was.
+ * answer         15 numbers (SEDGEPICK_ANSWER), written only where 0 is returned; after a refusal all counts and lengths are zero, and the slice is as it was.
  *
- * Entries past a list's length are as they were. 1 to 7 and 13 to 16 touch no slice but a job's numbers. 8 and 9 leave the points added and the quads written before them, clear both
- * work slices and touch nothing else; with more capacity, or more slots, the same call goes further.
+ * Entries past a list's length are as they were. 1 to 7 and 13 to 16 touch no slice but a job's numbers. 8, 9 and 11 leave the points added, the quads written and the entries of the
+ * trace made before them, clear both work slices and touch nothing else; with more capacity, more slots or a longer trace the same call goes further.
  */
 size_t sedgepick_run_front(
     double *points, size_t points_len,
@@ -167,8 +173,32 @@ size_t sedgepick_run_front(
     size_t given, size_t capacity, size_t count, size_t slots, double size, uint32_t stop,
     size_t *answer, size_t answer_len);
 
-/* The same with joints, a quality set and the grid profile. Without joints and the profile and with the standard set it is sedgepick_run_front.
+/* Kinds of a trace's entries: the first word of each. The others follow:
  *
+ * an insertion  6 words: 1, the slot of the triangle that was split, the low and the high half of x's bits, those of y's. The point comes behind the others with z 0; the
+ *               first third keeps the slot, the other two take the next ones.
+ * a flip        3 words: 2, the edge's nodes, the smaller first.
+ * a quad        9 words and one for each triangle that it replaced: 4, its nodes, the front edge that it grew from, the smaller node first, the round, the number of its
+ *               slots, the slots. The quad itself takes the next slot.
+ *
+ * Given triangles have the slots 0, 1 and so on; no slot is used twice. So the given mesh and the entries say what the mesh was at every step.
+ */
+enum sedgepick_entry {
+    SEDGEPICK_ENTRY_INSERTION = 1,
+    SEDGEPICK_ENTRY_FLIP = 2,
+    SEDGEPICK_ENTRY_QUAD = 4
+};
+
+/* Words of an entry, a quad's before its slots. */
+#define SEDGEPICK_INSERTION_WORDS 6
+#define SEDGEPICK_FLIP_WORDS 3
+#define SEDGEPICK_PLACED_WORDS 9
+
+/* The same with joints, a quality set, the grid profile and a trace. Without joints, the profile and a trace and with the standard set it is sedgepick_run_front.
+ *
+ * trace        any number of words; the length 0 is none, and then nothing is written. An entry for each insertion, flip and quad comes to its front (enum sedgepick_entry), in
+ *              the order in which they were made, those of attempts that were refused too; the answer has the words used. Where one entry more does not fit, the
+ *              run is refused with 11, nothing of that entry is written, and what it says is not done. A trace changes nothing else.
  * joints       2 node numbers a joint, in either order; only read. A joint is locked: it is never flipped, and no quad covers it, so a joint that is an edge
  *              of the given triangles is an edge of a quad or of a triangle left over in the finished mesh. A joint need not be an edge of the mesh; one that
  *              a flip makes an edge is locked from then on. The order of the list and repeats in it change nothing.
@@ -190,9 +220,45 @@ size_t sedgepick_run_front_with(
     uint32_t *components, size_t components_len,
     uint32_t *work, size_t work_len,
     double *float_work, size_t float_work_len,
+    uint32_t *trace, size_t trace_len,
     size_t given, size_t capacity, size_t count, size_t slots, size_t joint_count, double size, uint32_t stop,
     double least_jacobian, double largest_cosine, double side_low, double side_high, size_t pairs,
     uint32_t grid,
+    size_t *answer, size_t answer_len);
+
+/* Places in the answer of a replay: the lengths of the four lists. */
+enum sedgepick_replay_place {
+    SEDGEPICK_REPLAY_QUADS,
+    SEDGEPICK_REPLAY_TRIANGLES,
+    SEDGEPICK_REPLAY_POINTS,
+    SEDGEPICK_REPLAY_COMPONENTS,
+    SEDGEPICK_REPLAY /* how many they are */
+};
+
+/* Replays the words of a trace on the mesh that its run was given: the points, quads, triangles and components are those of the finished run. With the first
+ * entries alone they are those of the mesh as it was then, so a mesh can be stepped through as it grew; with no words they are the given ones.
+ *
+ * The parameters are those of sedgepick_run_front, but for these:
+ *
+ * trace   the words; only read.
+ * words   how many of them are replayed: these are read and no others, so one word more or less than whole entries is 12.
+ * answer  4 numbers (SEDGEPICK_REPLAY), written only where 0 is returned; entries past them are as they were.
+ *
+ * Words that no run wrote are safe. 0 is returned, or a refusal: 1, then 4 (a trace of fewer words than stated and an answer of fewer than 4 numbers too), 5, 6 and 7, which
+ * touch nothing; or 12, 8 and 9, tested entry by entry in this order, which leave the points added and the quads written before the entry, clear both work
+ * slices and touch nothing else. A trace says nothing of size, stop rule, joints, quality and profile, and none is tested: an edge, a round and nodes of a quad that have
+ * nothing to do with its slots are taken as they are, a node twice in a quad too. `replaced` is the number of the quad's slots.
+ */
+size_t sedgepick_replay(
+    double *points, size_t points_len,
+    const uint32_t *triangles, size_t triangles_len,
+    const uint32_t *trace, size_t trace_len,
+    uint32_t *quads, size_t quads_len,
+    uint32_t *triangles_out, size_t triangles_out_len,
+    uint32_t *components, size_t components_len,
+    uint32_t *work, size_t work_len,
+    double *float_work, size_t float_work_len,
+    size_t given, size_t capacity, size_t count, size_t slots, size_t words,
     size_t *answer, size_t answer_len);
 
 /* Places in a job's numbers: the state that is handed from mesh to mesh, and what the last one was charged. */
@@ -212,7 +278,7 @@ enum sedgepick_job_place {
  *
  * A mesh is entitled to the whole part of allowance / meshes, and to what the one before it left. Its limit on attempts is that or the usual one
  * (SEDGEPICK_LIMIT), whichever is smaller; otherwise the call is sedgepick_run_front_with. It leaves what it was entitled to less what it is charged: the
- * attempts made, of which a counted one that a limit stopped is none; where 8 or 9 ended the run, the attempts begun; and nothing where it is refused before
+ * attempts made, of which a counted one that a limit stopped is none; where 8, 9 or 11 ended the run, the attempts begun; and nothing where it is refused before
  * its run. So a refused mesh gets its number, and the job goes on.
  *
  * From a job's start, with each state handed on once, the attempts made never pass the allowance. Where a mesh run by itself is finished, its quads in the job
@@ -220,7 +286,7 @@ enum sedgepick_job_place {
  *
  * job  5 numbers (SEDGEPICK_JOB). The first four are the state, and are written as the state for the next mesh, the fifth as the attempts charged: also where the
  *      mesh is refused. 16 is tested before all else, leaves the four as they were and writes 0 charged. Fewer than 5 numbers are refused as 4 before that. An
- *      answer of fewer than 14 is 4 in its place, behind 16, 1, 2, 3 and 14. Where one of the two slices is too short nothing is written, whatever is
+ *      answer of fewer than 15 is 4 in its place, behind 16, 1, 2, 3 and 14. Where one of the two slices is too short nothing is written, whatever is
  *      returned, and the job does not go on.
  */
 size_t sedgepick_job(
@@ -232,6 +298,7 @@ size_t sedgepick_job(
     uint32_t *components, size_t components_len,
     uint32_t *work, size_t work_len,
     double *float_work, size_t float_work_len,
+    uint32_t *trace, size_t trace_len,
     size_t given, size_t capacity, size_t count, size_t slots, size_t joint_count, double size, uint32_t stop,
     double least_jacobian, double largest_cosine, double side_low, double side_high, size_t pairs,
     uint32_t grid,
@@ -268,7 +335,7 @@ enum sedgepick_preview_place {
 /* Shows what an edge would give: one attempt on the mesh that the run of the same numbers starts from, of which nothing stays. So of the edge that the run tries
  * first it shows how that attempt ends.
  *
- * The parameters are those of sedgepick_run_front_with, but for these:
+ * The parameters are those of sedgepick_run_front_with, but for the trace, which it has not, and these:
  *
  * quads, triangles_out, components  as long as for a run; neither read nor written.
  * u, v    the edge's nodes, in either order. Any numbers are safe: a pair that is no edge is not on the front.

@@ -1,5 +1,5 @@
 /* Sedgepick with memory of its own: a call that lends what the proved `sedgepick_run_front_with` needs and lends more where it runs out, one for the
- * meshes of a job, the refusals in words, and the version. These functions are not proved; what they hand back is what the proved one wrote. They keep nothing between calls and may be
+ * meshes of a job, one for a replay, the refusals in words, and the version. These functions are not proved; what they hand back is what the proved one wrote. They keep nothing between calls and may be
  * called from several threads at once.
  *
  * Link libsedgepick.a or libsedgepick.so, which tools/install writes: cc mesh.c $(pkg-config --cflags --libs sedgepick)
@@ -22,6 +22,7 @@ typedef struct sedgepick_mesh {
     uint32_t *quads;       /* a record each (enum sedgepick_quad): quad i begins at quads[SEDGEPICK_QUADS(i)] */
     uint32_t *triangles;   /* three nodes each: those left over */
     uint32_t *components;  /* the sizes of their components, descending */
+    uint32_t *trace;       /* the words of the trace (enum sedgepick_entry), answer[SEDGEPICK_TRACE_WORDS] of them */
     size_t answer[SEDGEPICK_ANSWER];
 } sedgepick_mesh;
 
@@ -34,16 +35,20 @@ typedef struct sedgepick_options {
     const uint32_t *joints; /* two nodes each; may be null where there are none */
     size_t joint_count;
     uint32_t grid;          /* 0, or SEDGEPICK_GRID for the grid profile */
+    size_t trace;           /* words of trace lent at first, such as SEDGEPICK_TRACE; 0: none is made */
 } sedgepick_options;
 
+/* Words of trace to begin with: enough for most meshes. */
+#define SEDGEPICK_TRACE 65536
+
 static inline sedgepick_options sedgepick_standard_options(double size, uint32_t stop) {
-    sedgepick_options options = {size, stop, SEDGEPICK_STANDARD_QUALITY, 0, 0, 0, 0, 0};
+    sedgepick_options options = {size, stop, SEDGEPICK_STANDARD_QUALITY, 0, 0, 0, 0, 0, 0};
     return options;
 }
 
 /* Meshes `count` triangles (three node numbers each) over `given` points (x, y, z each); both are only read, and may be null where there are none. Where
  * points or slots run out (8, 9) the run is made again with twice as many, up to the limits, so that 8 and 9 come back only from a run that needs more
- * than those. The result does not depend on how much was lent.
+ * than those; where a trace that is asked for is too short (11), with one of twice as many words, as long as there is memory. The result does not depend on how much was lent.
  *
  * Returns 0 and fills *mesh, which sedgepick_mesh_free gives back; or a refusal, or SEDGEPICK_NO_MEMORY, and *mesh is all zeros.
  */
@@ -61,11 +66,20 @@ size_t sedgepick_mesh_run_from(
 
 /* The next mesh of a job (sedgepick_job), whose numbers are in `job`. It is run once: to make the run again with more memory would take its attempts from
  * the allowance twice. So where options->capacity or options->slots is 0 as much is lent as the limits allow, and with less than a run needs 8 and 9 come back
- * and the mesh is charged what it began. A refused mesh leaves *mesh all zeros, and the job goes on; SEDGEPICK_NO_MEMORY leaves the job as it was.
+ * and the mesh is charged what it began; so it is with 11 and a trace of fewer words than the run needs. A refused mesh leaves *mesh all zeros, and the job goes on; SEDGEPICK_NO_MEMORY leaves the job as it was.
  */
 size_t sedgepick_mesh_run_job(
     const double *points, size_t given, const uint32_t *triangles, size_t count, const sedgepick_options *options,
     size_t job[SEDGEPICK_JOB], sedgepick_mesh *mesh);
+
+/* Replays `words` words of a trace on the mesh that its run was given (sedgepick_replay), with as much memory as its entries need. The lists in *mesh are the run's, or those of the mesh
+ * as it was after so many entries; of the answer only the four lengths are set. Returns 0, or a refusal, 12 among them, or SEDGEPICK_NO_MEMORY, and *mesh is all zeros.
+ */
+size_t sedgepick_mesh_replay(
+    const double *points, size_t given, const uint32_t *triangles, size_t count, const uint32_t *trace, size_t words, sedgepick_mesh *mesh);
+
+/* Words of the entry that begins with these, of which there are so many; 0 where it is cut short or of another kind. */
+size_t sedgepick_entry_words(const uint32_t *entry, size_t words);
 
 /* Gives the lists back and sets *mesh to zeros. */
 void sedgepick_mesh_free(sedgepick_mesh *mesh);

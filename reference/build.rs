@@ -19,6 +19,7 @@ fn main() {
         "allowance",
         "sheet",
         "preview",
+        "trace",
     ];
     let variants: [(&str, &[&str]); 5] = [
         ("without_asked", &[]),

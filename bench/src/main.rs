@@ -90,6 +90,7 @@ impl Lent {
             components: &mut self.components,
             work: &mut self.work,
             float_work: &mut self.float_work,
+            trace: &mut [],
         }
     }
 }

@@ -1,5 +1,5 @@
 //! One generated mesh: the port against the Rust, under both rules, with document 01's quality set and with others, with and without joints, in the grid
-//! profile, and with memory that does or does not suffice.
+//! profile, with and without a trace, and with memory that does or does not suffice.
 
 use reference::account::{areas, lost, slots_used, standing};
 use reference::generators::large::SHAPES;
@@ -15,11 +15,17 @@ use crate::memory::{self, Export, Tails, QUADS, SLICES};
 /// A large mesh comes once in so many cases.
 const LARGE_EACH: u64 = 4096;
 
+/// Up to so many words some meshes are run with a trace of every length.
+const EVERY_ROOM: usize = 120;
+
 /// One more than the largest number of a refusal.
 pub const REFUSALS: usize = 17;
 
 /// Refusals that come before that of a short slice.
 pub const BEFORE_SLICES: [u32; 4] = [1, 2, 3, 14];
+
+/// Refusals that end a run.
+const DURING: [u32; 3] = [8, 9, 11];
 
 /// Triangles of large meshes.
 const LARGE: (usize, usize) = (600, 4000);
@@ -47,6 +53,9 @@ pub struct Tally {
     pub quads: u64,
     pub inserted: u64,
     pub trials: u64,
+    /// With a trace lent, not refused before a run; and the words of those that finished.
+    pub traced: u64,
+    pub words: u64,
     pub differ: u64,
 }
 
@@ -70,6 +79,8 @@ impl Tally {
         self.quads += other.quads;
         self.inserted += other.inserted;
         self.trials += other.trials;
+        self.traced += other.traced;
+        self.words += other.words;
         self.differ += other.differ;
     }
 }
@@ -257,7 +268,11 @@ impl Case<'_> {
             slots: input.triangles.len() + self.r.below(9),
         };
         if input.refusal(LARGEST).is_some() {
-            self.refused(input, small);
+            let mut traced = input.clone();
+            if self.export == Export::With {
+                traced.trace = self.r.pick(&[0, 0, 1, 30]);
+            }
+            self.refused(&traced, small);
             return None;
         }
         let full = input.run_unchecked(LARGEST);
@@ -290,6 +305,36 @@ impl Case<'_> {
         if self.r.once_in(256) {
             self.over_limit(input, lent);
         }
+        if self.export == Export::With && self.r.once_in(2) {
+            self.run_traces(input, need);
+        }
+    }
+
+    /// A trace with room enough, and one without; of every length for some small meshes; and one that ends where points or slots do.
+    fn run_traces(&mut self, input: &Input, need: Lent) {
+        let mut traced = input.clone();
+        traced.trace = usize::MAX;
+        let words = traced.run_unchecked(need).trace.len();
+        let lent = self.enough(need);
+        traced.trace = words + self.r.pick(&[0, 0, 1, 2, 7, 60]);
+        self.capacity(&traced, lent);
+        if words <= EVERY_ROOM && self.r.once_in(8) {
+            for room in 0..words + 2 {
+                traced.trace = room;
+                self.capacity(&traced, lent);
+            }
+        } else if words > 0 {
+            traced.trace = self.r.from_to(1, words);
+            self.capacity(&traced, lent);
+        }
+        if self.r.once_in(2) {
+            let lent = self.scarce(input, need);
+            traced.trace = usize::MAX;
+            let words = traced.run_unchecked(lent).trace.len();
+            let room = words + self.r.below(12);
+            traced.trace = room.saturating_sub(self.r.below(3)).max(1);
+            self.capacity(&traced, lent);
+        }
     }
 
     /// Just enough, a little more, or rarely all that may be lent.
@@ -321,14 +366,18 @@ impl Case<'_> {
 
     /// One capacity that does not suffice, or just does.
     fn some_capacity(&mut self, input: &Input, need: Lent) {
+        let lent = self.scarce(input, need);
+        self.capacity(input, lent);
+    }
+
+    fn scarce(&mut self, input: &Input, need: Lent) -> Lent {
         let points = self.r.from_to(input.points.len(), need.points);
         let slots = self.r.from_to(input.triangles.len(), need.slots);
-        let lent = match self.r.below(3) {
+        match self.r.below(3) {
             0 => Lent { points, ..need },
             1 => Lent { slots, ..need },
             _ => Lent { points, slots },
-        };
-        self.capacity(input, lent);
+        }
     }
 
     fn capacity(&mut self, input: &Input, lent: Lent) {
@@ -412,6 +461,8 @@ impl Case<'_> {
     fn judge(&mut self, input: &Input, lent: Lent, got: Left, want: Left) {
         let t = &mut *self.tally;
         t.runs += 1;
+        let before = matches!(&want.0, Err(why) if !DURING.contains(&why.number()));
+        t.traced += (input.trace > 0 && !before) as u64;
         match &got.0 {
             Ok(a) => {
                 t.finished += 1;
@@ -419,6 +470,7 @@ impl Case<'_> {
                 t.quads += a.quads as u64;
                 t.inserted += a.counts.mismatch_insertions as u64;
                 t.trials += a.counts.trials as u64;
+                t.words += a.words as u64;
             }
             Err(why) => t.refused[why.number() as usize] += 1,
         }

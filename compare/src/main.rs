@@ -1,5 +1,6 @@
 //! The port, linked from its static library, against the patched Rust on generated meshes: answers and every lent slice, bit for bit. `filing` compares the
-//! filing order with a plain one, `jobs` runs jobs of several meshes, `preview` asks what edges would give, `sheet` compares the quality sheet with the reference's.
+//! filing order with a plain one, `jobs` runs jobs of several meshes, `preview` asks what edges would give, `replay` replays traces, `sheet` compares the quality sheet with the
+//! reference's.
 
 mod asked;
 mod cases;
@@ -7,6 +8,7 @@ mod filing;
 mod jobs;
 mod memory;
 mod preview;
+mod replay;
 mod sheet;
 mod threads;
 
@@ -17,11 +19,13 @@ use memory::Export;
 
 const USAGE: &str = "usage: compare SEED COUNT [THREADS]
   runs COUNT generated meshes of the seed under both stop rules, with document 01's quality set and half of them with another, half of them with joints, a third in the
-  grid profile, THREADS at a time (1 without it)
+  grid profile, half of these once more with a trace, THREADS at a time (1 without it)
 compare jobs SEED COUNT [THREADS]
   runs COUNT jobs of 1 to 16 generated meshes, refused ones among them, and states that are refused
 compare preview SEED COUNT [THREADS]
   asks on COUNT generated meshes what each front edge would give, on larger ones some of them, and what inner edges and pairs that are no edge, in both node orders
+compare replay SEED COUNT [THREADS]
+  runs COUNT generated meshes with a trace and replays it, and words that no run wrote: traces damaged in several ways, of other meshes, and any entries
 compare filing SEED COUNT
   runs the filing order on COUNT generated pairs of meshes
 compare sheet SEED COUNT
@@ -58,14 +62,14 @@ impl Found {
 
 /// A line a kind, then the sums.
 fn print(kinds: &BTreeMap<&'static str, Tally>) -> Tally {
-    println!("kind | meshes | runs | sets | changed | joined | changed | standing | saved | grids | finished | by limit | refused 1 2 3 14 4 5 6 7 15 13 | 8 | 9 | quads | insertions | trials | differ");
+    println!("kind | meshes | runs | sets | changed | joined | changed | standing | saved | grids | finished | by limit | refused 1 2 3 14 4 5 6 7 15 13 | 8 | 9 | 11 | quads | insertions | trials | traced | words | differ");
     let mut all = Tally::default();
     let line = |kind: &str, t: &Tally| {
         let early = [1, 2, 3, 14, 4, 5, 6, 7, 15, 13]
             .map(|k| t.refused[k].to_string())
             .join(" ");
         println!(
-            "{kind} | {} | {} | {} | {} | {} | {} | {} | {} | {} | {} | {} | {early} | {} | {} | {} | {} | {} | {}",
+            "{kind} | {} | {} | {} | {} | {} | {} | {} | {} | {} | {} | {} | {early} | {} | {} | {} | {} | {} | {} | {} | {} | {}",
             t.meshes,
             t.runs,
             t.sets,
@@ -79,9 +83,12 @@ fn print(kinds: &BTreeMap<&'static str, Tally>) -> Tally {
             t.limited,
             t.refused[8],
             t.refused[9],
+            t.refused[11],
             t.quads,
             t.inserted,
             t.trials,
+            t.traced,
+            t.words,
             t.differ
         );
     };
@@ -105,11 +112,12 @@ fn show(partings: &mut [(u64, Parting)]) {
     }
 }
 
-/// What to run: meshes of a seed, jobs of them or previews on them on so many threads, pairs of them, or lists of quads.
+/// What to run: meshes of a seed, jobs of them, previews on them or replays on so many threads, pairs of them, or lists of quads.
 enum Asked {
     Runs(u64, u64, u64),
     Jobs(u64, u64, u64),
     Previews(u64, u64, u64),
+    Replays(u64, u64, u64),
     Filing(u64, u64),
     Sheets(u64, u64),
 }
@@ -126,6 +134,8 @@ fn asked() -> Option<Asked> {
         (Some("jobs"), &[seed, count, threads]) => Some(Asked::Jobs(seed, count, threads)),
         (Some("preview"), &[seed, count]) => Some(Asked::Previews(seed, count, 1)),
         (Some("preview"), &[seed, count, threads]) => Some(Asked::Previews(seed, count, threads)),
+        (Some("replay"), &[seed, count]) => Some(Asked::Replays(seed, count, 1)),
+        (Some("replay"), &[seed, count, threads]) => Some(Asked::Replays(seed, count, threads)),
         (None, &[seed, count]) => Some(Asked::Runs(seed, count, 1)),
         (None, &[seed, count, threads]) => Some(Asked::Runs(seed, count, threads)),
         _ => None,
@@ -137,6 +147,7 @@ fn main() {
         Some(Asked::Filing(seed, count)) => filing::run(seed, count),
         Some(Asked::Jobs(seed, count, threads)) => jobs::run(seed, count, threads),
         Some(Asked::Previews(seed, count, threads)) => preview::run(seed, count, threads),
+        Some(Asked::Replays(seed, count, threads)) => replay::run(seed, count, threads),
         Some(Asked::Runs(seed, count, threads)) => runs(seed, count, threads),
         Some(Asked::Sheets(seed, count)) => sheet::run(seed, count),
         None => {

@@ -17,6 +17,8 @@ pub struct Slices {
     pub components: Vec<u32>,
     pub work: Vec<u32>,
     pub float_work: Vec<u64>,
+    /// As many words as the input asks for.
+    pub trace: Vec<u32>,
 }
 
 /// How many numbers a slice has more, or fewer, than it needs.
@@ -61,7 +63,7 @@ pub fn call(input: &Input, lent: Lent) -> Call {
     }
 }
 
-/// The functions of the library: `sedgepick_run_front`, for document 01's set, no joints and no profile, and `sedgepick_run_front_with`.
+/// The functions of the library: `sedgepick_run_front`, for document 01's set, no joints, no profile and no trace, and `sedgepick_run_front_with`.
 #[derive(Clone, Copy, Debug, PartialEq, Eq)]
 pub enum Export {
     Plain,
@@ -117,6 +119,7 @@ pub fn slices(input: &Input, lent: Lent, tails: Tails, r: &mut Random) -> Slices
         components: g.words(lengths[3]),
         work: g.words(lengths[4]),
         float_work: g.wide(lengths[5]),
+        trace: g.words(input.trace),
     }
 }
 
@@ -143,6 +146,7 @@ pub fn run_port(
         components: &mut slices.components,
         work: &mut slices.work,
         float_work: &mut float_work,
+        trace: &mut slices.trace,
     };
     let (triangles, call) = (input.triangles.as_flattened(), call(input, lent));
     let answer = match export {
@@ -163,11 +167,11 @@ pub fn run_port(
 }
 
 /// A list comes to the front of a slice.
-fn onto<T>(slice: &mut [T], list: impl Iterator<Item = T>) {
+pub fn onto<T>(slice: &mut [T], list: impl Iterator<Item = T>) {
     slice.iter_mut().zip(list).for_each(|(to, from)| *to = from);
 }
 
-fn words<const N: usize>(lists: &[[usize; N]]) -> impl Iterator<Item = u32> + '_ {
+pub fn words<const N: usize>(lists: &[[usize; N]]) -> impl Iterator<Item = u32> + '_ {
     lists.iter().flatten().map(|&n| n as u32)
 }
 
@@ -181,6 +185,7 @@ pub fn after_run(before: &Slices, rust: &FrontResult) -> Slices {
         rust.points.iter().flatten().map(|x| x.to_bits()),
     );
     onto(&mut s.quads, words(&records(rust)));
+    onto(&mut s.trace, rust.trace.iter().copied());
     if rust.refused.is_none() {
         onto(&mut s.triangles, words(&rust.triangles));
         onto(
@@ -214,6 +219,7 @@ pub fn answer(rust: &FrontResult) -> Result<Answer, Refusal> {
         triangles: rust.triangles.len(),
         points: rust.points.len(),
         components: rust.region_components.len(),
+        words: rust.trace.len(),
     })
 }
 
@@ -235,4 +241,5 @@ pub fn first_difference(got: &Slices, want: &Slices) -> Option<String> {
         .or_else(|| place("components", &got.components, &want.components))
         .or_else(|| place("work", &got.work, &want.work))
         .or_else(|| place("float work", &got.float_work, &want.float_work))
+        .or_else(|| place("trace", &got.trace, &want.trace))
 }

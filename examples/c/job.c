@@ -27,6 +27,7 @@ static slab slabs[SLABS] = {
 
 static size_t run(slab *s, size_t *job) {
     static const uint32_t no_joints[1];
+    static uint32_t no_trace[1];
     const sedgepick_quality q = SEDGEPICK_STANDARD_QUALITY;
     return sedgepick_job(
         s->points, SEDGEPICK_POINTS(CAPACITY),
@@ -37,6 +38,7 @@ static size_t run(slab *s, size_t *job) {
         s->components, SEDGEPICK_COMPONENTS(SLOTS),
         s->work, SEDGEPICK_WORK(SLOTS, CAPACITY),
         s->float_work, SEDGEPICK_FLOAT_WORK(SLOTS),
+        no_trace, 0,
         s->given, CAPACITY, s->count, SLOTS, 0, 1.0, SEDGEPICK_EXHAUST,
         q.least_jacobian, q.largest_cosine, q.side_low, q.side_high, q.pairs, 0,
         job, SEDGEPICK_JOB,

@@ -32,6 +32,16 @@ What an edge would give, were it the first that a run tries, can be asked before
     >>> [str(shown) for shown in sedgepick.preview_front(*square, size=1.0).values()][0]
     'quad 0 1 2 3 in place of 2 triangles; no insertion, no flip'
 
+A run can be asked for its trace, an entry for each insertion, flip and quad; with its first entries a mesh can be looked at as it was then:
+
+    >>> mesh = sedgepick.run_front(*square, size=1.0, trace=True)
+    >>> [str(entry) for entry in sedgepick.entries(mesh.trace)]
+    ['quad 0 1 2 3 from edge 0-1 in round 1 in place of 2 triangles']
+    >>> sedgepick.replay(*square, mesh.trace).quads == mesh.quads
+    True
+    >>> len(sedgepick.replay(*square, []).triangles)
+    2
+
 Several meshes can share an allowance of attempts, and what one leaves goes to the next:
 
     >>> job = sedgepick.Job(2, 7)
@@ -54,12 +64,13 @@ Lists come back as numpy arrays where numpy is there, otherwise as lists of tupl
 """
 from .front import (EVEN_COMPONENTS, EXHAUST, FAR, GRID_LINES, LARGEST_SIZE, LEAST_SIZE, MOST_CAPACITY, MOST_GIVEN, MOST_JOINTS, MOST_SLOTS, RANGES, REFUSALS, Counts, Mesh,
                     Quad, Quads, Quality, Refused, cosine_of, run_front)
-from .job import MOST_ALLOWANCE, MOST_MESHES, Job, Slab
+from .job import MOST_ALLOWANCE, MOST_MESHES, MOST_TRACE, Job, Slab
 from .library import NoLibrary, VERSION, commit
 from .previews import KINDS, Preview, preview, preview_front
 from .sheets import Sheet, Worst, sheet
+from .traces import Flip, Insertion, Placed, Replayed, entries, replay
 
 __version__ = VERSION
-__all__ = ['Counts', 'EVEN_COMPONENTS', 'EXHAUST', 'FAR', 'GRID_LINES', 'Job', 'KINDS', 'LARGEST_SIZE', 'LEAST_SIZE', 'MOST_ALLOWANCE', 'MOST_CAPACITY', 'MOST_GIVEN', 'MOST_JOINTS',
-           'MOST_MESHES', 'MOST_SLOTS', 'Mesh', 'NoLibrary', 'Preview', 'Quad', 'Quads', 'Quality', 'RANGES', 'REFUSALS', 'Refused', 'Sheet', 'Slab', 'Worst', 'commit', 'cosine_of',
-           'preview', 'preview_front', 'run_front', 'sheet']
+__all__ = ['Counts', 'EVEN_COMPONENTS', 'EXHAUST', 'FAR', 'Flip', 'GRID_LINES', 'Insertion', 'Job', 'KINDS', 'LARGEST_SIZE', 'LEAST_SIZE', 'MOST_ALLOWANCE', 'MOST_CAPACITY', 'MOST_GIVEN', 'MOST_JOINTS',
+           'MOST_MESHES', 'MOST_SLOTS', 'MOST_TRACE', 'Mesh', 'NoLibrary', 'Placed', 'Preview', 'Quad', 'Quads', 'Quality', 'RANGES', 'REFUSALS', 'Refused', 'Replayed', 'Sheet', 'Slab',
+           'Worst', 'commit', 'cosine_of', 'entries', 'preview', 'preview_front', 'replay', 'run_front', 'sheet']

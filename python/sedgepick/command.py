@@ -4,6 +4,7 @@
   sedgepick-mesh slab.msh -o quads.inp --report report.html --sheet sheet.csv
   sedgepick-mesh --job 60000 ground.msh first.msh roof.msh -o quads --report job.txt
   sedgepick-mesh slab.msh --preview front.html
+  sedgepick-mesh slab.msh -o quads.msh --steps steps.html
 
 Files are read and written by meshio: Gmsh, VTK, VTU, Abaqus .inp, STL, OFF, OBJ, MED, XDMF and others, by their suffix. The triangles are paired into
 quads by the proved library; those that find no partner stay triangles. More than 4,096 triangles are cut into parts, which are run on all cores.
@@ -20,7 +21,10 @@ Jacobian, or the kind of refusal. Each is tried by itself, as the first attempt 
 not these all together. Without -o no mesh is written. More than 4,096 triangles are looked at in the parts in which they would be run; the edges between parts
 are on the front of both and are shown on either side.
 
-Exit status: 0 the mesh, or the preview, is written; 1 refused, nothing is written; 2 wrong options; 3 the mesh is written, and something that was a line, a point or a
+With --steps a page is written that steps through the mesh as it grew: every insertion, flip and quad of the run in order, forward, back, by a slider or one after the other. It has the mesh as it is
+given and the trace of the run, and replays it. Without -o no mesh is written. Parts of a larger mesh come one after the other.
+
+Exit status: 0 the mesh, the preview or the steps are written; 1 refused, nothing is written; 2 wrong options; 3 the mesh is written, and something that was a line, a point or a
 surface's border in the file is lost (with --allow-loss or --free), or a warning was given: standard error says what. Of a job: 1 where a file is refused or not written, the others
 are; otherwise 3 where one would have 3."""
 import os, sys, time
@@ -51,7 +55,7 @@ class Work:
 def check_folders(options):
     """That the files to write can be, before a long run."""
     from .surfaces import Fault
-    for path in [options.output, options.node_map, *options.report, *options.sheet, *options.preview]:
+    for path in [options.output, options.node_map, options.steps, *options.report, *options.sheet, *options.preview]:
         if path and not os.path.isdir(os.path.dirname(path) or '.'):
             raise Fault('cannot write %s: there is no folder %s' % (path, os.path.dirname(path)))
 
@@ -92,7 +96,7 @@ def worked(options):
     check_folders(options)
     begin = time.perf_counter()
     work = prepared(options)
-    if options.output:
+    if options.output or options.steps:
         meshed(work, begin)
     if options.preview:
         previewed(work, begin)
@@ -101,15 +105,17 @@ def worked(options):
 
 
 def meshed(work, begin):
-    """Runs the file and writes the mesh, its sheets and its reports."""
-    from . import parts, report
+    """Runs the file and writes the mesh, its sheets, its reports and its steps."""
+    from . import parts, report, steps_page
     options = work.options
-    finished(work, parts.ran(work.plan, options.stop, options.quality, progress, options.jobs))
-    written(work)
+    finished(work, parts.ran(work.plan, options.stop, options.quality, progress, options.jobs, trace=bool(options.steps)))
+    if options.output:
+        written(work)
     work.seconds = time.perf_counter() - begin
     put(options.report, lambda page: report.page(work) if page else report.text(work))
+    put([options.steps] if options.steps else [], lambda page: steps_page.page(work))
     if not options.quiet:
-        print(report.summary(work))
+        print('\n'.join(([report.summary(work)] if options.output else []) + ([steps_page.summary(work)] if options.steps else [])))
 
 
 def previewed(work, begin):

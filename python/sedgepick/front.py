@@ -1,4 +1,4 @@
-"""One call of `sedgepick_run_front_with`, or of `sedgepick_job`, with the memory that it needs; `sedgepick_preview` takes the same."""
+"""One call of `sedgepick_run_front_with`, or of `sedgepick_job`, with the memory that it needs; `sedgepick_preview` and `sedgepick_replay` take the same."""
 import ctypes, math
 from array import array
 from collections.abc import Sequence
@@ -25,8 +25,10 @@ EXHAUST, EVEN_COMPONENTS = 0, 1
 RANGES = {'least_jacobian': (0.0, 1.0), 'largest_cosine': (0.5, 0.99), 'side_low': (0.1, 4.0), 'side_high': (0.1, 4.0), 'pairs': (1, 64)}
 
 QUAD_WORDS = 8         # of a quad's record
+ANSWER = 15            # numbers of a finished run: nine counts, four lengths, the trials, the words of the trace
+TRACE_WORDS = 16       # of trace, lent at first for each triangle and for so many more
 
-NO_POINT, NO_SLOTS, BAD_QUALITY, BAD_JOB = 8, 9, 14, 16
+NO_POINT, NO_SLOTS, NO_TRACE, BAD_QUALITY, BAD_JOB = 8, 9, 11, 14, 16
 NO_NODE = 2 ** 32 - 1  # stands for every number that the library's words cannot hold; it names no point and no rule
 
 REFUSALS = {
@@ -39,6 +41,8 @@ REFUSALS = {
     7: 'x or y is not finite or is beyond 8 in magnitude',
     8: 'the run inserts a point, and the point capacity is used up',
     9: 'the run needs a slot, and none is free',
+    11: 'the entry of an insertion, a flip or a quad does not fit the lent trace',
+    12: 'an entry of the trace is cut short or of another kind, or could not be made',
     13: 'a joint is one node twice or names a node that is not there, or there are over 256 joints',
     14: 'a quality number is out of its range or is a NaN, or the low side factor is above the high one',
     15: 'in the grid profile: an x or y is no multiple of 1/1024, or the size is not zero',
@@ -141,6 +145,7 @@ class Mesh:
     triangles: object
     components: object
     counts: Counts
+    trace: object = None  # its words, where it was asked for
 
 
 @dataclass
@@ -155,34 +160,39 @@ class Call:
     quality: Quality = Quality()
     joints: array = field(default_factory=lambda: array('I'))  # two nodes each
     grid: int = 0
+    words: int = 0        # of trace
 
 
-def run_front(points, triangles, size, stop=EXHAUST, capacity=None, slots=None, quality=Quality(), joints=(), grid=False):
+def run_front(points, triangles, size, stop=EXHAUST, capacity=None, slots=None, quality=Quality(), joints=(), grid=False, trace=False, words=None):
     """Pairs the triangles over the points into quads.
 
     points     x and y, or x, y and z, of each; x and y within 8 of zero, z is carried and never read
     triangles  three node numbers each, from 0
     size       target length of an edge: 0 for none, otherwise from 1/64 to 8
     stop       0: go on while an edge of the front is open; 1: and keep components even
-    capacity, slots  what is lent at first; where it runs out (8, 9) the run is made again with twice as much, up to the limits
+    capacity, slots, words  what is lent at first; where it runs out (8, 9, 11) the run is made again with twice as much, up to the limits
     quality    what quads are held to: a Quality; the standard set if left out
     joints     two node numbers each, in either order, at most 256: edges that are locked. One that the triangles have is an edge of the result; the order of
                the list and repeats change nothing
     grid       the grid profile: x and y of every point are multiples of 1/1024 and size is 0. No point is added, and the summed area of quads and
                triangles, each without sign, equals that of the given triangles, exactly (docs/GRID.md)
+    trace      the mesh comes with the words of its trace, which `entries` reads and `replay` replays; nothing else changes
 
     The result does not depend on what is lent. Raises Refused, ValueError for lists of another shape, NoLibrary."""
     run = library.load().sedgepick_run_front_with
     given, count = len(points), len(triangles)
     flat_points, flat_triangles = doubles(points), node_numbers(triangles, 3, 'triangles')
     call = Call(given, first(capacity, given + given // 4 + 32, given, MOST_CAPACITY), count, first(slots, 2 * count + 64, count, MOST_SLOTS),
-                float(size), rule(stop), quality, node_numbers(joints, 2, 'joints'), int(bool(grid)))
+                float(size), rule(stop), quality, node_numbers(joints, 2, 'joints'), int(bool(grid)),
+                max(TRACE_WORDS * (count + TRACE_WORDS) if words is None else words, 1) if trace else 0)
     while True:
         refusal, mesh = attempt(run, flat_points, flat_triangles, call)
         if refusal == NO_POINT and call.capacity < MOST_CAPACITY:
             call.capacity = min(2 * call.capacity, MOST_CAPACITY)
         elif refusal == NO_SLOTS and call.slots < MOST_SLOTS:
             call.slots = min(2 * call.slots, MOST_SLOTS)
+        elif refusal == NO_TRACE:
+            call.words *= 2
         elif refusal:
             raise Refused(refusal)
         else:
@@ -199,40 +209,54 @@ def first(asked, usual, least, most):
     return max(least, min(usual if asked is None else asked, most), 1)
 
 
+def capacities(call):
+    """(points, slots) that a call is lent. One over the limits is refused before any memory is looked at."""
+    over = call.given > MOST_GIVEN or call.count > MOST_GIVEN
+    return (1, 1) if over else (call.capacity, call.slots)
+
+
+def numbers(count):
+    """So many words; no slice is without an address."""
+    return (ctypes.c_uint32 * max(count, 1))()
+
+
 class Memory:
-    """The slices of a call, with what is given in them, as long as the call states. A call over the limits is refused before any memory is looked at."""
+    """The slices of a call, with what is given in them, as long as the call states: `slices` with their lengths, the trace after them, and what is `stated`."""
 
     def __init__(self, points, triangles, call):
-        over = call.given > MOST_GIVEN or call.count > MOST_GIVEN
-        capacity, slots = (1, 1) if over else (call.capacity, call.slots)
+        capacity, slots = capacities(call)
         self.xyz = (ctypes.c_double * max(3 * capacity, len(points), 1))()
         ctypes.memmove(self.xyz, points.buffer_info()[0], 8 * len(points))
-        numbers = lambda n: (ctypes.c_uint32 * n)()
-        self.quads, self.left, self.components = numbers(QUAD_WORDS * slots), numbers(3 * slots), numbers(slots)
+        self.quads, self.left, self.components, self.trace = numbers(QUAD_WORDS * slots), numbers(3 * slots), numbers(slots), numbers(call.words)
         written = (self.quads, self.left, self.components, numbers(64 * slots + 8 * capacity), (ctypes.c_double * (4 * slots))())
-        given = ((self.xyz, len(self.xyz)), (lent(triangles), len(triangles)), (lent(call.joints), len(call.joints)))
+        self.given = (self.xyz, len(self.xyz), lent(triangles), len(triangles))
+        self.written = tuple(word for slice in written for word in (slice, len(slice)))
+        self.slices = (*self.given, lent(call.joints), len(call.joints), *self.written)
         q = call.quality
-        self.arguments = (*(word for pair in given for word in pair), *(word for slice in written for word in (slice, len(slice))),
-                          call.given, call.capacity, call.count, call.slots, len(call.joints) // 2, call.size, call.stop,
-                          q.least_jacobian, q.largest_cosine, q.side_low, q.side_high, int(q.pairs), call.grid)
+        self.stated = (call.given, call.capacity, call.count, call.slots, len(call.joints) // 2, call.size, call.stop,
+                       q.least_jacobian, q.largest_cosine, q.side_low, q.side_high, int(q.pairs), call.grid)
+        self.traced = (*self.slices, self.trace, call.words, *self.stated)
+
+    def lists(self, quads, left, points, components):
+        """The lists of such lengths."""
+        return rows(self.xyz, points, 3), Quads(rows(self.quads, quads, QUAD_WORDS)), rows(self.left, left, 3), rows(self.components, components, 1)
 
 
 def attempt(run, points, triangles, call, job=()):
     """(refusal, mesh) of one run with as much memory as the call states; of a job, whose slice and its length are handed in."""
     memory = Memory(points, triangles, call)
-    answer = (ctypes.c_size_t * 14)()
-    refusal = run(*memory.arguments, *job, answer, len(answer))
+    answer = (ctypes.c_size_t * ANSWER)()
+    refusal = run(*memory.traced, *job, answer, len(answer))
     if refusal:
         return refusal, None
-    counts, lengths, trials = answer[:9], answer[9:13], answer[13]
-    return 0, Mesh(rows(memory.xyz, lengths[2], 3), Quads(rows(memory.quads, lengths[0], QUAD_WORDS)), rows(memory.left, lengths[1], 3),
-                   rows(memory.components, lengths[3], 1), Counts(*counts, trials))
+    counts, lengths, (trials, words) = answer[:9], answer[9:13], answer[13:]
+    return 0, Mesh(*memory.lists(*lengths), Counts(*counts, trials), rows(memory.trace, words, 1) if call.words else None)
 
 
-def lent(numbers):
-    """Node numbers as the library reads them; no slice is without an address."""
-    slice = (ctypes.c_uint32 * max(len(numbers), 1))()
-    ctypes.memmove(slice, numbers.buffer_info()[0], 4 * len(numbers))
+def lent(words):
+    """Words as the library reads them."""
+    slice = numbers(len(words))
+    ctypes.memmove(slice, words.buffer_info()[0], 4 * len(words))
     return slice
 
 

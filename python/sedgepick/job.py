@@ -6,6 +6,7 @@ from .front import (BAD_JOB, EXHAUST, MOST_CAPACITY, MOST_SLOTS, Call, Quality, 
 
 MOST_MESHES = 16
 MOST_ALLOWANCE = 1000000
+MOST_TRACE = 1 << 22  # words of trace that a mesh is lent where it asks for one and says no less
 
 
 def usual_limit(count):
@@ -21,7 +22,7 @@ class Slab:
     share: int       # of the allowance
     entitled: int    # attempts that it was entitled to: its share, and what the one before left
     limit: int       # on its attempts: that, or its usual one
-    charged: int     # attempts made; where 8 or 9 ended its run, those begun; 0 where it was refused before
+    charged: int     # attempts made; where 8, 9 or 11 ended its run, those begun; 0 where it was refused before
     left: int        # for the next mesh
 
 
@@ -47,17 +48,17 @@ class Job:
         """What the next mesh is entitled to."""
         return self.share + self.left
 
-    def run(self, points, triangles, size, stop=EXHAUST, capacity=None, slots=None, quality=Quality(), joints=(), grid=False):
+    def run(self, points, triangles, size, stop=EXHAUST, capacity=None, slots=None, quality=Quality(), joints=(), grid=False, trace=False, words=MOST_TRACE):
         """Runs the next mesh and says what came of it, a Slab; the parameters are those of run_front. A refused mesh has its number, and the job goes on. Past the
         last mesh it raises Refused, with 16, and the job stays as it is.
 
         A mesh is run once: to make the run again with more memory would take its attempts from the allowance twice. So as much is lent as the limits allow,
-        unless capacity and slots say less; 8 and 9 come from a run that needs more."""
+        unless capacity and slots say less, and so many words where a trace is asked for; 8, 9 and 11 come from a run that needs more."""
         run = library.load().sedgepick_job
         given, count = len(points), len(triangles)
         flat_points, flat_triangles = doubles(points), node_numbers(triangles, 3, 'triangles')
         call = Call(given, first(capacity, MOST_CAPACITY, given, MOST_CAPACITY), count, first(slots, MOST_SLOTS, count, MOST_SLOTS), float(size), rule(stop), quality,
-                    node_numbers(joints, 2, 'joints'), int(bool(grid)))
+                    node_numbers(joints, 2, 'joints'), int(bool(grid)), max(words, 1) if trace else 0)
         state = (ctypes.c_size_t * 5)(self.meshes, self.allowance, self.done, self.left, 0)
         entitled = self.entitled
         refusal, mesh = attempt(run, flat_points, flat_triangles, call, (state, len(state)))

@@ -4,8 +4,8 @@ Looked for, in this order: the file that the environment variable SEDGEPICK_LIBR
 installed under; target/shared of a checkout, where tools/shared writes it."""
 import ctypes, os, threading
 
-VERSION = '0.1.0'
-SONAME = 'libsedgepick.so.1'
+VERSION = '0.2.0'
+SONAME = 'libsedgepick.so.2'
 VARIABLE = 'SEDGEPICK_LIBRARY'
 HERE = os.path.dirname(os.path.abspath(__file__))
 CHECKOUT = os.path.dirname(os.path.dirname(HERE))
@@ -15,10 +15,14 @@ NUMBERS = ctypes.POINTER(ctypes.c_uint32)
 SIZES = ctypes.POINTER(ctypes.c_size_t)
 LENGTH = ctypes.c_size_t
 REAL = ctypes.c_double
-RUN_FRONT = [DOUBLES, LENGTH, NUMBERS, LENGTH, NUMBERS, LENGTH, NUMBERS, LENGTH, NUMBERS, LENGTH, NUMBERS, LENGTH, NUMBERS, LENGTH, DOUBLES, LENGTH,
-             LENGTH, LENGTH, LENGTH, LENGTH, LENGTH, REAL, ctypes.c_uint32, REAL, REAL, REAL, REAL, LENGTH, ctypes.c_uint32, SIZES, LENGTH]
-JOB = RUN_FRONT[:-2] + [SIZES, LENGTH] + RUN_FRONT[-2:]
-PREVIEW = RUN_FRONT[:-2] + [LENGTH, LENGTH] + RUN_FRONT[-2:]
+ANSWER = [SIZES, LENGTH]
+SLICES = [DOUBLES, LENGTH, NUMBERS, LENGTH, NUMBERS, LENGTH, NUMBERS, LENGTH, NUMBERS, LENGTH, NUMBERS, LENGTH, NUMBERS, LENGTH, DOUBLES, LENGTH]
+STATED = [LENGTH, LENGTH, LENGTH, LENGTH, LENGTH, REAL, ctypes.c_uint32, REAL, REAL, REAL, REAL, LENGTH, ctypes.c_uint32]
+TRACED = SLICES + [NUMBERS, LENGTH] + STATED
+RUN_FRONT = TRACED + ANSWER
+JOB = TRACED + [SIZES, LENGTH] + ANSWER
+PREVIEW = SLICES + STATED + [LENGTH, LENGTH] + ANSWER
+REPLAY = SLICES + [LENGTH] * 5 + ANSWER
 SHEET = [DOUBLES, LENGTH, NUMBERS, LENGTH, DOUBLES, LENGTH, LENGTH, LENGTH, SIZES, LENGTH]
 
 loaded = None
@@ -60,7 +64,7 @@ def opened():
     try:
         library = ctypes.CDLL(path)
         for function, takes in ((library.sedgepick_run_front_with, RUN_FRONT), (library.sedgepick_job, JOB), (library.sedgepick_preview, PREVIEW),
-                                (library.sedgepick_sheet, SHEET)):
+                                (library.sedgepick_replay, REPLAY), (library.sedgepick_sheet, SHEET)):
             function.argtypes, function.restype = takes, LENGTH
     except (OSError, AttributeError) as error:
         raise NoLibrary('%s does not load: %s' % (path, error))

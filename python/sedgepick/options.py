@@ -71,14 +71,16 @@ def quality_of(options):
 def check_written(parser, options):
     """That there is something to write, and that what is asked for comes of it."""
     if not options.output:
-        if not options.preview:
-            parser.error('the following arguments are required: -o/--output (or --preview)')
+        if not options.preview and not options.steps:
+            parser.error('the following arguments are required: -o/--output (or --preview, or --steps)')
         for name in ('report', 'sheet', 'node_map'):
             if getattr(options, name):
                 parser.error('--%s is of a run: give -o too' % name.replace('_', '-'))
     for path in options.preview:
         if not path.lower().endswith(('.svg', *PAGES)):
             parser.error('--preview %s: its name ends in .svg for the picture or in .html for the page' % path)
+    if options.steps and not options.steps.lower().endswith(PAGES):
+        parser.error('--steps %s: it is a page, and its name ends in .html' % options.steps)
 
 
 def arguments(words, description):
@@ -89,9 +91,10 @@ def arguments(words, description):
     add = parser.add_argument
     add('input', metavar='IN', nargs='+', help='a mesh file with triangles; with --job several')
     add('-o', '--output', metavar='OUT', help='the mesh file to write; with --job a folder, where each file is written under its name, or a path in '
-        "which * stands for the name without its suffix: 'quads/*.vtu'; it may be left out with --preview")
+        "which * stands for the name without its suffix: 'quads/*.vtu'; it may be left out with --preview and --steps")
     add('--preview', metavar='FILE', action='append', default=[], help='what each edge of the front would give, tried first: .svg a picture, .html a page with it, which says of '
         'an edge that is pointed at what it gives; may be given twice')
+    add('--steps', metavar='FILE', help='a page, .html, that steps through the mesh as it grew: every insertion, flip and quad of the run, forward and back')
     add('--job', type=number_from(1, MOST_ALLOWANCE, int), metavar='ALLOWANCE', help='run the files as one job, in their order, under this many attempts, from 1 to '
         '1,000,000')
     add('--size', type=size_of, default='auto', metavar='S', help='the length of an edge that the quads should have, in the units of the file; 0: each edge sets '

@@ -70,6 +70,7 @@ class Answer:
     joints: int       # edges that were locked
     scale: float
     sheet: object     # of the mesh's quads
+    own: object       # the part as it went to the library
 
 
 @dataclass
@@ -91,6 +92,7 @@ class Result:
     scale: float = 1  # the largest by which a part was fitted
     sheet: object = None  # of the quads, as the library measures them
     odd: int = 0      # components, as they went to the library, with an odd number of triangles
+    grown: list = ()  # where traces are asked for: each part as it went to the library, and its mesh
 
 
 def cut(points, triangles):
@@ -168,16 +170,20 @@ def each(plan, one, progress=None, jobs=None):
     return answers
 
 
-def ran(plan, stop, quality=Quality(), progress=None, jobs=None, call=best_run):
-    """Runs the parts, each fitted into the library's range by itself; `call` runs one as best_run does."""
+def ran(plan, stop, quality=Quality(), progress=None, jobs=None, call=best_run, trace=False):
+    """Runs the parts, each fitted into the library's range by itself; `call` runs one as best_run does. With their traces where these are asked for."""
+    more = {'trace': True} if trace else {}
+
     def one(which):
         own = plan.fitted(which)
-        taken, mesh = call(own.points, own.triangles, own.size, stop, quality=quality, joints=own.joints, grid=plan.grid)
+        taken, mesh = call(own.points, own.triangles, own.size, stop, quality=quality, joints=own.joints, grid=plan.grid, **more)
         given, added = plan.points[own.nodes], mesh.points[len(own.nodes):]
         return Answer(own.nodes, taken / own.placed.scale, mesh, own.placed.back(added), (own.placed.rounded(given), own.placed.rounded_back(added)),
-                      len(own.joints), own.placed.scale, sheets.sheet(mesh.points, mesh.quads))
+                      len(own.joints), own.placed.scale, sheets.sheet(mesh.points, mesh.quads), own)
 
-    result = merged(len(plan.points), each(plan, one, progress, jobs), plan.part, plan.cutter)
+    answers = each(plan, one, progress, jobs)
+    result = merged(len(plan.points), answers, plan.part, plan.cutter)
+    result.grown = [(answer.own, answer.mesh) for answer in answers] if trace else ()
     result.notes = plan.notes
     number = numpy.concatenate([plan.origin, numpy.arange(plan.given, plan.given + len(result.added))])
     result.quads, result.triangles = number[result.quads], number[result.triangles]

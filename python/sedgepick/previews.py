@@ -78,7 +78,7 @@ class Looking:
 
     def shown(self, u, v):
         answer = (ctypes.c_size_t * NUMBERS)()
-        refusal = library.load().sedgepick_preview(*self.memory.arguments, u, v, answer, len(answer))
+        refusal = library.load().sedgepick_preview(*self.memory.slices, *self.memory.stated, u, v, answer, len(answer))
         if refusal:
             raise Refused(refusal)
         which, kind, insertions, flips, *record = answer

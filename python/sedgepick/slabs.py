@@ -7,7 +7,7 @@ def check(parser, options):
     from .job import MOST_MESHES
     if len(options.input) > MOST_MESHES:
         parser.error('a job has at most %d files, not %d' % (MOST_MESHES, len(options.input)))
-    for name, why in (('node_map', 'it is the table of one mesh'), ('sheet', 'it is that of one mesh; the report has one for each'), ('preview', 'it is that of one mesh'), ('jobs', 'its files are run in turn')):
+    for name, why in (('node_map', 'it is the table of one mesh'), ('sheet', 'it is that of one mesh; the report has one for each'), ('preview', 'it is that of one mesh'), ('steps', 'they are those of one mesh'), ('jobs', 'its files are run in turn')):
         if getattr(options, name):
             parser.error('--job takes no --%s: %s' % (name.replace('_', '-'), why))
 

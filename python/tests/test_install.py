@@ -44,6 +44,8 @@ class Install(unittest.TestCase):
         self.assertEqual(self.built('examples/c/job.c', *words).splitlines(), [
             'slab 1: 1 quads, 0 triangles; charged 1, leaves 0', 'slab 2: refused with 6; charged 0, leaves 1',
             'slab 3: 2 quads, 4 triangles, stopped by its limit; charged 2, leaves 0'])
+        steps = self.built('examples/c/trace.c', *words).splitlines()
+        self.assertEqual((len(steps), steps[-1].split(': ')[1]), (16, '4 quads, 6 triangles'))
 
     @unittest.skipUnless(shutil.which('pkg-config'), 'pkg-config is not installed')
     def test_pkg_config(self):
@@ -64,7 +66,7 @@ class Install(unittest.TestCase):
     def test_soname(self):
         if not shutil.which('readelf'):
             self.skipTest('readelf is not installed')
-        self.assertIn('[libsedgepick.so.1]', run('readelf', '-d', os.path.join(self.lib, 'libsedgepick.so')).stdout)
+        self.assertIn('[libsedgepick.so.2]', run('readelf', '-d', os.path.join(self.lib, 'libsedgepick.so')).stdout)
 
     def test_python(self):
         packages = os.path.join(self.lib, 'python3', 'dist-packages')

@@ -152,7 +152,7 @@ class Package(unittest.TestCase):
         for size, refused in ((0.35, False), (9.0, True)):
             points, triangles = shaken(5)
             looking = previews.Looking(points, triangles, size, 0, sedgepick.Quality(), (), False)
-            slices = [word for word in looking.memory.arguments if isinstance(word, ctypes.Array)]
+            slices = [word for word in looking.memory.slices if isinstance(word, ctypes.Array)]
             for slice in slices[3:]:
                 slice[:] = [7] * len(slice)
             slices[0][3 * len(points):] = [0.5] * 6
@@ -172,7 +172,7 @@ class Package(unittest.TestCase):
         for length, size, number in ((11, 1.0, 4), (0, 1.0, 4), (11, 9.0, 2), (12, 1.0, 0), (13, 1.0, 0)):
             looking = previews.Looking(SQUARE, HALVES, size, 0, sedgepick.Quality(), (), False)
             answer = (ctypes.c_size_t * 13)(*[9] * 13)
-            self.assertEqual(library.load().sedgepick_preview(*looking.memory.arguments, 0, 1, answer, length), number)
+            self.assertEqual(library.load().sedgepick_preview(*looking.memory.slices, *looking.memory.stated, 0, 1, answer, length), number)
             self.assertEqual(list(answer), [9] * 13 if number else [1, 0, 0, 0, 0, 1, 2, 3, 0, 1, 1, 2, 9])
 
 
@@ -322,7 +322,7 @@ class Command(unittest.TestCase):
 
     def test_wrong_options(self):
         given = os.path.join(FILES, 'l-slab-41.msh')
-        for pattern, *words in (('required: -o/--output \\(or --preview\\)', given), ('ends in .svg', given, '--preview', 'front.png'),
+        for pattern, *words in (('required: -o/--output \\(or --preview, or --steps\\)', given), ('ends in .svg', given, '--preview', 'front.png'),
                                 ('--report is of a run', given, '--preview', self.svg, '--report', 'r'), ('--node-map is of a run', given, '--preview', self.svg, '--node-map', 'm'),
                                 ('--job takes no --preview', given, '--job', '9', '-o', self.folder, '--preview', self.svg)):
             with self.subTest(words):

@@ -1,7 +1,8 @@
 //! Calls of the library in files: the capacities, the quality set where it is not
 //! document 01's, the joints where there are such, the grid profile where it is chosen,
-//! then the program's text form without its limits. An answer also says what refusals 8
-//! and 9 leave, and the trials of a finished run.
+//! the words of the trace where one is lent, then the program's text form without its limits.
+//! An answer also says what refusals 8, 9 and 11 leave, the trials of a finished run and the
+//! entries of the trace.
 
 use std::io::Result;
 use std::path::Path;
@@ -10,13 +11,15 @@ use crate::generators::{self, joints, on_grid, sets};
 use crate::input::{Input, Lent, LARGEST, UNBOUNDED};
 use crate::patched::{Quality, STANDARD};
 use crate::random::Random;
-use crate::{account, text};
+use crate::{account, text, trace};
 
 const CAPACITIES: &str = "capacity slots";
 const QUALITY: &str = "least_jacobian largest_cosine side_low side_high pairs";
 const JOINTS: &str = "joints";
 const JOINT: &str = "u v";
 const PROFILE: &str = "grid";
+const TRACE: &str = "trace";
+const WORDS: &str = "words";
 const TRIALS: &str = "trials";
 
 /// A call's text.
@@ -35,6 +38,9 @@ pub fn write(lent: Lent, input: &Input) -> Vec<u8> {
     if input.grid != 0 {
         head += &format!("{PROFILE}\n{}\n", input.grid);
     }
+    if input.trace != 0 {
+        head += &format!("{TRACE}\n{}\n", input.trace);
+    }
     [head.into_bytes(), text::write(input)].concat()
 }
 
@@ -49,14 +55,14 @@ fn floats(set: &Quality) -> [f64; 4] {
 }
 
 /// The values of the first line, and what follows.
-fn line(bytes: &[u8]) -> Option<(Vec<&str>, &[u8])> {
+pub fn line(bytes: &[u8]) -> Option<(Vec<&str>, &[u8])> {
     let end = bytes.iter().position(|&c| c == b'\n')?;
     let line = std::str::from_utf8(&bytes[..end]).ok()?;
     Some((line.split(' ').collect(), &bytes[end + 1..]))
 }
 
 /// The values of the line below this line of names, and what follows.
-fn below<'a>(bytes: &'a [u8], names: &str) -> Option<(Vec<&'a str>, &'a [u8])> {
+pub fn below<'a>(bytes: &'a [u8], names: &str) -> Option<(Vec<&'a str>, &'a [u8])> {
     line(bytes.strip_prefix(names.as_bytes())?.strip_prefix(b"\n")?)
 }
 
@@ -91,7 +97,7 @@ fn read(bytes: &[u8]) -> Option<(Lent, Input)> {
         }
         rest = lines;
     }
-    let mut grid = 0;
+    let (mut grid, mut trace) = (0, 0);
     if let Some((values, after)) = below(rest, PROFILE) {
         let [number] = values[..] else {
             return None;
@@ -99,10 +105,18 @@ fn read(bytes: &[u8]) -> Option<(Lent, Input)> {
         grid = number.parse().ok()?;
         rest = after;
     }
+    if let Some((values, after)) = below(rest, TRACE) {
+        let [words] = values[..] else {
+            return None;
+        };
+        trace = words.parse().ok()?;
+        rest = after;
+    }
     let input = Input {
         quality,
         joints,
         grid,
+        trace,
         ..text::read_any(rest)?
     };
     Some((lent, input))
@@ -128,14 +142,33 @@ pub fn reply(bytes: &[u8]) -> Option<Vec<u8>> {
     read(bytes).map(|(lent, input)| answer(&input, lent))
 }
 
-/// The program's answer; after 8 and 9 the quads and points that they leave, after a finished run
-/// its trials.
+/// The program's answer; after 8, 9 and 11 the quads and points that they leave, after a finished run
+/// its trials; and the entries of a trace that is lent.
 pub fn answer(input: &Input, lent: Lent) -> Vec<u8> {
     let mut out = shown(input, lent);
     if let Ok(result) = input.run(lent) {
         out.extend(format!("{TRIALS}\n{}\n", result.refusals.trials).bytes());
     }
+    if input.trace != 0 && input.refusal(lent).is_none() {
+        out.extend(entries(&input.run_unchecked(lent).trace).bytes());
+    }
     out
+}
+
+/// The number of words of a trace, then an entry to a line.
+pub fn entries(words: &[u32]) -> String {
+    let mut out = format!("{WORDS}\n{}\n", words.len());
+    for entry in trace::entries(words) {
+        out += &text::line(&entry.words());
+    }
+    out
+}
+
+/// The entries of the whole trace of a call's text; `None` where it is none, or is refused.
+pub fn traced(bytes: &[u8]) -> Option<String> {
+    let (lent, mut input) = read(bytes)?;
+    input.trace = usize::MAX;
+    Some(entries(&input.run(lent).ok()?.trace))
 }
 
 /// What is made or left.
@@ -156,6 +189,7 @@ pub enum Further {
     Set,
     Joints,
     Grid,
+    Trace,
 }
 
 impl Further {
@@ -164,6 +198,7 @@ impl Further {
             Further::Set => "set",
             Further::Joints => "joints",
             Further::Grid => "profile",
+            Further::Trace => "trace",
         }
     }
 
@@ -172,6 +207,7 @@ impl Further {
             Further::Set => 14,
             Further::Joints => 13,
             Further::Grid => 15,
+            Further::Trace => 11,
         }
     }
 
@@ -185,12 +221,27 @@ impl Further {
             (Further::Set, false) => input.quality = sets::good(r),
             (Further::Joints, true) => input.joints = joints::doubtful(plain, r),
             (Further::Joints, false) => input.joints = joints::good(plain, r),
+            (Further::Trace, scarce) => input.trace = room(plain, scarce, r),
         }
         input
     }
 }
 
-/// Small calls with sets or joints that change the run, or in the grid profile with quads, and with such that are refused.
+/// Words for the trace of a run, as many as it needs or a few more, or not so many.
+fn room(plain: &Input, scarce: bool, r: &mut Random) -> usize {
+    let free = Input {
+        trace: usize::MAX,
+        ..plain.clone()
+    };
+    let need = free.run_unchecked(LARGEST).trace.len();
+    match (need, scarce) {
+        (0..=1, _) => 1,
+        (_, true) => r.from_to(1, need - 1),
+        (_, false) => need + r.pick(&[0, 0, 1, 5]),
+    }
+}
+
+/// Small calls with sets or joints that change the run, in the grid profile with quads or with a trace that has entries, and with such that are refused.
 pub fn further_calls(what: Further, seed: u64, count: u64, folder: &Path) -> Result<()> {
     std::fs::create_dir_all(folder)?;
     let (mut case, mut made) = (0, 0);
@@ -209,9 +260,13 @@ pub fn further_calls(what: Further, seed: u64, count: u64, folder: &Path) -> Res
             slots: input.triangles.len() + 96,
         };
         let said = answer(&input, lent);
+        let run = |input: &Input| input.run_unchecked(lent);
         let wanted = match (input.refusal(lent), what) {
             (Some(number), _) => refused && number == what.refusal(),
-            (None, Further::Grid) => !refused && !input.run_unchecked(lent).quads.is_empty(),
+            (None, Further::Trace) => {
+                refused == (run(&input).refused == Some(11)) && run(&input).trace.len() > 6
+            }
+            (None, Further::Grid) => !refused && !run(&input).quads.is_empty(),
             (None, _) => !refused && shown(&input, lent) != shown(&plain, lent),
         };
         if !wanted {
@@ -273,6 +328,7 @@ fn a_call_with_all_that_may_be_asked_is_read_as_it_was_written() {
         }
         input.quality = sets::doubtful(&mut r);
         input.grid = r.pick(&[0, 1, u32::MAX]);
+        input.trace = r.pick(&[0, 1, 77, usize::MAX]);
         let text = write(lent, &input);
         let (again, read) = read(&text).unwrap();
         assert_eq!(write(again, &read), text);

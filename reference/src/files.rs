@@ -5,7 +5,7 @@ use std::path::{Path, PathBuf};
 
 use crate::generators::{self, KINDS, SMALL, TEXT};
 use crate::random::Random;
-use crate::{call, damage, text};
+use crate::{call, damage, replays, text};
 
 /// FNV-1a, 64 bits.
 pub fn hash(bytes: &[u8]) -> u64 {
@@ -75,6 +75,7 @@ fn agrees(path: &Path) -> Result<Option<bool>> {
     let answer = match extension {
         Some("in") => text::reply(&given),
         Some("call") => call::reply(&given).ok_or_else(|| Error::other("not a call"))?,
+        Some("replay") => replays::reply(&given).ok_or_else(|| Error::other("not a replay"))?,
         Some("list") => return crate::large::list_agrees(&given).map(Some),
         _ => return Ok(None),
     };

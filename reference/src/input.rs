@@ -12,6 +12,8 @@ pub struct Input {
     pub joints: Vec<[u32; 2]>,
     /// The grid profile, chosen by any number but 0.
     pub grid: u32,
+    /// Words of the trace that is lent; 0 for none.
+    pub trace: usize,
     pub triangles: Vec<[u32; 3]>,
     pub points: Vec<[u64; 3]>,
 }
@@ -54,9 +56,9 @@ pub const GRID: f64 = 1024.0;
 /// The most joints, repeats counted.
 pub const MOST_JOINTS: usize = 256;
 
-const MOST_GIVEN: usize = 4096;
-const MOST_POINTS: usize = 8192;
-const MOST_SLOTS: usize = 16384;
+pub const MOST_GIVEN: usize = 4096;
+pub const MOST_POINTS: usize = 8192;
+pub const MOST_SLOTS: usize = 16384;
 const LEAST_SIZE: f64 = 1.0 / 64.0;
 const MOST_SIZE: f64 = 8.0;
 const MOST_COORDINATE: f64 = 8.0;
@@ -167,7 +169,7 @@ impl Input {
     }
 
     /// The same where one edge alone has a turn, smaller node first: one attempt on a copy of the
-    /// starting mesh, or none where the edge is not on its front.
+    /// starting mesh, or none where the edge is not on its front; and no trace.
     pub fn run_on(
         &self,
         lent: Lent,
@@ -192,6 +194,7 @@ impl Input {
             self.grid != 0,
             limit,
             only,
+            only.map_or(self.trace, |_| 0),
         )
     }
 }
@@ -203,7 +206,7 @@ fn off_grid(bits: u64) -> bool {
 }
 
 /// Not finite, or beyond 8 in magnitude.
-fn outside(bits: u64) -> bool {
+pub fn outside(bits: u64) -> bool {
     let within = f64::from_bits(bits).abs() <= MOST_COORDINATE;
     !within
 }

@@ -22,7 +22,7 @@ pub struct Job {
 
 /// What a mesh of a job came to.
 pub struct Step {
-    /// The run, which 8 or 9 may have ended; or the refusal before it.
+    /// The run, which 8, 9 or 11 may have ended; or the refusal before it.
     pub ran: Result<FrontResult, u32>,
     pub charged: usize,
     pub next: Job,
@@ -102,7 +102,7 @@ impl Job {
     }
 }
 
-/// The attempts made, where 8 or 9 ended the run those begun. A counted attempt that a limit stopped
+/// The attempts made, where 8, 9 or 11 ended the run those begun. A counted attempt that a limit stopped
 /// is not made.
 fn charge(result: &FrontResult) -> usize {
     let counts = &result.refusals;

@@ -12,5 +12,8 @@ pub mod patched;
 pub mod preview;
 pub mod random;
 pub mod records;
+pub mod replay;
+pub mod replays;
 pub mod sheet;
 pub mod text;
+pub mod trace;

@@ -18,10 +18,13 @@ mod patched;
 mod published;
 mod random;
 mod records;
+mod replay;
+mod replays;
 mod small;
 #[cfg(test)]
 mod table;
 mod text;
+mod trace;
 
 /// The patched module with some patches taken back by the build script.
 macro_rules! variant {
@@ -49,6 +52,10 @@ const USAGE: &str = "usage:
   set-calls SEED COUNT DIR                 the same with quality sets
   joint-calls SEED COUNT DIR               the same with joints
   grid-calls SEED COUNT DIR                the same in the grid profile
+  trace-calls SEED COUNT DIR               the same with a trace lent
+  trace                                    the trace of the library's call on standard input
+  replay                                   answer the replay on standard input
+  replays SEED COUNT DIR                   write replays with their answers
   meshes SEED TRIANGLES [DIR]              make large meshes, print their hashes
   grids                                    the hashes that the crate `replay` holds
   small                                    the hashes that the crate `acceptance` holds
@@ -68,20 +75,12 @@ fn run() -> Result<()> {
     std::io::stdout().write_all(&text::reply(&text))
 }
 
-/// Answers a call of the library on standard input.
-fn call() -> Result<()> {
+/// What a text on standard input is answered.
+fn on_input(reply: impl Fn(&[u8]) -> Option<Vec<u8>>, what: &str) -> Result<()> {
     let mut text = Vec::new();
     std::io::stdin().lock().read_to_end(&mut text)?;
-    let answer = call::reply(&text).ok_or_else(|| Error::other("not a call"))?;
+    let answer = reply(&text).ok_or_else(|| Error::other(what))?;
     std::io::stdout().write_all(&answer)
-}
-
-/// The three runs of the text on standard input, in short.
-fn parts() -> Result<()> {
-    let mut text = Vec::new();
-    std::io::stdin().lock().read_to_end(&mut text)?;
-    let said = compare::parts(&text).ok_or_else(|| Error::other("refused before a run"))?;
-    std::io::stdout().write_all(said.as_bytes())
 }
 
 fn compare(seed: u64, count: u64, options: &[&str]) -> Result<()> {
@@ -117,7 +116,7 @@ fn number(word: &str) -> Result<u64> {
         .map_err(|_| Error::other(format!("not a number: {word}")))
 }
 
-/// Calls with a set, with joints or in the grid profile.
+/// Calls with a set, with joints, in the grid profile or with a trace.
 fn further(what: call::Further, seed: &str, count: &str, folder: &str) -> Result<()> {
     call::further_calls(what, number(seed)?, number(count)?, Path::new(folder))
 }
@@ -125,8 +124,19 @@ fn further(what: call::Further, seed: &str, count: &str, folder: &str) -> Result
 fn command(words: &[&str]) -> Result<()> {
     match *words {
         ["run"] => run(),
-        ["call"] => call(),
-        ["parts"] => parts(),
+        ["call"] => on_input(call::reply, "not a call"),
+        ["trace"] => on_input(
+            |text| call::traced(text).map(String::into_bytes),
+            "not a call, or refused",
+        ),
+        ["replay"] => on_input(replays::reply, "not a replay"),
+        ["replays", seed, count, folder] => {
+            replays::replays(number(seed)?, number(count)?, Path::new(folder))
+        }
+        ["parts"] => on_input(
+            |text| compare::parts(text).map(String::into_bytes),
+            "refused before a run",
+        ),
         ["grids"] => grids::print(),
         ["small"] => small::print(),
         ["cases", seed, count, folder] => {
@@ -140,6 +150,7 @@ fn command(words: &[&str]) -> Result<()> {
         }
         ["set-calls", seed, count, folder] => further(call::Further::Set, seed, count, folder),
         ["grid-calls", seed, count, folder] => further(call::Further::Grid, seed, count, folder),
+        ["trace-calls", seed, count, folder] => further(call::Further::Trace, seed, count, folder),
         ["joint-calls", seed, count, folder] => further(call::Further::Joints, seed, count, folder),
         ["meshes", seed, triangles] => {
             large::meshes(number(seed)?, number(triangles)? as usize, None)

@@ -222,6 +222,11 @@ pub struct CellMesh {
     only: Option<(usize, usize)>,
     flips: usize,
     // end patch
+    // patch: trace
+    /// The words of the trace so far, and how many may be written; 0 where no trace is lent.
+    trace: Vec<u32>,
+    room: usize,
+    // end patch
 }
 
 impl CellMesh {
@@ -272,6 +277,10 @@ impl CellMesh {
             // patch: preview
             only: None,
             flips: 0,
+            // end patch
+            // patch: trace
+            trace: Vec::new(),
+            room: 0,
             // end patch
         };
         for id in 0..mesh.cells.len() {
@@ -974,8 +983,30 @@ impl CellMesh {
         } else if self.cells.len() + 2 > self.slots {
             self.want = Some(9);
         }
+        // patch: trace
+        if self.want.is_none() {
+            self.cannot_note(SPLIT_WORDS);
+        }
+        // end patch
         self.want.is_some()
     }
+    // end patch
+    // patch: trace
+    /// True, with the refusal noted, when a trace is lent that has no room for so many words more.
+    fn cannot_note(&mut self, words: usize) -> bool {
+        if self.room > 0 && self.trace.len() + words > self.room {
+            self.want = Some(11);
+        }
+        self.want.is_some()
+    }
+
+    /// An entry of the trace, where one is lent.
+    fn note(&mut self, entry: &[usize]) {
+        if self.room > 0 {
+            self.trace.extend(entry.iter().map(|&word| word as u32));
+        }
+    }
+
     // end patch
     /// True when `p` is at least `floor` from every node of `cells`.
     /// True when `p` is at least `floor` from every node of `cells`.
@@ -1000,6 +1031,11 @@ impl CellMesh {
     /// the new node id. The three new triangles keep `t`'s winding, because each
     /// is `[t[k], t[k+1], v]` in the original cyclic order.
     fn split_triangle(&mut self, id: usize, t: [usize; 3], p: [f64; 2]) -> usize {
+        // patch: trace
+        let [x, y] = p.map(f64::to_bits);
+        let halves = [x, x >> 32, y, y >> 32].map(|half| half as u32 as usize);
+        self.note(&[1, id, halves[0], halves[1], halves[2], halves[3]]);
+        // end patch
         self.points.push([p[0], p[1], 0.0]);
         let v = self.points.len() - 1;
         self.set_cell(id, Cell::Tri([t[0], t[1], v]));
@@ -1139,6 +1175,12 @@ impl CellMesh {
         {
             return false;
         }
+        // patch: trace
+        if self.cannot_note(FLIP_WORDS) {
+            return false;
+        }
+        self.note(&[2, u.min(v), u.max(v)]);
+        // end patch
         // The other diagonal splits the quadrilateral into two triangles, and
         // the new winding must follow the winding of `t1`'s traversal of the
         // shared edge: the boundary is `p,u,q,v` when `t1` traverses u→v, and
@@ -1356,6 +1398,13 @@ pub struct Birth {
 }
 // end patch
 
+// patch: trace
+/// Words of an entry of the trace: an insertion's, a flip's, a quad's before its slots.
+const SPLIT_WORDS: usize = 6;
+const FLIP_WORDS: usize = 3;
+const QUAD_WORDS: usize = 9;
+
+// end patch
 /// A node is never inserted closer than this fraction of the local size to an
 /// existing node: such a split creates an edge the quads cannot absorb.
 const MIN_INSERT_SPACING: f64 = 0.25;
@@ -1480,6 +1529,10 @@ pub struct FrontResult {
     /// Flips made.
     pub flips: usize,
     // end patch
+    // patch: trace
+    /// The words of the trace, as far as the run came; none where none is lent.
+    pub trace: Vec<u32>,
+    // end patch
 }
 
 /// Run the Q-Morph front and return its state, **without** the Sun closure.
@@ -1513,6 +1566,9 @@ pub fn run_front(
     // patch: preview
     only: Option<(usize, usize)>,
     // end patch
+    // patch: trace
+    room: usize,
+    // end patch
 ) -> FrontResult {
     // end patch
     let mut refusals = Refusals::default();
@@ -1539,6 +1595,9 @@ pub fn run_front(
     // patch: preview
     mesh.only = only;
     // end patch
+    // patch: trace
+    mesh.room = room;
+    // end patch
     let mut quads: Vec<[usize; 4]> = Vec::new();
     front_loop(&mut mesh, tris.len(), size, &mut quads, &mut refusals, stop);
     let region_components = mesh.live_tri_component_sizes();
@@ -1557,6 +1616,9 @@ pub fn run_front(
         // end patch
         // patch: preview
         flips: mesh.flips,
+        // end patch
+        // patch: trace
+        trace: mesh.trace,
         // end patch
     }
 }
@@ -1897,6 +1959,11 @@ fn try_quad(
                 break;
             }
         }
+        // patch: trace
+        if mesh.want.is_some() {
+            return Err(last);
+        }
+        // end patch
         if !recovered {
             last = Refusal::Recovery;
             continue;
@@ -1921,6 +1988,14 @@ fn try_quad(
             mesh.want = Some(9);
             return Err(last);
         }
+        // end patch
+        // patch: trace
+        if mesh.cannot_note(QUAD_WORDS + region.len()) {
+            return Err(last);
+        }
+        let [a, b, c, d] = quad;
+        let head = [4, a, b, c, d, edge.0, edge.1, mesh.round, region.len()];
+        mesh.note(&[&head, &region[..]].concat());
         // end patch
         for &id in &region {
             mesh.remove_cell(id);
@@ -1987,7 +2062,7 @@ fn insert_along(
 // patch: sheet
 // was: fn quad_metrics(points: &[Node], quad: &[usize; 4]) -> Option<(f64, f64)> {
 pub fn quad_metrics(points: &[Node], quad: &[usize; 4]) -> Option<(f64, f64)> {
-// end patch
+    // end patch
     let coords = [
         [points[quad[0]][0], points[quad[0]][1]],
         [points[quad[1]][0], points[quad[1]][1]],

@@ -186,7 +186,7 @@ fn finished(input: &Input, r: &FrontResult) -> Vec<u8> {
     out.into_bytes()
 }
 
-/// What refusals 8 and 9 leave: the quads written and the points, given and added.
+/// What refusals 8, 9 and 11 leave: the quads written and the points, given and added.
 pub fn left(input: &Input, r: &FrontResult) -> Vec<u8> {
     let mut out = String::from("quads points\n");
     out += &line(&[r.quads.len(), r.points.len()]);
@@ -213,12 +213,12 @@ fn points(input: &Input, r: &FrontResult) -> String {
 }
 
 /// Numbers parted by a space, then a newline.
-fn line<T: ToString>(values: &[T]) -> String {
+pub fn line<T: ToString>(values: &[T]) -> String {
     let words: Vec<String> = values.iter().map(T::to_string).collect();
     words.join(" ") + "\n"
 }
 
-fn bits_line(values: &[u64; 3]) -> String {
+pub fn bits_line(values: &[u64; 3]) -> String {
     let [x, y, z] = values;
     format!("{x:016x} {y:016x} {z:016x}\n")
 }

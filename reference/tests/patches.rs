@@ -11,7 +11,7 @@ fn without_its_patches_the_patched_module_is_the_published_one() {
     assert_eq!(marks::take_back(PATCHED, |_| true).unwrap(), PUBLISHED);
 }
 
-const NAMES: [&str; 13] = [
+const NAMES: [&str; 14] = [
     "cosine",
     "limit",
     "off-front",
@@ -25,10 +25,11 @@ const NAMES: [&str; 13] = [
     "allowance",
     "sheet",
     "preview",
+    "trace",
 ];
 
 #[test]
-fn every_patch_is_one_of_thirteen() {
+fn every_patch_is_one_of_fourteen() {
     for name in marks::names(PATCHED) {
         assert!(NAMES.contains(&name));
     }
@@ -233,6 +234,42 @@ fn flips_are_counted_and_one_edge_alone_is_tried_once_and_nothing_else_changes()
 }
 
 #[test]
+fn entries_are_noted_where_nothing_else_can_refuse_the_step_and_change_nothing() {
+    let new = marks::take_back(PATCHED, |_| false).unwrap();
+    let old = marks::take_back(PATCHED, |patch| patch == "trace").unwrap();
+    assert!(fresh(&old, &new).is_empty());
+    let added = fresh(&new, &old);
+    let acts = |line: &&String| line.contains("note(");
+    let added: Vec<&String> = added.iter().filter(acts).collect();
+    assert_eq!(
+        added,
+        [
+            "self.cannot_note(SPLIT_WORDS);",
+            "fn cannot_note(&mut self, words: usize) -> bool {",
+            "fn note(&mut self, entry: &[usize]) {",
+            "self.note(&[1, id, halves[0], halves[1], halves[2], halves[3]]);",
+            "if self.cannot_note(FLIP_WORDS) {",
+            "self.note(&[2, u.min(v), u.max(v)]);",
+            "if mesh.cannot_note(QUAD_WORDS + region.len()) {",
+            "mesh.note(&[&head, &region[..]].concat());",
+        ]
+    );
+    // A quad's test comes behind that of its slot, a split's behind those of 8 and 9.
+    let lines: Vec<&str> = new.lines().map(str::trim).collect();
+    let place = |line: &str| lines.iter().position(|l| *l == line).unwrap();
+    let quad = place("if mesh.cannot_note(QUAD_WORDS + region.len()) {");
+    assert_eq!(
+        lines[quad - 3..quad - 1],
+        ["mesh.want = Some(9);", "return Err(last);"]
+    );
+    let split = place("self.cannot_note(SPLIT_WORDS);");
+    assert_eq!(
+        lines[split - 3..split],
+        ["self.want = Some(9);", "}", "if self.want.is_none() {"]
+    );
+}
+
+#[test]
 fn a_patch_within_a_patch() {
     let text = "// patch: a\n// was: 1\n// patch: b\n// was: 2\n3\n// end patch\n// end patch\n";
     let taken = |names: &str| marks::take_back(text, |patch| names.contains(patch)).unwrap();
@@ -245,7 +282,7 @@ fn a_patch_within_a_patch() {
 #[test]
 fn the_patches_are_small() {
     let kept = marks::take_back(PATCHED, |_| false).unwrap();
-    assert!(kept.lines().count() < PUBLISHED.lines().count() + 180);
+    assert!(kept.lines().count() < PUBLISHED.lines().count() + 240);
 }
 
 #[test]

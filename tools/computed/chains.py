@@ -27,7 +27,7 @@ use lib.Ieee.{Float, nan, inf, fin}
 use Rattle.vectors.specs.Opened.{opened-attempts}
 use %s.{edges-none, edges-stuck, edges-progressed, edges-limited, edges-stopped, loops-none, loops-stuck, loops-progressed, loops-limited, loops-stopped, round-loops, run-progressed, run-stuck, run-limited, run-stopped}
 '''%(name,'Rattle.vectors.specs.Steps')
-    types={'Plane':['Node','Edge'],'Cells':['Tri','Quad','Cell','tri','quad','Live','Mesh'],'Numbers':['Settings'],'Counts':['of-points','of-slots'],'Front':['State','Progress','stuck','progressed','limited','stopped'],'Text':['Bytes','Input']}
+    types={'Plane':['Node','Edge'],'Cells':['Tri','Quad','Cell','tri','quad','Live','Event','was-split','was-flipped','was-placed','Mesh'],'Numbers':['Settings'],'Counts':['of-points','of-slots'],'Front':['State','Progress','stuck','progressed','limited','stopped'],'Text':['Bytes','Input']}
     need={'Cells':['front'],'Loops':['front-loops'],'Front':['attempt','open-edges','try-edges','round','front-loop','outcome','counting'],'Call':['after-run'],'Text':['bytes','reply','show-returned','lent-for'],'Plane':[],'Numbers':['base','max-attempts'],'Counts':['tally','_⊞_','emptied']}
     for m,l in need.items():
         h+='use Rattle.definition.specs.%s.{%s}\n'%(m,', '.join(l+types.get(m,[])))
@@ -42,7 +42,7 @@ qd a b c d e r k = record { n0 = a; n1 = b; n2 = c; n3 = d; edge = e; round = r;
 abbrev lv : ℕ → Cell → Live
 lv n c = record { slot = n; cell = c }
 ''']
-    T.append('s : Settings\ns = record { quality = base; attempts = max-attempts %d; capacity = 96; slots = 160; size = %s; even = %s }\n'%(int(S['given']),S['size'],str(S['even']).lower()))
+    T.append('s : Settings\ns = record { quality = base; attempts = max-attempts %d; capacity = 96; slots = 160; room = 0; size = %s; even = %s }\n'%(int(S['given']),S['size'],str(S['even']).lower()))
     for k,p in enumerate(d['points']): T.append('points-%d : List Node\npoints-%d = %s\n'%(k,k,p))
     for k,p in enumerate(d['states']): T.append('st-%d : State\nst-%d = %s\n'%(k,k,p))
     allst=' '.join(['s']+['points-%d'%k for k in range(len(d['points']))])

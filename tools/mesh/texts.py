@@ -1,5 +1,5 @@
-"""The program's text: an input, a call of the library (an input after its capacities, its quality set, its joints and its profile if it has such), an answer or a
-refusal."""
+"""The program's text: an input, a call of the library (an input after its capacities, its quality set, its joints, its profile and its trace's words if it has such), an
+answer or a refusal."""
 import re, struct
 from mesh.lines import Fault
 from mesh.meshes import Mesh
@@ -10,6 +10,7 @@ QUALITY = 'least_jacobian largest_cosine side_low side_high pairs'
 JOINTS = 'joints'
 JOINT = 'u v'
 PROFILE = 'grid'
+TRACE = 'trace'
 COUNTS = 'front_empty attempts placement invalid_quad recovery region odd_region mismatch_insertions limit'
 LENGTHS = 'quads triangles points components'
 TRIANGLE = 'n0 n1 n2'
@@ -17,6 +18,7 @@ QUAD = 'n0 n1 n2 n3 u v round replaced'
 POINT = 'x y z'
 SIZES = 'size'
 TRIALS = 'trials'
+WORDS = 'words'
 REFUSED = 'refused'
 
 NUMBER = re.compile(rb'0|[1-9][0-9]{0,17}')
@@ -42,6 +44,7 @@ REFUSALS = {
     8: 'the run inserts a point, and the point capacity is used up',
     9: 'the run needs a slot, and none is free',
     10: 'the text is not in its form',
+    11: 'the entry of an insertion, a flip or a quad does not fit the lent trace',
     13: 'a joint is one node twice or names a node that is not there, or there are over 256 joints',
     14: 'a quality number is out of its range or is a NaN, or the low side factor is above the high one',
     15: 'in the grid profile: an x or y is no multiple of 1/1024, or the size is not zero',
@@ -136,6 +139,7 @@ def read(source):
         set_of(form)
         joints_of(form)
         profile_of(form)
+        trace_of(form)
         return given(form)
     if first == INPUT:
         return given(form)
@@ -171,6 +175,30 @@ def profile_of(form):
     return form.numbers(PROFILE)[0]
 
 
+def trace_of(form):
+    """The words of trace that a call is lent, 0 for none."""
+    if form.lines[form.number:form.number + 1] != [TRACE.encode()]:
+        return 0
+    form.names(TRACE)
+    return form.numbers(TRACE)[0]
+
+
+def entries_of(form):
+    """The entries of a trace at the end of an answer to a call, as tuples of words."""
+    if form.lines[form.number:form.number + 1] != [WORDS.encode()]:
+        return []
+    form.names(WORDS)
+    words, = form.numbers(WORDS)
+    entries = []
+    while words > 0:
+        entry = tuple(form.line('an entry').split(b' '))
+        if not all(NUMBER.fullmatch(word) for word in entry) or len(entry) > words:
+            form.fail('should be an entry of at most %d words' % words)
+        entries.append(tuple(map(int, entry)))
+        words -= len(entry)
+    return entries
+
+
 def given(form):
     form.names(INPUT)
     words = form.line(INPUT).split(b' ')
@@ -201,6 +229,7 @@ def answer(form):
     if form.lines[form.number:form.number + 1] == [TRIALS.encode()]:  # the answer to a call
         form.names(TRIALS)
         counts[TRIALS], = form.numbers(TRIALS)
+    entries_of(form)
     form.end()
     return mesh
 

@@ -7,6 +7,9 @@ use crate::{attempt, Mesh, Options, Refusal, MOST_CAPACITY, MOST_SLOTS};
 pub const MOST_MESHES: usize = 16;
 pub const MOST_ALLOWANCE: usize = 1_000_000;
 
+/// Words of trace that a mesh of a job is lent where one is asked for and nothing else is set.
+pub const MOST_TRACE: usize = 1 << 22;
+
 /// A job: up to 16 meshes under one attempt allowance, run in turn.
 ///
 /// Each mesh is entitled to the whole part of the allowance divided by the number of meshes, and to what the one before it left. What it leaves is that less
@@ -14,13 +17,15 @@ pub const MOST_ALLOWANCE: usize = 1_000_000;
 /// run. A job is no value to copy, so each of its states is handed on once.
 ///
 /// A mesh is run once. `run_front` makes a run again with more memory where it runs out; here that would take the attempts from the allowance twice. So a job
-/// lends as much as the limits allow at once, and 8 and 9 come back only from a run that needs more than them, or than `lend` set.
+/// lends as much as the limits allow at once, and 8 and 9 come back only from a run that needs more than them, or than `lend` set; and 11 only where a trace that is
+/// asked for needs more than [`MOST_TRACE`] words, or than `lend_trace` set.
 #[derive(Debug, PartialEq, Eq)]
 pub struct Job {
     state: State,
     charged: usize,
     capacity: usize,
     slots: usize,
+    words: usize,
 }
 
 /// What a mesh of a job came to.
@@ -32,7 +37,7 @@ pub struct Slab {
     pub entitled: usize,
     /// The limit on attempts of its run: that, or the usual one of 200 for each triangle and 10,000.
     pub limit: usize,
-    /// The attempts charged: those made, where 8 or 9 ended the run those begun, and none where it was refused before.
+    /// The attempts charged: those made, where 8, 9 or 11 ended the run those begun, and none where it was refused before.
     pub charged: usize,
     /// What is left for the next mesh.
     pub left: usize,
@@ -50,6 +55,7 @@ impl Job {
             charged: 0,
             capacity: MOST_CAPACITY,
             slots: MOST_SLOTS,
+            words: MOST_TRACE,
         })
     }
 
@@ -57,6 +63,11 @@ impl Job {
     pub fn lend(&mut self, capacity: usize, slots: usize) {
         self.capacity = capacity.min(MOST_CAPACITY);
         self.slots = slots.min(MOST_SLOTS);
+    }
+
+    /// Sets how many words of trace a mesh is lent that asks for one.
+    pub fn lend_trace(&mut self, words: usize) {
+        self.words = words;
     }
 
     /// The state before the next mesh.
@@ -101,6 +112,7 @@ impl Job {
             points,
             triangles,
             call,
+            options.words(self.words),
             options,
             |cells, memory, call, further| {
                 let step = lent::job(before, cells, memory, call, further);

@@ -2,16 +2,18 @@
 
 mod job;
 mod preview;
+mod replay;
 
 pub use job::{job, State, Step};
 pub use preview::preview;
+pub use replay::{replay, Lengths, Told};
 
 use std::cmp::Ordering;
 
 use crate::{Counts, Quad, Refusal};
 
-/// Numbers that a finished run writes: nine counts, four lengths and the trials.
-const ANSWER: usize = 14;
+/// Numbers that a finished run writes: nine counts, four lengths, the trials and the words of the trace.
+const ANSWER: usize = 15;
 
 /// Numbers of a quad's record: four nodes, the edge's two, the round, the triangles replaced.
 pub const QUAD_WORDS: usize = 8;
@@ -63,6 +65,8 @@ extern "C" {
         work_len: usize,
         float_work: *mut f64,
         float_work_len: usize,
+        trace: *mut u32,
+        trace_len: usize,
         given: usize,
         capacity: usize,
         count: usize,
@@ -189,6 +193,9 @@ pub struct Memory<'a> {
     pub work: &'a mut [u32],
     /// Four f64 a slot. Zeros after a run.
     pub float_work: &'a mut [f64],
+    /// The words of the trace come to its front, entry after entry; `Entry::read` reads them. Empty for none. Only `run_front_with` and `job` write it, and no length
+    /// is asked for: where one entry more does not fit, the run is refused with 11.
+    pub trace: &'a mut [u32],
 }
 
 /// What a finished run counted, and the lengths of its lists; entries past a list's length are as they were.
@@ -199,12 +206,14 @@ pub struct Answer {
     pub triangles: usize,
     pub points: usize,
     pub components: usize,
+    /// Words of the trace.
+    pub words: usize,
 }
 
 /// Meshes the first `call.count` triangles, three node numbers each, over the first `call.given` points of the memory.
 ///
-/// Refusals before a run (1 to 7, 13 to 15) touch nothing. 8 and 9 leave the points added and the quads written before them, clear both work slices and touch
-/// nothing else.
+/// Refusals before a run (1 to 7, 13 to 15) touch nothing. 8, 9 and 11 leave the points added, the quads written and the entries made before them, clear both work
+/// slices and touch nothing else. Here no trace is made; what `memory.trace` holds stays.
 pub fn run_front(triangles: &[u32], memory: Memory<'_>, call: Call) -> Result<Answer, Refusal> {
     let mut a = [0usize; ANSWER];
     // Each pointer comes with the length of its slice, the slices are exclusive or only read, and the function asks nothing else.
@@ -237,7 +246,7 @@ pub fn run_front(triangles: &[u32], memory: Memory<'_>, call: Call) -> Result<An
     answered(number, a)
 }
 
-/// The same with joints, a quality set and the grid profile; by default it is `run_front`.
+/// The same with joints, a quality set, the grid profile and a trace; by default, and without a trace, it is `run_front`.
 pub fn run_front_with(
     triangles: &[u32],
     memory: Memory<'_>,
@@ -265,6 +274,8 @@ pub fn run_front_with(
             memory.work.len(),
             memory.float_work.as_mut_ptr(),
             memory.float_work.len(),
+            memory.trace.as_mut_ptr(),
+            memory.trace.len(),
             call.given,
             call.capacity,
             call.count,
@@ -307,6 +318,7 @@ fn answered(number: usize, a: [usize; ANSWER]) -> Result<Answer, Refusal> {
         triangles: a[10],
         points: a[11],
         components: a[12],
+        words: a[14],
     })
 }
 

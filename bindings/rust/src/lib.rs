@@ -63,6 +63,24 @@
 //! # Ok::<(), Refusal>(())
 //! ```
 //!
+//! A run can be asked for its trace, and a mesh be stepped through as it grew, see [`Entry`] and [`replay`]:
+//!
+//! ```
+//! use sedgepick::{entries, replay, run_front_with, Entry, Options, Refusal};
+//!
+//! let points = [[0.0, 0.0, 0.0], [1.0, 0.0, 0.0], [1.0, 1.0, 0.0], [0.0, 1.0, 0.0]];
+//! let triangles = [[0, 1, 2], [0, 2, 3]];
+//! let options = Options { size: 1.0, trace: true, ..Options::default() };
+//! let mesh = run_front_with(&points, &triangles, &options)?;
+//! let entry = Entry::Quad { quad: mesh.quads[0], slots: vec![0, 1] };
+//! assert!(entries(&mesh.trace).eq([entry]));
+//! assert_eq!(replay(&points, &triangles, &mesh.trace)?.quads, mesh.quads);
+//! assert_eq!(replay(&points, &triangles, &[])?.triangles, triangles);
+//! assert_eq!(replay(&points, &triangles, &[2, 0, 2])?.triangles, [[1, 3, 0], [3, 1, 2]]);
+//! assert_eq!(replay(&points, &triangles, &[2, 2, 0]), Err(Refusal::BadTrace));
+//! # Ok::<(), Refusal>(())
+//! ```
+//!
 //! Several slabs can share one attempt allowance, see [`Job`]:
 //!
 //! ```
@@ -101,16 +119,18 @@ mod quality;
 mod refusal;
 mod sheet;
 mod small;
+mod trace;
 
 pub use filing::{filing_order, Filed};
-pub use job::{Job, Over, Slab, MOST_ALLOWANCE, MOST_MESHES};
+pub use job::{Job, Over, Slab, MOST_ALLOWANCE, MOST_MESHES, MOST_TRACE};
 pub use preview::{preview, Cost, Kind, Shown};
 pub use quality::{Quality, QualityBuilder, COSINES, JACOBIANS, PAIRS, SIDES};
 pub use refusal::Refusal;
 pub use sheet::{put_sheet, sheet, Metrics, Sheet, Worst, RECORD, SHEET_NUMBERS, STEPS};
 pub use small::small_mesh;
+pub use trace::{entries, replay, Entries, Entry, Replayed};
 
-use lent::{Call, Further, Memory};
+use lent::{Call, Further, Lengths, Memory};
 
 /// Limits on points and slots, and on the given ones.
 pub const MOST_CAPACITY: usize = 8192;
@@ -133,7 +153,7 @@ pub enum Stop {
     EvenComponents = 1,
 }
 
-/// What a run goes by beside points and triangles. `Default` has no size, stop rule 0, the standard quality set, no joints and no profile.
+/// What a run goes by beside points and triangles. `Default` has no size, stop rule 0, the standard quality set, no joints, no profile and no trace.
 #[derive(Clone, Copy, Debug, PartialEq)]
 pub struct Options<'a> {
     /// The target length of an edge: 0 for none, otherwise from 1/64 to 8.
@@ -146,6 +166,8 @@ pub struct Options<'a> {
     /// The grid profile: x and y of every point are multiples of 1/1024 and the size is 0. Nothing is inserted, and the summed area of quads and triangles,
     /// each without sign, equals that of the given triangles, exactly.
     pub grid: bool,
+    /// The mesh comes with the trace of its run; nothing else changes. A preview has none.
+    pub trace: bool,
 }
 
 impl<'a> Options<'a> {
@@ -158,6 +180,15 @@ impl<'a> Options<'a> {
             grid: self.grid as u32,
         }
     }
+
+    /// Words of trace to lend, where one is asked for.
+    fn words(&self, most: usize) -> usize {
+        if self.trace {
+            most
+        } else {
+            0
+        }
+    }
 }
 
 impl Default for Options<'_> {
@@ -168,6 +199,7 @@ impl Default for Options<'_> {
             quality: Quality::default(),
             joints: &[],
             grid: false,
+            trace: false,
         }
     }
 }
@@ -222,12 +254,14 @@ pub struct Mesh {
     /// The sizes of their components, descending.
     pub components: Vec<u32>,
     pub counts: Counts,
+    /// The words of the trace, which [`entries`] reads; none where it was not asked for.
+    pub trace: Vec<u32>,
 }
 
 /// Meshes the triangles over the points with the standard quality set, no joints and no profile. `size` is the target length of an edge: 0 for none, otherwise from 1/64 to 8.
 ///
 /// Where points or slots run out the run is made again with more, up to the limits, so that 8 and 9 come back only from a run that needs more than them.
-/// The result does not depend on how much was lent.
+/// The result does not depend on how much was lent. So it is with the trace where one is asked for, which has no limit: 11 does not come back.
 pub fn run_front(
     points: &[[f64; 3]],
     triangles: &[[u32; 3]],
@@ -258,8 +292,17 @@ pub fn run_front_with(
         size: options.size,
         stop: options.stop as u32,
     };
+    let mut words = options.words(TRACE_WORDS * (count + TRACE_WORDS));
     loop {
-        match attempt(points, triangles, call, options, lent::run_front_with) {
+        match attempt(
+            points,
+            triangles,
+            call,
+            words,
+            options,
+            lent::run_front_with,
+        ) {
+            Err(Refusal::NoTrace) => words *= 2,
             Err(Refusal::NoPoint) if call.capacity < MOST_CAPACITY => {
                 call.capacity = (2 * call.capacity).min(MOST_CAPACITY)
             }
@@ -271,35 +314,32 @@ pub fn run_front_with(
     }
 }
 
-/// One run, with as much memory as the call states.
+/// Words of trace that are lent at first for each triangle, and for so many more.
+const TRACE_WORDS: usize = 16;
+
+/// One run, with as much memory as the call states and so many words of trace.
 fn attempt(
     points: &[[f64; 3]],
     triangles: &[[u32; 3]],
     call: Call,
+    words: usize,
     options: &Options<'_>,
     run: impl FnOnce(&[u32], Memory<'_>, Call, Further<'_>) -> Result<lent::Answer, Refusal>,
 ) -> Result<Mesh, Refusal> {
-    let mut room = Room::new(points, call);
+    let mut room = Room::new(points, call, words);
     let further = options.further();
     let cells = triangles.as_flattened();
     let answer = run(cells, room.memory(), call, further)?;
-    room.components.truncate(answer.components);
+    room.trace.truncate(answer.words);
+    let lengths = Lengths {
+        quads: answer.quads,
+        triangles: answer.triangles,
+        points: answer.points,
+        components: answer.components,
+    };
     Ok(Mesh {
-        points: room
-            .points
-            .chunks_exact(3)
-            .take(answer.points)
-            .map(|p| [p[0], p[1], p[2]])
-            .collect(),
-        quads: lent::quads(&room.quads, answer.quads).collect(),
-        triangles: room
-            .triangles
-            .chunks_exact(3)
-            .take(answer.triangles)
-            .map(|t| [t[0], t[1], t[2]])
-            .collect(),
-        components: room.components,
         counts: answer.counts,
+        ..room.lists(lengths)
     })
 }
 
@@ -311,11 +351,12 @@ struct Room {
     components: Vec<u32>,
     work: Vec<u32>,
     float_work: Vec<f64>,
+    trace: Vec<u32>,
 }
 
 impl Room {
-    /// As much as the call states. One over the limits is refused before any memory is looked at.
-    fn new(points: &[[f64; 3]], call: Call) -> Room {
+    /// As much as the call states, and so many words of trace. One over the limits is refused before any memory is looked at.
+    fn new(points: &[[f64; 3]], call: Call, words: usize) -> Room {
         let over = call.given > MOST_GIVEN || call.count > MOST_GIVEN;
         let lend = if over {
             Call {
@@ -335,6 +376,7 @@ impl Room {
             components: vec![0; lend.slots],
             work: vec![0; lend.work_len()],
             float_work: vec![0.0; lend.float_work_len()],
+            trace: vec![0; words],
         }
     }
 
@@ -346,6 +388,22 @@ impl Room {
             components: &mut self.components,
             work: &mut self.work,
             float_work: &mut self.float_work,
+            trace: &mut self.trace,
+        }
+    }
+
+    /// The lists of such lengths, and the trace as it is.
+    fn lists(mut self, lengths: Lengths) -> Mesh {
+        self.components.truncate(lengths.components);
+        let points = self.points.chunks_exact(3).take(lengths.points);
+        let triangles = self.triangles.chunks_exact(3).take(lengths.triangles);
+        Mesh {
+            points: points.map(|p| [p[0], p[1], p[2]]).collect(),
+            quads: lent::quads(&self.quads, lengths.quads).collect(),
+            triangles: triangles.map(|t| [t[0], t[1], t[2]]).collect(),
+            components: self.components,
+            counts: Counts::default(),
+            trace: self.trace,
         }
     }
 }

@@ -83,7 +83,7 @@ pub fn preview(
         size: options.size,
         stop: options.stop as u32,
     };
-    let mut room = Room::new(points, call);
+    let mut room = Room::new(points, call, 0);
     lent::preview(
         edge.map(|node| node as usize),
         triangles.as_flattened(),

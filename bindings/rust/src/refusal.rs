@@ -32,10 +32,15 @@ pub enum Refusal {
     NoPoint = 8,
     /// A split with fewer than two slots free, or a quad with none.
     NoSlots = 9,
+    /// An insertion, a flip or a quad whose entry does not fit the lent trace.
+    NoTrace = 11,
+    /// Of a replay, tested before 8 and 9 of its entry: an entry is cut short or of another kind, or it names a slot without a triangle, a slot twice, a node that is
+    /// not there, a point not strictly inside its triangle, or an edge that is not in its node order or does not flip.
+    BadTrace = 12,
 }
 
 impl Refusal {
-    const ALL: [Refusal; 13] = [
+    const ALL: [Refusal; 15] = [
         Refusal::BadJob,
         Refusal::OverLimit,
         Refusal::BadSize,
@@ -49,9 +54,11 @@ impl Refusal {
         Refusal::BadJoint,
         Refusal::NoPoint,
         Refusal::NoSlots,
+        Refusal::NoTrace,
+        Refusal::BadTrace,
     ];
 
-    /// The refusal's number: 1 to 9, and 13 to 16.
+    /// The refusal's number: 1 to 9, and 11 to 16.
     pub fn number(self) -> u32 {
         self as u32
     }
@@ -77,6 +84,8 @@ impl Refusal {
             Refusal::BadJoint => "a joint is one node twice, a node of it is not below the given points, or there are over 256 joints",
             Refusal::NoPoint => "an insertion, with the point capacity used up",
             Refusal::NoSlots => "a split with fewer than two slots free, or a quad with none",
+            Refusal::NoTrace => "an insertion, a flip or a quad whose entry does not fit the lent trace",
+            Refusal::BadTrace => "an entry of the trace is cut short or of another kind, or names what is not there, a point not strictly inside or an edge that does not flip",
         }
     }
 }

@@ -122,6 +122,7 @@ fn lend_quads(
         components: &mut short(slots),
         work: &mut short(call.work_len()),
         float_work: &mut vec![-1.0; call.float_work_len()],
+        trace: &mut [],
     };
     lent::run_front(HALVES.as_flattened(), memory, call)
 }
@@ -152,6 +153,7 @@ fn lent_memory() {
         components: &mut [],
         work: &mut [],
         float_work: &mut [],
+        trace: &mut [],
     };
     assert_eq!(lent::run_front(&[], nothing, huge), Err(Refusal::OverLimit));
 }
@@ -188,6 +190,7 @@ fn memory_grows() {
         components: &mut vec![0; call.slots],
         work: &mut vec![0; call.work_len()],
         float_work: &mut vec![0.0; call.float_work_len()],
+        trace: &mut [],
     };
     let answer = lent::run_front(triangles.as_flattened(), memory, call).unwrap();
     assert!(answer.points > 120 + 30 + 32, "{} points", answer.points);
@@ -234,14 +237,14 @@ fn births(triangles: &[[u32; 3]], mesh: &Mesh) {
 
 #[test]
 fn refusals_have_numbers_and_words() {
-    for number in (1..=9).chain(13..=16) {
+    for number in (1..=9).chain(11..=16) {
         let refusal = Refusal::of_number(number).unwrap();
         assert_eq!(refusal.number() as usize, number);
         assert!(refusal
             .to_string()
             .starts_with(&format!("refused with {number}: ")));
     }
-    for number in [0, 10, 12, 17, 256 + 1, usize::MAX] {
+    for number in [0, 10, 17, 256 + 1, usize::MAX] {
         assert_eq!(Refusal::of_number(number), None);
     }
 }

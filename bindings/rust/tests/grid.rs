@@ -64,6 +64,7 @@ fn the_area_is_kept_exactly_and_the_run_is_the_same() {
             quality,
             joints,
             grid: true,
+            trace: false,
         };
         let mesh = kept(&points, &triangles, &options);
         assert!(!mesh.quads.is_empty());

@@ -149,6 +149,7 @@ fn lend(state: State, stop: u32) -> Step {
         components: &mut [7],
         work: &mut work,
         float_work: &mut float_work,
+        trace: &mut [],
     };
     let step = lent::job(state, &[], memory, call, Further::default());
     let untouched = work.iter().all(|&n| n == 7) && float_work.iter().all(|&x| x == 7.0);

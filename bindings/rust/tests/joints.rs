@@ -100,6 +100,7 @@ fn lent_joints() {
             components: &mut [7; 4],
             work: &mut [7; 64 * 4 + 8 * 3],
             float_work: &mut [7.0; 16],
+            trace: &mut [],
         };
         let further = Further {
             joints,

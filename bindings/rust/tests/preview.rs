@@ -243,6 +243,7 @@ fn lend(edge: [usize; 2], capacity: usize, slots: usize, size: f64) -> Result<Sh
         components: &mut components,
         work: &mut work,
         float_work: &mut float_work,
+        trace: &mut [],
     };
     let cells = HALVES.as_flattened();
     let shown = lent::preview(edge, cells, memory, call, Further::default());

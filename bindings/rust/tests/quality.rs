@@ -125,6 +125,7 @@ fn called(set: Set, stop: u32) -> Option<Refusal> {
         components: &mut [],
         work: &mut [],
         float_work: &mut [],
+        trace: &mut [],
     };
     let further = Further {
         set,
@@ -243,6 +244,7 @@ fn a_bad_set_comes_before_short_memory() {
             components: &mut [],
             work: &mut [],
             float_work: &mut [],
+            trace: &mut [],
         };
         let further = Further {
             set,

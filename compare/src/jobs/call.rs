@@ -8,7 +8,7 @@ use crate::memory::{self, Slices};
 
 /// Numbers of a job, and of an answer.
 pub const JOB: usize = 5;
-pub const ANSWER: usize = 14;
+pub const ANSWER: usize = 15;
 
 extern "C" {
     /// include/sedgepick.h says what it takes and gives.
@@ -29,6 +29,8 @@ extern "C" {
         work_len: usize,
         float_work: *mut f64,
         float_work_len: usize,
+        trace: *mut u32,
+        trace_len: usize,
         given: usize,
         capacity: usize,
         count: usize,
@@ -83,6 +85,8 @@ pub fn port(input: &Input, lent: Lent, mut l: Left) -> Left {
             s.work.len(),
             float_work.as_mut_ptr(),
             float_work.len(),
+            s.trace.as_mut_ptr(),
+            s.trace.len(),
             input.points.len(),
             lent.points,
             input.triangles.len(),
@@ -158,5 +162,6 @@ fn words(rust: &FrontResult) -> [usize; ANSWER] {
         rust.points.len(),
         rust.region_components.len(),
         c.trials,
+        rust.trace.len(),
     ]
 }

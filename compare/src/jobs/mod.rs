@@ -25,6 +25,7 @@ struct Tally {
     limited: u64,
     refused: [u64; REFUSALS],
     quads: u64,
+    words: u64,
     allowed: u64,
     charged: u64,
     differ: u64,
@@ -41,6 +42,7 @@ impl Tally {
             .zip(other.refused)
             .for_each(|(to, n)| *to += n);
         self.quads += other.quads;
+        self.words += other.words;
         self.allowed += other.allowed;
         self.charged += other.charged;
         self.differ += other.differ;
@@ -167,6 +169,7 @@ impl Turn<'_> {
             self.tally.finished += 1;
             self.tally.limited += got.answer[8] as u64;
             self.tally.quads += got.answer[9] as u64;
+            self.tally.words += got.answer[14] as u64;
         } else if let Some(n) = self.tally.refused.get_mut(got.number) {
             *n += 1;
         }
@@ -259,14 +262,22 @@ pub fn run(seed: u64, count: u64, threads: u64) -> bool {
 
 /// A line for each number of meshes, then the sums.
 fn print(tallies: &[Tally]) -> Tally {
-    const NUMBERS: [usize; 13] = [16, 1, 2, 3, 14, 4, 5, 6, 7, 15, 13, 8, 9];
-    println!("meshes | jobs | calls | finished | by limit | refused 16 1 2 3 14 4 5 6 7 15 13 8 9 | quads | allowed | charged | differ");
+    const NUMBERS: [usize; 14] = [16, 1, 2, 3, 14, 4, 5, 6, 7, 15, 13, 8, 9, 11];
+    println!("meshes | jobs | calls | finished | by limit | refused 16 1 2 3 14 4 5 6 7 15 13 8 9 11 | quads | words | allowed | charged | differ");
     let mut all = Tally::default();
     let line = |name: &str, t: &Tally| {
         let refused = NUMBERS.map(|k| t.refused[k].to_string()).join(" ");
         println!(
-            "{name} | {} | {} | {} | {} | {refused} | {} | {} | {} | {}",
-            t.jobs, t.calls, t.finished, t.limited, t.quads, t.allowed, t.charged, t.differ
+            "{name} | {} | {} | {} | {} | {refused} | {} | {} | {} | {} | {}",
+            t.jobs,
+            t.calls,
+            t.finished,
+            t.limited,
+            t.quads,
+            t.words,
+            t.allowed,
+            t.charged,
+            t.differ
         );
     };
     for (k, tally) in tallies.iter().enumerate() {

@@ -15,7 +15,7 @@ use crate::memory::{self, Tails, SLICES};
 /// Of so many meshes four have a set, four have joints, four are in the profile.
 const ASKED_OF: usize = 24;
 
-/// A mesh for a job, its memory, and its run by itself with all that may be lent.
+/// A mesh for a job, its memory, and its run by itself with all that may be lent and its whole trace.
 pub struct Slab {
     pub input: Input,
     pub lent: Lent,
@@ -25,8 +25,8 @@ pub struct Slab {
 
 impl Slab {
     pub fn new(r: &mut Random) -> Slab {
-        let (kind, room) = (r.pick(KINDS), room(r));
-        let mut input = (kind.1)(r, &room);
+        let (kind, space) = (r.pick(KINDS), space(r));
+        let mut input = (kind.1)(r, &space);
         if input.stop < 2 {
             input.stop = r.below(2) as u32;
         }
@@ -43,9 +43,13 @@ impl Slab {
             input,
         };
         if slab.input.refusal(LARGEST).is_none() {
+            slab.input.trace = usize::MAX;
             let alone = slab.input.run_unchecked(LARGEST);
+            slab.input.trace = room(alone.trace.len(), r);
             slab.lend(&alone, r);
             slab.alone = Some(alone);
+        } else {
+            slab.input.trace = r.pick(&[0, 0, 1, 30]);
         }
         if r.once_in(24) {
             slab.shorten(r);
@@ -119,8 +123,14 @@ impl Slab {
     }
 }
 
+/// Words of trace that are lent to a run that needs so many: mostly none, otherwise enough or not.
+fn room(need: usize, r: &mut Random) -> usize {
+    let less = r.below(need + 1);
+    r.pick(&[0, 0, 0, 0, 0, need, need + 1, need + 40, less, less])
+}
+
 /// Small rooms, larger ones now and then.
-fn room(r: &mut Random) -> Room {
+fn space(r: &mut Random) -> Room {
     match r.below(32) {
         0 => Room {
             triangles: 200,

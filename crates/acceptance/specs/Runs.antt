@@ -41,7 +41,7 @@ unused = 4294967295
 
 -- the lent slices, with these points and nodes of triangles
 unfoldable pub lent : List Float → List ℕ → Lent
-lent points nodes = lent-of points nodes [] (replicate 384 unused) (replicate 144 unused) (replicate 48 unused) (replicate 3264 0) (replicate 192 (plus 0))
+lent points nodes = lent-of points nodes [] (replicate 384 unused) (replicate 144 unused) (replicate 48 unused) (replicate 3264 0) (replicate 192 (plus 0)) []
 
 -- ---- the runs
 

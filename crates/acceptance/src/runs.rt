@@ -43,6 +43,7 @@ fn mixed_run(start: u64, given: usize, list: Triangles, s: usize) -> u64
     let mut work = [0u32; 3264];
     let mut floats = [0.0; 192];
     let none = [0u32; 0];
+    let mut no_trace = [0u32; 0];
     let stated = standard(
         given,
         capacities[s % 2],
@@ -60,6 +61,7 @@ fn mixed_run(start: u64, given: usize, list: Triangles, s: usize) -> u64
         &mut components,
         &mut work,
         &mut floats,
+        &mut no_trace,
         stated,
     );
     let h = mixed_answer(start, a);

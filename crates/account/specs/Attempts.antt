@@ -157,7 +157,7 @@ limit-of-call most a l c n done e =
     let b = behind most a l c n done in
     let k = b .counts-are in
     let t = tris-number a l (b .passed) in
-    elim (result-limit (settings-within most a) (given-locks a l) (given-tris a l) (given-points a l) (b .run) (b .ended) (sym (ap (λ z. z .limit) k) ∙ e)) [
+    elim (result-limit (settings-within most (length (l .trace)) a) (given-locks a l) (given-tris a l) (given-points a l) (b .run) (b .ended) (sym (ap (λ z. z .limit) k) ∙ e)) [
       | inl h ↦ inl (omega (arith, ap (λ z. z .attempts) k, h, t))
       | inr h ↦ inr (omega (arith, h, ap (λ z. z .triangles) (b .lengths-are), t))
     ]

@@ -33,28 +33,28 @@ none-found p (y ∷ ys) e x i = elim (which (p y)) [
 -- the run behind a finished call with at most so many attempts
 pub record Behind (most : ℕ) (a : Asked) (l : Lent) (c : Counts) (n : Lengths) : Type 0 where
   pub run : Result
-  pub ended : run-front (settings-within most a) (given-locks a l) (given-tris a l) (given-points a l) ≡ ran run
+  pub ended : run-front (settings-within most (length (l .trace)) a) (given-locks a l) (given-tris a l) (given-points a l) ≡ ran run
   pub counts-are : c ≡ run .counts
   pub lengths-are : n ≡ lengths run
-  pub exit : call-within most a l .lent ≡ written (run .points) (run .quads) (run .triangles) (run .sizes) l
+  pub exit : call-within most a l .lent ≡ written (run .points) (run .quads) (run .triangles) (run .sizes) (run .trace) l
   pub passed : find (λ c. c .1) (conditions a l) ≡ none
 
 module _ (most : ℕ) (a : Asked) (l : Lent) (c : Counts) (n : Lengths) where
-  call-runs : find (λ c. c .1) (conditions a l) ≡ none → call-within most a l ≡ after-run l (run-front (settings-within most a) (given-locks a l) (given-tris a l) (given-points a l))
+  call-runs : find (λ c. c .1) (conditions a l) ≡ none → call-within most a l ≡ after-run l (run-front (settings-within most (length (l .trace)) a) (given-locks a l) (given-tris a l) (given-points a l))
   unfolding call-within
   call-runs f = rw (f, call-within) refl
 
-  by-outcome : (o : Outcome) → find (λ c. c .1) (conditions a l) ≡ none → run-front (settings-within most a) (given-locks a l) (given-tris a l) (given-points a l) ≡ o
+  by-outcome : (o : Outcome) → find (λ c. c .1) (conditions a l) ≡ none → run-front (settings-within most (length (l .trace)) a) (given-locks a l) (given-tris a l) (given-points a l) ≡ o
       → after-run l o .answer ≡ finished c n → Behind most a l c n
   unfolding after-run
   by-outcome (ran r) f e h = record { run = r; ended = e; counts-are = cc; lengths-are = cc; exit = ap (λ z. z .lent) (call-runs f ∙ ap (after-run l) e); passed = f }
-  by-outcome (wanting w ps qs) f e h = absurd (let z : _≡_ {A = ℕ} 0 1 = cc in omega arith)
+  by-outcome (wanting w ps qs ws) f e h = absurd (let z : _≡_ {A = ℕ} 0 1 = cc in omega arith)
 
   -- a finished call has a run behind it
   pub behind : call-within most a l .answer ≡ finished c n → Behind most a l c n
   unfolding call-within untouched
   behind h = elim (known (find (λ c. c .1) (conditions a l))) [
-    | inl f ↦ by-outcome (run-front (settings-within most a) (given-locks a l) (given-tris a l) (given-points a l)) f refl (sym (ap (λ z. z .answer) (call-runs f)) ∙ h)
+    | inl f ↦ by-outcome (run-front (settings-within most (length (l .trace)) a) (given-locks a l) (given-tris a l) (given-points a l)) f refl (sym (ap (λ z. z .answer) (call-runs f)) ∙ h)
     | inr f ↦
         let g : refusal (f .0 .0) ≡ finished c n = rw (f .1, call-within) at h in
         absurd (let z : _≡_ {A = ℕ} 0 1 = cc in omega arith)

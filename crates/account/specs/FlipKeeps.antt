@@ -9,7 +9,7 @@ use native.Mathlib.Omega.{arith}
 use lib.ListN.{length}
 use Rattle.definition.specs.Lists.{flat-map}
 use Rattle.definition.specs.Plane.{Edge}
-use Rattle.definition.specs.Cells.{Tri, Quad, Cell, tri, quad, Live, Mesh, new-live, edges, owns, owners, all-edges, tri-of, tris-of, with-live, without, set-cell}
+use Rattle.definition.specs.Cells.{Tri, Quad, Cell, tri, quad, Live, Mesh, new-live, edges, owns, owners, all-edges, tri-of, tris-of, with-live, noting, without, set-cell}
 use Rattle.definition.specs.Flips.{third, set-tris}
 use Rattle.definition.specs.Account.{Rearranged}
 use Rattle.laws.specs.Lists.{In, in-left, in-either, in-filter, filter-in, in-flat-map}
@@ -118,7 +118,7 @@ module _ (m : Mesh) (e : Edge) (m′ : Mesh) (ok : Valid m) (at : In e (all-edge
   y′ = new-live (w .y .slot) (tri (w .t′))
 
   new-live-list : m′ .live ≡ (others ++ (x′ ∷ [])) ++ (y′ ∷ [])
-  unfolding others x′ y′ set-tris set-cell with-live new-live
+  unfolding others x′ y′ set-tris set-cell with-live noting new-live
   new-live-list =
       let i = w .x .slot in
       let j = w .y .slot in
@@ -173,7 +173,7 @@ module _ (m : Mesh) (e : Edge) (m′ : Mesh) (ok : Valid m) (at : In e (all-edge
   ]
 
   flip-valid : Valid m′
-  unfolding x′ y′ new-live set-tris set-cell with-live others without
+  unfolding x′ y′ new-live set-tris set-cell with-live noting others without
   flip-valid =
       let used : m′ .used ≡ m .used = ap (λ n. n .used) (w .after) in
       let points : m′ .points ≡ m .points = ap (λ n. n .points) (w .after) in

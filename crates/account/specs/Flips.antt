@@ -8,7 +8,7 @@ use Prim.Native.Nat.{ℕ}
 use lib.Dec.{eqb}
 use borrow.Author.Tests.{eqb-true, eq-eqb}
 use Rattle.definition.specs.Plane.{Edge}
-use Rattle.definition.specs.Cells.{Tri, Cell, tri, quad, Live, Mesh, new-tri, owners, is-locked, live-tri, is-tri, new-live, in-slot, with-live, without, set-cell}
+use Rattle.definition.specs.Cells.{Tri, Cell, tri, quad, Live, Event, was-flipped, Mesh, new-tri, owners, is-locked, live-tri, is-tri, new-live, in-slot, with-live, noting, without, set-cell}
 use Rattle.definition.specs.Flips.{third, apart, convex-pair, runs, first-turned, second-turned, set-tris, flipped, flip-tris, flip-cells, flip-owners, flip}
 use Rattle.laws.specs.Bools.{which, both, never}
 use Rattle.laws.specs.Lists.{In, in-left, in-right, filter-in, no-some}
@@ -69,7 +69,7 @@ pub record Flipped (m : Mesh) (e : Edge) (m′ : Mesh) : Type 0 where
   pub corners-t : Corners t′ (third t e) (e .1) (third s e)
   pub distinct-s : third s e ≢ e .0 → third t e ≢ e .0 → Distinct s′
   pub distinct-t : third s e ≢ e .1 → third t e ≢ e .1 → Distinct t′
-  pub after : m′ ≡ set-tris m (x .slot) s′ (y .slot) t′
+  pub after : m′ ≡ noting (was-flipped e) (set-tris m (x .slot) s′ (y .slot) t′)
 
 module _ (m : Mesh) (e : Edge) (m′ : Mesh) where
   convex-differ : (p q : ℕ) → convex-pair m (e .0) (e .1) p q ≡ true → p ≢ q
@@ -86,7 +86,7 @@ module _ (m : Mesh) (e : Edge) (m′ : Mesh) where
         | inr f ↦ no-some m′ (rw f at h)
         | inl f ↦
             let pq = convex-differ p q f in
-            let g : some (set-tris m (x .slot) (first-turned b e p q) (y .slot) (second-turned b e p q)) ≡ some m′ = rw f at h in
+            let g : some (noting (was-flipped e) (set-tris m (x .slot) (first-turned b e p q) (y .slot) (second-turned b e p q))) ≡ some m′ = rw f at h in
             record {
               x = x;
               y = y;
@@ -132,11 +132,11 @@ module _ (m : Mesh) (e : Edge) (m′ : Mesh) where
 
   -- the points and the slots in use stay
   pub flip-points : flip m e ≡ some m′ → m′ .points ≡ m .points
-  unfolding set-tris set-cell with-live
+  unfolding set-tris set-cell with-live noting
   flip-points h = ap (λ n. n .points) (flip-made h .after)
 
   pub flip-used : flip m e ≡ some m′ → m′ .used ≡ m .used
-  unfolding set-tris set-cell with-live
+  unfolding set-tris set-cell with-live noting
   flip-used h = ap (λ n. n .used) (flip-made h .after)
 
 -- ---- a slot's triangle stays a triangle
@@ -157,8 +157,14 @@ set-tri-at m i id t h =
       | inr e ↦ record { x = h .x; at = in-left (h .x) (without i (m .live)) (l ∷ []) (filter-in (λ z. not (eqb i (z .slot))) (m .live) (h .at) (ap not e)); slot-is = h .slot-is; is-one = h .is-one }
     ]
 
+noted-tri-at : (m : Mesh) (v : Event) (id : ℕ) → Tri-at m id → Tri-at (noting v m) id
+unfolding noting
+noted-tri-at m v id h = record { x = h .x; at = h .at; slot-is = h .slot-is; is-one = h .is-one }
+
 pub flip-tri-at : (m : Mesh) (e : Edge) (m′ : Mesh) (id : ℕ) → flip m e ≡ some m′ → Tri-at m id → Tri-at m′ id
 unfolding set-tris
 flip-tri-at m e m′ id f h =
     let w = flip-made m e m′ f in
-    subst (λ n. Tri-at n id) (sym (w .after)) (set-tri-at (set-cell m (w .x .slot) (tri (w .s′))) (w .y .slot) id (w .t′) (set-tri-at m (w .x .slot) id (w .s′) h))
+    subst (λ n. Tri-at n id) (sym (w .after))
+    (noted-tri-at (set-tris m (w .x .slot) (w .s′) (w .y .slot) (w .t′)) (was-flipped e) id
+    (set-tri-at (set-cell m (w .x .slot) (tri (w .s′))) (w .y .slot) id (w .t′) (set-tri-at m (w .x .slot) id (w .s′) h)))

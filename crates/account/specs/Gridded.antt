@@ -173,6 +173,6 @@ grid-call most a l chosen c n e =
     let exit = call-within most a l .lent in
     let fit = slots-limit a l (b .passed) in
     let on = on-grid-so a l (b .passed) chosen in
-    let w = area-kept (settings-within most a) (record { no-size = on .0; room = omega arith }) (given-locks a l) (given-tris a l) (given-points a l) (λ p i. (given-within a l (b .passed) p i, all-in grid-node (given-points a l) (on .1) p i)) (b .run) (given-proper a l (b .passed))
+    let w = area-kept (settings-within most (length (l .trace)) a) (record { no-size = on .0; room = omega arith }) (given-locks a l) (given-tris a l) (given-points a l) (λ p i. (given-within a l (b .passed) p i, all-in grid-node (given-points a l) (on .1) p i)) (b .run) (given-proper a l (b .passed))
     (omega (arith, points-number a l (b .passed), given-fit a l (b .passed))) (omega (arith, tris-number a l (b .passed), slots-fit a l (b .passed))) (b .ended) in
     rw (read-points (b .run) l exit n (b .lengths-are) (b .exit), read-quads (b .run) l exit n (b .lengths-are) (b .exit), read-triangles (b .run) l exit n (b .lengths-are) (b .exit)) w

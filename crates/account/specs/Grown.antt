@@ -18,7 +18,8 @@ use Rattle.definition.specs.Cells.{Quad, Cell, tri, quad, Live, Mesh, key, new-
 use Rattle.definition.specs.Components.{removing-leaves-odd-component}
 use Rattle.definition.specs.Region.{region}
 use Rattle.definition.specs.Trials.{Trial, rated, metrics-of, trial, trial-before}
-use Rattle.definition.specs.Attempt.{Tried, made, failed, orphaned, no-slot, recover-all, replace, try-region, try-recovered, open-sides, try-pair, Attempt, placed, refused, ended, try-pairs, try-trials, Stance, Sides, found, missing, overfull, side-nodes, stance, lies-left, try-quad}
+use Rattle.definition.specs.Trace.{in-room}
+use Rattle.definition.specs.Attempt.{Tried, made, failed, orphaned, lacking, recover-all, replace, try-region, try-recovered, open-sides, try-pair, Attempt, placed, refused, ended, try-pairs, try-trials, Stance, Sides, found, missing, overfull, side-nodes, stance, lies-left, try-quad}
 use Rattle.laws.specs.Bools.{which, cond-ok}
 use Rattle.laws.specs.Lists.{In, sort-in, in-flat-map}
 use Rattle.account.specs.Rated.{take-in}
@@ -35,7 +36,7 @@ abbrev Gave : Edge → Tried → Type 0
 Gave e (made j q m) = q .edge ≡ e
 Gave e (failed j why m) = Unit {0}
 Gave e orphaned = Unit {0}
-Gave e (no-slot j m) = Unit {0}
+Gave e (lacking w j m) = Unit {0}
 
 -- so for the quads of some trials
 abbrev From : Edge → List Trial → Type 0
@@ -46,7 +47,7 @@ From e ts = (t : Trial) → In t ts → t .nodes .edge ≡ e
 module _ (s : Settings) (e : Edge) where
   replace-gave : (j : ℕ) (m : Mesh) (q : Quad) (cells : List Live) → q .edge ≡ e → Gave e (replace s j m q cells)
   unfolding replace born
-  replace-gave j m q cells h = cond-ok (Gave e) (ltb (s .slots) (m .used + 1)) _ _ (λ z. tt) (λ z. h)
+  replace-gave j m q cells h = cond-ok (Gave e) (ltb (s .slots) (m .used + 1)) _ _ (λ z. tt) (λ z. cond-ok (Gave e) (in-room _) _ _ (λ y. h) (λ y. tt))
 
   region-gave : (j : ℕ) (m : Mesh) (q : Quad) (o : Option (List Live)) → q .edge ≡ e → Gave e (try-region s j m q o)
   unfolding try-region
@@ -58,7 +59,7 @@ module _ (s : Settings) (e : Edge) where
   pair-gave m q none h = tt
   pair-gave m q (some x) h =
       let w = recover-all m (open-sides q) in
-      cond-ok (Gave e) (w .there) _ _ (λ z. region-gave (w .flips) (w .mesh) q (region (w .mesh) (x .slot) q) h) (λ z. tt)
+      cond-ok (Gave e) (w .there) _ _ (λ z. region-gave (w .flips) (w .mesh) q (region (w .mesh) (x .slot) q) h) (λ z. cond-ok (Gave e) (w .short) _ _ (λ y. tt) (λ y. tt))
 
   pairs-case : (n : Spent) (m : Mesh) (f : Edge) (last : Refusal) (t : Trial) (ts : List Trial) (r : Tried) → try-pair s m (t .nodes) (tri-owner m f) ≡ r → Gave e r
       → ((j : ℕ) (m′ : Mesh) (why : Refusal) → Grown e (try-pairs s (trying j n) m′ f why ts)) → Grown e (try-pairs s n m f last (t ∷ ts))
@@ -66,7 +67,7 @@ module _ (s : Settings) (e : Edge) where
   pairs-case n m f last t ts (made j q m′) g h next = rw (g, try-pairs) h
   pairs-case n m f last t ts (failed j why m′) g h next = rw (g, try-pairs) (next j m′ why)
   pairs-case n m f last t ts orphaned g h next = rw (g, try-pairs) tt
-  pairs-case n m f last t ts (no-slot j m′) g h next = rw (g, try-pairs) tt
+  pairs-case n m f last t ts (lacking w j m′) g h next = rw (g, try-pairs) tt
 
   pairs-grown : (n : Spent) (m : Mesh) (f : Edge) (last : Refusal) (ts : List Trial) → From e ts → Grown e (try-pairs s n m f last ts)
   unfolding try-pairs

@@ -121,11 +121,11 @@ lists-fit s lk ts ps r h a b e =
     subst (λ x. Lists-fit s (length (x .points)) (length (x .quads)) (length (x .triangles)) (length (x .sizes))) (sym (w .2)) (state-lists s lk (length ts) (w .0) (w .1))
 
 -- the points and quads that a run leaves when want of lent memory ends it
-pub left-fit : (s : Settings) (lk : Edge → Bool) (ts : List Tri) (ps qs : List Node) (us : List Quad) (w : Want) → Proper ps ts → length ps ≤ s .capacity → length ts ≤ s .slots
-    → run-front s lk ts ps ≡ wanting w qs us
+pub left-fit : (s : Settings) (lk : Edge → Bool) (ts : List Tri) (ps qs : List Node) (us : List Quad) (w : Want) (ws : List ℕ) → Proper ps ts → length ps ≤ s .capacity → length ts ≤ s .slots
+    → run-front s lk ts ps ≡ wanting w qs us ws
     → (length qs ≤ s .capacity) × (length us ≤ s .slots)
-left-fit s lk ts ps qs us w h a b e =
-    let k = run-stopped s (Q s lk (length ts) []) (P s lk (length ts) []) (R s lk (length ts) []) (good-rule s lk (length ts) []) lk ts ps w qs us (start-good s lk ts ps h a b) e in
+left-fit s lk ts ps qs us w ws h a b e =
+    let k = run-stopped s (Q s lk (length ts) []) (P s lk (length ts) []) (R s lk (length ts) []) (good-rule s lk (length ts) []) lk ts ps w qs us ws (start-good s lk ts ps h a b) e in
     let g = k .2 in
     let p = ap length (k .3) in
     let q = ap length (k .4) in
@@ -136,10 +136,10 @@ left-fit s lk ts ps qs us w h a b e =
 
 -- a finished call's lists fit the slices that the caller stated
 pub answer-fits : (most : ℕ) (a : Asked) (l : Lent) (c : Counts) (n : Lengths) → call-within most a l .answer ≡ finished c n
-    → Lists-fit (settings-within most a) (n .points) (n .quads) (n .triangles) (n .components)
+    → Lists-fit (settings-within most (length (l .trace)) a) (n .points) (n .quads) (n .triangles) (n .components)
 unfolding settings-within lengths
 answer-fits most a l c n e =
     let b = behind most a l c n e in
-    let w = lists-fit (settings-within most a) (given-locks a l) (given-tris a l) (given-points a l) (b .run) (given-proper a l (b .passed))
+    let w = lists-fit (settings-within most (length (l .trace)) a) (given-locks a l) (given-tris a l) (given-points a l) (b .run) (given-proper a l (b .passed))
     (omega (arith, points-number a l (b .passed), given-fit a l (b .passed))) (omega (arith, tris-number a l (b .passed), slots-fit a l (b .passed))) (b .ended) in
-    subst (λ k. Lists-fit (settings-within most a) (k .points) (k .quads) (k .triangles) (k .components)) (sym (b .lengths-are)) w
+    subst (λ k. Lists-fit (settings-within most (length (l .trace)) a) (k .points) (k .quads) (k .triangles) (k .components)) (sym (b .lengths-are)) w

@@ -29,12 +29,12 @@ use Rattle.account.specs.Smaller.{limited-to, First, smaller-finished}
 -- ---- one mesh
 
 -- the settings that the mesh runs with
-abbrev in-job : Job → Asked → Settings
-in-job j a = settings-within (job-limit j a) a
+abbrev in-job : Job → Asked → Lent → Settings
+in-job j a l = settings-within (job-limit j a) (length (l .trace)) a
 
 -- its rounds
 abbrev mesh-rounds : Job → Asked → Lent → Progress
-mesh-rounds j a l = rounds-of (in-job j a) (given-locks a l) (given-tris a l) (given-points a l)
+mesh-rounds j a l = rounds-of (in-job j a l) (given-locks a l) (given-tris a l) (given-points a l)
 
 -- a mesh that is not refused with 16 hands on what it did not use
 pub record Handed (j : Job) (r : Job-returned) : Type 0 where
@@ -55,7 +55,7 @@ limit-within j a = omega arith
 ran-mesh : (j : Job) (a : Asked) (l : Lent) → Handed j (after-mesh j l (mesh-rounds j a l))
 unfolding after-mesh settings-within rounds-of
 ran-mesh j a l =
-    let w = charge-within (job-limit j a) (length (given-tris a l)) (mesh-rounds j a l) (ending (in-job j a) (given-locks a l) (given-tris a l) (given-points a l)) in
+    let w = charge-within (job-limit j a) (length (given-tris a l)) (mesh-rounds j a l) (ending (in-job j a l) (given-locks a l) (given-tris a l) (given-points a l)) in
     record { within = omega (arith, limit-within j a, w); next-is = refl }
 
 run-handed : (j : Job) (a : Asked) (l : Lent) → Handed j (run-mesh j a l)
@@ -144,7 +144,7 @@ usual j a = omega arith
 
 -- where nothing refuses the call, the mesh in the job returns what its run leads to
 job-returns : (j : Job) (a : Asked) (l : Lent) → bad-job j ≡ false → find (λ c. c .1) (conditions a l) ≡ none
-    → job j a l .returned ≡ after-run l (run-front (in-job j a) (given-locks a l) (given-tris a l) (given-points a l))
+    → job j a l .returned ≡ after-run l (run-front (in-job j a l) (given-locks a l) (given-tris a l) (given-points a l))
 unfolding job run-mesh after-mesh rounds-of run-front
 job-returns j a l h f = rw (h, f, run-mesh) refl
 
@@ -161,7 +161,7 @@ pub job-first : (j : Job) (a : Asked) (l : Lent) (c : Counts) (n : Lengths) → 
 unfolding after-run call settings settings-within limited-to
 job-first j a l c n h done =
     let b = behind (max-attempts (a .count)) a l c n done in
-    let w = smaller-finished (settings a) (job-limit j a) (max-attempts (a .count)) (usual j a) (given-locks a l) (given-tris a l) (given-points a l) (b .run) (b .ended) in
+    let w = smaller-finished (settings-within (max-attempts (a .count)) (length (l .trace)) a) (job-limit j a) (max-attempts (a .count)) (usual j a) (given-locks a l) (given-tris a l) (given-points a l) (b .run) (b .ended) in
     let r = w .0 in
     let is : job j a l .returned ≡ after-run l (ran r) = job-returns j a l h (b .passed) ∙ ap (after-run l) (w .1) in
     record {

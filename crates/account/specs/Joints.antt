@@ -11,6 +11,7 @@ use Rattle.definition.specs.Lists.{any, all, find, table, numbers, below}
 use Rattle.definition.specs.Plane.{Edge}
 use Rattle.definition.specs.Cells.{Quad, Live, Mesh, same-edge, has-edge-in, tri-edges, quad-edges, edges, is-locked}
 use Rattle.definition.specs.Region.{fills, may-go, spares-locked, if-filled}
+use Rattle.definition.specs.Numbers.{max-attempts}
 use Rattle.definition.specs.Front.{Outcome, ran, wanting, run-front}
 use Rattle.definition.specs.Call.{Asked, Lent, Returned, given-points, given-tris, given-joints, given-locks, most-joints, over-limit, bad-size, bad-stop, bad-quality, too-short, unknown-node, repeated-node, far-point, bad-grid, bad-joint, bad-joints, conditions, settings-within, settings, written, untouched, after-run, call-within, call}
 use Rattle.definition.specs.Account.{Joints-survive, Keeps-joints}
@@ -36,7 +37,7 @@ joints-survive most a l c n e =
     let w : Joints-survive (given-joints a l) (given-tris a l) (b .run .quads) (b .run .triangles) = record {
       joints-found = all-from (given-joints a l) (λ f i k.
           let t = in-flat-map tri-edges f (given-tris a l) k in
-          locked-survives (settings-within most a) (given-locks a l) (given-tris a l) (given-points a l) (b .run) (given-proper a l (b .passed)) (b .ended) f (listed-locked a l f i) (t .0) (t .1) (t .2));
+          locked-survives (settings-within most (length (l .trace)) a) (given-locks a l) (given-tris a l) (given-points a l) (b .run) (given-proper a l (b .passed)) (b .ended) f (listed-locked a l f i) (t .0) (t .1) (t .2));
     } in
     rw (read-quads (b .run) l exit n (b .lengths-are) (b .exit), read-triangles (b .run) l exit n (b .lengths-are) (b .exit)) w
 
@@ -66,6 +67,7 @@ with-joints js l =
       components = l .components;
       work = l .work;
       float-work = l .float-work;
+      trace = l .trace;
     }
 
 -- the same numbers with n joints
@@ -109,20 +111,20 @@ module _ (a : Asked) (l : Lent) (n : ℕ) (js : List ℕ) (h : Same-joints a l n
       ap₂ (λ short bad. (1, over-limit a) ∷ (2, bad-size a) ∷ (3, bad-stop a) ∷ (14, bad-quality a) ∷ (4, short) ∷ (5, unknown-node a l) ∷ (6, repeated-node a l) ∷ (7, far-point a l) ∷ (15, bad-grid a l) ∷ (13, bad) ∷ []) short-same bad-same
 
   -- they lead to the same run,
-  pub same-run : run-front (settings a′) (given-locks a′ l′) (given-tris a′ l′) (given-points a′ l′) ≡ run-front (settings a) (given-locks a l) (given-tris a l) (given-points a l)
+  pub same-run : run-front (settings-within (max-attempts (a .count)) (length (l .trace)) a′) (given-locks a′ l′) (given-tris a′ l′) (given-points a′ l′) ≡ run-front (settings-within (max-attempts (a .count)) (length (l .trace)) a) (given-locks a l) (given-tris a l) (given-points a l)
   unfolding with-number with-joints settings settings-within given-points given-tris
-  same-run = ap (λ k. run-front (settings a) k (given-tris a l) (given-points a l)) locks-same
+  same-run = ap (λ k. run-front (settings-within (max-attempts (a .count)) (length (l .trace)) a) k (given-tris a l) (given-points a l)) locks-same
 
   after-same : (o : Outcome) → after-run l′ o ≡ returned-with js (after-run l o)
   unfolding after-run written with-joints returned-with
   after-same (ran r) = refl
-  after-same (wanting w ps qs) = refl
+  after-same (wanting w ps qs ws) = refl
 
   -- and the calls return the same
   pub same-joints : call a′ l′ ≡ returned-with js (call a l)
-  unfolding call call-within settings returned-with untouched
+  unfolding call call-within settings returned-with untouched with-number with-joints
   same-joints = elim (known (find (λ c. c .1) (conditions a l))) [
-    | inl f ↦ rw (conditions-same, f, call, call-within) (ap (after-run l′) same-run ∙ after-same (run-front (settings a) (given-locks a l) (given-tris a l) (given-points a l)))
+    | inl f ↦ rw (conditions-same, f, call, call-within) (ap (after-run l′) same-run ∙ after-same (run-front (settings-within (max-attempts (a .count)) (length (l .trace)) a) (given-locks a l) (given-tris a l) (given-points a l)))
     | inr f ↦ rw (conditions-same, f .1, call, call-within) refl
   ]
 

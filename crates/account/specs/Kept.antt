@@ -28,12 +28,12 @@ use Rattle.account.specs.Finished.{behind, permitted, sized, given-prope
 
 module _ (geometry : Geometry) where
   -- the lists and counts of a run that ended, whatever its limit on attempts
-  pub result-kept : (a : Asked) (most : ℕ) (lk : Edge → Bool) (ts : List Tri) (ps : List Node) (r : Result) → Limit (a .quality .largest-cosine) → bad-size a ≡ false → Proper ps ts → All-within ps
-      → run-front (settings-within most a) lk ts ps ≡ ran r
+  pub result-kept : (a : Asked) (most room : ℕ) (lk : Edge → Bool) (ts : List Tri) (ps : List Node) (r : Result) → Limit (a .quality .largest-cosine) → bad-size a ≡ false → Proper ps ts → All-within ps
+      → run-front (settings-within most room a) lk ts ps ≡ ran r
       → Account ps ts (a .stop) (a .quality) most (r .counts) (r .points) (r .quads) (r .triangles) (r .sizes)
   unfolding settings-within all-replaced
-  result-kept a most lk ts ps r limit size proper near e =
-      let s = settings-within most a in
+  result-kept a most room lk ts ps r limit size proper near e =
+      let s = settings-within most room a in
       let c = counted s ps lk ts r proper e in
       let k = leftover s lk ts ps r proper e in
       let rated = quads-rated s lk ts ps r proper e in
@@ -67,7 +67,7 @@ module _ (geometry : Geometry) where
       let limit = geometry .limit (a .quality) (permitted a l (b .passed)) double in
       moved (sym (b .counts-are)) (sym (read-points (b .run) l exit n (b .lengths-are) (b .exit))) (sym (read-quads (b .run) l exit n (b .lengths-are) (b .exit)))
       (sym (read-triangles (b .run) l exit n (b .lengths-are) (b .exit))) (sym (read-sizes (b .run) l exit n (b .lengths-are) (b .exit)))
-      (result-kept a most (given-locks a l) (given-tris a l) (given-points a l) (b .run) limit (sized a l (b .passed)) (given-proper a l (b .passed)) (given-within a l (b .passed)) (b .ended))
+      (result-kept a most (length (l .trace)) (given-locks a l) (given-tris a l) (given-points a l) (b .run) limit (sized a l (b .passed)) (given-proper a l (b .passed)) (given-within a l (b .passed)) (b .ended))
     where
       moved : {given : List Node} {tris : List Tri} {stop most : ℕ} {y : Quality} {c d : Counts} {ps qs : List Node} {us vs : List Quad} {ks ls : List Tri} {ns os : List ℕ}
           → c ≡ d → ps ≡ qs → us ≡ vs → ks ≡ ls → ns ≡ os → Account given tris stop y most c ps us ks ns → Account given tris stop y most d qs vs ls os

@@ -30,6 +30,7 @@ pub mod Geometry
 pub mod Locked
 pub mod Births
 pub mod Placed
+pub mod SameRound
 -- a finished call
 pub mod Slices
 pub mod Finished
@@ -64,3 +65,7 @@ pub mod LiveTris
 pub mod Meshes
 pub mod Invariants
 pub mod Reach
+-- a trace and its replay
+pub mod Redo
+pub mod Played
+pub mod Replays

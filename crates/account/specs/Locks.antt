@@ -9,11 +9,12 @@ use lib.ListN.{length}
 use lib.Ieee.{Float}
 use Rattle.definition.specs.Floats.{_⊗_}
 use Rattle.definition.specs.Numbers.{Settings, node-spacing, insert-shares}
-use Rattle.definition.specs.Counts.{of-points, of-slots}
+use Rattle.definition.specs.Counts.{of-points, of-slots, of-trace}
 use Rattle.definition.specs.Plane.{Node, Vec, Edge}
-use Rattle.definition.specs.Cells.{Tri, Quad, Cell, tri, quad, Live, Mesh, cell-of, with-live, set-cell, push-cell, remove-cells}
+use Rattle.definition.specs.Cells.{Tri, Quad, Cell, tri, quad, Live, Mesh, cell-of, with-live, noting, set-cell, push-cell, remove-cells}
 use Rattle.definition.specs.Flips.{set-tris, flip, recover}
 use Rattle.definition.specs.Insertion.{Inserted, nowhere, inserted, full, point-clear, slot-clear, holder, with-point, split-triangle, split, split-clear, insert-near, along, insert-by, insert-along}
+use Rattle.definition.specs.Trace.{in-room}
 use Rattle.definition.specs.Attempt.{recover-all, replaced}
 use Rattle.laws.specs.Bools.{cond-ok}
 use Rattle.account.specs.Flips.{flip-made}
@@ -22,15 +23,15 @@ use Rattle.account.specs.Steps.{recover-ok, recover-all-ok}
 -- ---- one step
 
 pub flip-locked : (m : Mesh) (e : Edge) (m′ : Mesh) → flip m e ≡ some m′ → m′ .locked ≡ m .locked
-unfolding set-tris set-cell with-live
+unfolding set-tris set-cell with-live noting
 flip-locked m e m′ f = ap (λ n. n .locked) (flip-made m e m′ f .after)
 
 pub split-locked : (m : Mesh) (id : ℕ) (t : Tri) (p : Node) → split-triangle m id t p .locked ≡ m .locked
-unfolding split-triangle push-cell set-cell with-live with-point
+unfolding split-triangle push-cell set-cell with-live noting with-point
 split-locked m id t p = refl
 
 pub replaced-locked : (m : Mesh) (q : Quad) (cells : List Live) → replaced m q cells .locked ≡ m .locked
-unfolding replaced push-cell remove-cells with-live
+unfolding replaced push-cell remove-cells with-live noting
 replaced-locked m q cells = refl
 
 -- ---- recovery
@@ -53,10 +54,12 @@ pub inserted-locked : (s : Settings) (m : Mesh) (p : Node) (id : ℕ) (c : Cell)
 unfolding split
 inserted-locked s m p id (quad q) = tt
 inserted-locked s m p id (tri t) =
-    let done = inserted (length (m .points)) (split-triangle m id t p) in
+    let done = split-triangle m id t p in
+    let entered = cond (in-room done) (inserted (length (m .points)) done) (full of-trace) in
     let tight = ltb (s .slots) (m .used + 2) in
-    cond-ok (Locked-as m) (leb (s .capacity) (length (m .points))) (full of-points) (cond tight (full of-slots) done) (λ z. tt)
-    (λ z. cond-ok (Locked-as m) tight (full of-slots) done (λ y. tt) (λ y. split-locked m id t p))
+    cond-ok (Locked-as m) (leb (s .capacity) (length (m .points))) (full of-points) (cond tight (full of-slots) entered) (λ z. tt)
+    (λ z. cond-ok (Locked-as m) tight (full of-slots) entered (λ y. tt)
+    (λ y. cond-ok (Locked-as m) (in-room done) (inserted (length (m .points)) done) (full of-trace) (λ r. split-locked m id t p) (λ r. tt)))
 
 clear-locked : (s : Settings) (m : Mesh) (p : Node) (spacing : Float) (o : Option Live) → Locked-as m (split-clear s m p spacing o)
 unfolding split-clear

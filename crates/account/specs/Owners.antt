@@ -20,7 +20,8 @@ use Rattle.definition.specs.Insertion.{split-triangle}
 use Rattle.definition.specs.Components.{removing-leaves-odd-component}
 use Rattle.definition.specs.Region.{region}
 use Rattle.definition.specs.Trials.{Trial}
-use Rattle.definition.specs.Attempt.{Tried, made, failed, orphaned, no-slot, recover-all, replace, try-region, try-recovered, open-sides, try-pair, Attempt, placed, refused, ended, try-pairs, try-trials, try-quad}
+use Rattle.definition.specs.Trace.{in-room}
+use Rattle.definition.specs.Attempt.{Tried, made, failed, orphaned, lacking, recover-all, replace, try-region, try-recovered, open-sides, try-pair, Attempt, placed, refused, ended, try-pairs, try-trials, try-quad}
 use Rattle.laws.specs.Bools.{cond-ok}
 use Rattle.laws.specs.Lists.{In, filter-in}
 use Rattle.account.specs.Rearranged.{same-path}
@@ -142,14 +143,14 @@ module _ (s : Settings) (e : Edge) where
   Fine (made j q m) = Unit {0}
   Fine (failed j why m) = (why ≢ Placement) × Owned 0 m
   Fine orphaned = ⊥
-  Fine (no-slot j m) = Unit {0}
+  Fine (lacking w j m) = Unit {0}
 
   region-fine : (j : ℕ) (m : Mesh) (q : Quad) (o : Option (List Live)) → Owned 0 m → Fine (try-region s j m q o)
   unfolding try-region replace
   region-fine j m q none h = (other Region tt, h)
   region-fine j m q (some cells) h =
       cond-ok Fine (s .even && removing-leaves-odd-component m cells) _ _ (λ z. (other OddRegion tt, h))
-      (λ z. cond-ok Fine (ltb (s .slots) (m .used + 1)) _ _ (λ y. tt) (λ y. tt))
+      (λ z. cond-ok Fine (ltb (s .slots) (m .used + 1)) _ _ (λ y. tt) (λ y. cond-ok Fine (in-room _) _ _ (λ x. tt) (λ x. tt)))
 
   pair-fine : (m : Mesh) (q : Quad) → Owned 0 m → Fine (try-pair s m q (tri-owner m e))
   unfolding try-pair try-recovered
@@ -157,7 +158,7 @@ module _ (s : Settings) (e : Edge) where
       let o = owner-there m e (h .1) in
       let r = recover-all m (open-sides q) in
       let k = recover-all-ok Owned owned-flips 0 m (open-sides q) h in
-      rw (o .1) (cond-ok Fine (r .there) _ _ (λ z. region-fine (r .flips) (r .mesh) q (region (r .mesh) (o .0 .slot) q) k) (λ z. (other Recovery tt, k)))
+      rw (o .1) (cond-ok Fine (r .there) _ _ (λ z. region-fine (r .flips) (r .mesh) q (region (r .mesh) (o .0 .slot) q) k) (λ z. cond-ok Fine (r .short) _ _ (λ y. tt) (λ y. (other Recovery tt, k))))
 
   -- no pair finds the edge without an owner
   pub never-orphaned : (m : Mesh) (q : Quad) → Owned 0 m → try-pair s m q (tri-owner m e) ≢ orphaned
@@ -169,7 +170,7 @@ module _ (s : Settings) (e : Edge) where
   pairs-case n m last t ts (made j q m′) f h next = rw (f, try-pairs) tt
   pairs-case n m last t ts (failed j why m′) f h next = rw (f, try-pairs) (next j why m′ (h .0) (h .1))
   pairs-case n m last t ts orphaned f h next = absurd h
-  pairs-case n m last t ts (no-slot j m′) f h next = rw (f, try-pairs) tt
+  pairs-case n m last t ts (lacking w j m′) f h next = rw (f, try-pairs) tt
 
   pairs-by : (n : Spent) (m : Mesh) (last : Refusal) (ts : List Trial) → last ≢ Placement → Owned 0 m → By-pair (try-pairs s n m e last ts)
   unfolding try-pairs

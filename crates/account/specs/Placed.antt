@@ -13,7 +13,7 @@ use borrow.Author.Tests.{eqb-true}
 use Rattle.definition.specs.Lists.{filter, numbers}
 use Rattle.definition.specs.Numbers.{Settings}
 use Rattle.definition.specs.Plane.{Node, Edge}
-use Rattle.definition.specs.Cells.{Tri, Quad, Cell, tri, quad, Live, Mesh, new-tri, new-live, is-tri, live-tri, in-slot, all-edges, this-round, with-live, without, among, without-all, set-cell, push-cell, remove-cells}
+use Rattle.definition.specs.Cells.{Tri, Quad, Cell, tri, quad, Live, Event, was-flipped, Mesh, new-tri, new-live, is-tri, live-tri, in-slot, all-edges, this-round, with-live, noting, without, among, without-all, set-cell, push-cell, remove-cells}
 use Rattle.definition.specs.Flips.{set-tris, flip}
 use Rattle.definition.specs.Insertion.{with-point, split-triangle}
 use Rattle.definition.specs.Region.{region}
@@ -95,17 +95,21 @@ quad-cell : (id : ℕ) (q : Quad) → live-quad (new-live id (quad q)) ≡ true
 unfolding live-quad live-tri is-tri new-live
 quad-cell id q = refl
 
-flip-quads : (m m′ : Mesh) (e : Edge) → Valid m → In e (all-edges m) → flip m e ≡ some m′ → quad-cells m′ ≡ quad-cells m
+noted-quads : (m : Mesh) (v : Event) → quad-cells (noting v m) ≡ quad-cells m
+unfolding quad-cells noting
+noted-quads m v = refl
+
+pub flip-quads : (m m′ : Mesh) (e : Edge) → Valid m → In e (all-edges m) → flip m e ≡ some m′ → quad-cells m′ ≡ quad-cells m
 unfolding quad-cells set-tris
 flip-quads m m′ e ok at f =
     let w = flip-made m e m′ f in
     let hx : No-quad (w .x .slot) (m .live) = λ x i g. tri-cell x (w .s) (ap (λ z. z .cell) (one-cell (m .live) x (w .x) (ok .slots) i (own-x m e m′ ok at w .0) g) ∙ w .cell-x) in
     let hy : No-quad (w .y .slot) (m .live) = λ x i g. tri-cell x (w .t) (ap (λ z. z .cell) (one-cell (m .live) x (w .y) (ok .slots) i (own-y m e m′ ok at w .0) g) ∙ w .cell-y) in
     let m1 = set-cell m (w .x .slot) (tri (w .s′)) in
-    ap quad-cells (w .after) ∙ set-quads m1 (w .y .slot) (w .t′) (set-no-quad m (w .x .slot) (w .y .slot) (w .s′) hy) ∙ set-quads m (w .x .slot) (w .s′) hx
+    ap quad-cells (w .after) ∙ noted-quads (set-tris m (w .x .slot) (w .s′) (w .y .slot) (w .t′)) (was-flipped e) ∙ set-quads m1 (w .y .slot) (w .t′) (set-no-quad m (w .x .slot) (w .y .slot) (w .s′) hy) ∙ set-quads m (w .x .slot) (w .s′) hx
 
-split-quads : (m : Mesh) (x : Live) (t : Tri) (p : Node) → Valid m → In x (m .live) → x .cell ≡ tri t → quad-cells (split-triangle m (x .slot) t p) ≡ quad-cells m
-unfolding quad-cells split-triangle push-cell with-live
+pub split-quads : (m : Mesh) (x : Live) (t : Tri) (p : Node) → Valid m → In x (m .live) → x .cell ≡ tri t → quad-cells (split-triangle m (x .slot) t p) ≡ quad-cells m
+unfolding quad-cells split-triangle push-cell with-live noting
 split-quads m x t p ok at cell =
     let v = length (m .points) in
     let m1 = set-cell (with-point m p) (x .slot) (tri (new-tri (t .n0) (t .n1) v)) in
@@ -119,7 +123,7 @@ none-more x = refl
 
 quad-placed : (m : Mesh) (seed : ℕ) (q : Quad) (cells : List Live) → Valid m → Tri-at m seed → region m seed q ≡ some cells
     → length (quad-cells (replaced m q cells)) ≡ suc (length (quad-cells m))
-unfolding quad-cells replaced push-cell remove-cells with-live without-all
+unfolding quad-cells replaced push-cell remove-cells with-live noting without-all
 quad-placed m seed q cells ok sd h =
     let kept = filter (λ x. not (among cells x)) (m .live) in
     let new = new-live (m .used) (quad q) in

@@ -18,7 +18,7 @@ use Rattle.definition.specs.Cells.{Cell, tri, quad, Live, Mesh, key, node-at, t
 use Rattle.definition.specs.Floats.{_≼_}
 use Rattle.definition.specs.Trials.{Trial, trials}
 use Rattle.definition.specs.Insertion.{Inserted, nowhere, inserted, full}
-use Rattle.definition.specs.Attempt.{Tried, made, failed, orphaned, no-slot, try-pair, Attempt, placed, refused, ended, try-pairs, try-trials, Stance, Sides, found, missing, overfull, sides-by, sides-from, side-nodes, try-both, try-first, stance, try-along, lies-left, try-seed, try-owner, try-quad}
+use Rattle.definition.specs.Attempt.{Tried, made, failed, orphaned, lacking, try-pair, Attempt, placed, refused, ended, try-pairs, try-trials, Stance, Sides, found, missing, overfull, sides-by, sides-from, side-nodes, try-both, try-first, stance, try-along, lies-left, try-seed, try-owner, try-quad}
 use Rattle.definition.specs.Front.{State, counting, after, make-attempt, past-limit, attempt, new-mesh, start}
 use Rattle.definition.specs.Call.{Asked, Lent, given-points, given-tris, given-locks, conditions, settings-within, settings}
 use Rattle.definition.specs.Preview.{Shown, shown, show-edge, cleared, Previewed, preview}
@@ -90,7 +90,7 @@ module _ (s : Settings) where
   pairs-case k n m e last t ts (made j q m′) f h next = rw (f, try-pairs) h
   pairs-case k n m e last t ts (failed j why m′) f h next = rw (f, try-pairs) (next j m′ why)
   pairs-case k n m e last t ts orphaned f h next = rw (f, try-pairs) h
-  pairs-case k n m e last t ts (no-slot j m′) f h next = rw (f, try-pairs) h
+  pairs-case k n m e last t ts (lacking w j m′) f h next = rw (f, try-pairs) h
 
   pairs-insert : (k : ℕ) (n : Spent) (m : Mesh) (e : Edge) (last : Refusal) (ts : List Trial) → n .insertions ≤ k → Inserts k (try-pairs s n m e last ts)
   unfolding try-pairs trying

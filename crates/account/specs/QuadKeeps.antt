@@ -6,7 +6,7 @@ use Prim.Native.Nat.{suc, _<_}
 use native.Mathlib.Omega.{arith}
 use lib.ListN.{length}
 use Rattle.definition.specs.Lists.{flat-map}
-use Rattle.definition.specs.Cells.{Tri, Quad, quad, Live, Mesh, new-live, tri-of, tris-of, with-live, without-all, remove-cells, push-cell}
+use Rattle.definition.specs.Cells.{Tri, Quad, quad, Live, Mesh, new-live, tri-of, tris-of, with-live, noting, without-all, remove-cells, push-cell}
 use Rattle.definition.specs.Attempt.{replaced}
 use Rattle.laws.specs.Lists.{In, in-either, in-filter}
 use Rattle.account.specs.Valid.{slots-filter, slots-last, Good-tri, Good-quad, Valid, tris-in, in-tris, tris-append}
@@ -18,17 +18,17 @@ module _ (m : Mesh) (q : Quad) (cells : List Live) where
 
   -- the quad comes last
   pub replaced-live : replaced m q cells .live ≡ remaining ++ (new-live (m .used) (quad q) ∷ [])
-  unfolding replaced push-cell remove-cells with-live
+  unfolding replaced push-cell remove-cells with-live noting
   replaced-live = refl
 
   -- it takes a slot
   pub replaced-used : replaced m q cells .used ≡ suc (m .used)
-  unfolding replaced push-cell remove-cells with-live
+  unfolding replaced push-cell remove-cells with-live noting
   replaced-used = refl
 
   -- the points stay
   pub replaced-points : replaced m q cells .points ≡ m .points
-  unfolding replaced push-cell remove-cells with-live
+  unfolding replaced push-cell remove-cells with-live noting
   replaced-points = refl
 
   pub in-remaining : (x : Live) → In x remaining → In x (m .live)
@@ -46,7 +46,7 @@ module _ (m : Mesh) (q : Quad) (cells : List Live) where
 
   -- the mesh stays valid
   pub quad-valid : Valid m → Good-quad (length (m .points)) q → Valid (replaced m q cells)
-  unfolding replaced push-cell remove-cells with-live new-live without-all
+  unfolding replaced push-cell remove-cells with-live noting new-live without-all
   quad-valid ok good =
       let new = new-live (m .used) (quad q) in
       let below : (z : Live) → In z remaining → z .slot < m .used = λ z i. ok .given z (in-remaining z i) in

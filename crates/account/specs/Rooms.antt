@@ -7,7 +7,7 @@ use native.Mathlib.Omega.{arith}
 use lib.ListN.{length}
 use Rattle.definition.specs.Numbers.{Settings}
 use Rattle.definition.specs.Plane.{Edge, Node}
-use Rattle.definition.specs.Cells.{Tri, Mesh, with-live, set-cell, push-cell}
+use Rattle.definition.specs.Cells.{Tri, Mesh, with-live, noting, set-cell, push-cell}
 use Rattle.definition.specs.Insertion.{with-point, split-triangle}
 use Rattle.definition.specs.Front.{counting, new-mesh, start}
 use Rattle.account.specs.Flips.{flip-points, flip-used}
@@ -22,7 +22,7 @@ pub record Fits (s : Settings) (m : Mesh) : Type 0 where
 
 -- a split takes two slots
 pub split-used : (m : Mesh) (id : ℕ) (t : Tri) (p : Node) → split-triangle m id t p .used ≡ m .used + 2
-unfolding split-triangle push-cell set-cell with-live with-point
+unfolding split-triangle push-cell set-cell with-live noting with-point
 split-used m id t p = omega arith
 
 -- every state fits

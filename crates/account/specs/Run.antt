@@ -186,18 +186,18 @@ module _ (s : Settings) (Q : State → List Edge → Type 0) (P : State → List
       let n = s .attempts + 2 in
       outcome-ok r (front-loop n s (length ts) (start s lk ts ps)) (front-loop-ok n (length ts) (start s lk ts ps) h) e
 
-  stopped-ok : (w : Want) (ps : List Node) (qs : List Quad) (p : Progress) → Progress-ok Q R [] p → outcome p ≡ wanting w ps qs
+  stopped-ok : (w : Want) (ps : List Node) (qs : List Quad) (ws : List ℕ) (p : Progress) → Progress-ok Q R [] p → outcome p ≡ wanting w ps qs ws
       → (st : State) × Valid (st .mesh) × R st × (ps ≡ st .mesh .points) × (qs ≡ st .quads)
   unfolding outcome
-  stopped-ok w ps qs (stuck st) ok e = absurd (let z : _≡_ {A = ℕ} 0 1 = cc in omega arith)
-  stopped-ok w ps qs (progressed st) ok e = absurd (let z : _≡_ {A = ℕ} 0 1 = cc in omega arith)
-  stopped-ok w ps qs (limited st) ok e = absurd (let z : _≡_ {A = ℕ} 0 1 = cc in omega arith)
-  stopped-ok w ps qs (stopped v st) ok e = (st, ok .0, ok .1, cc, cc)
+  stopped-ok w ps qs ws (stuck st) ok e = absurd (let z : _≡_ {A = ℕ} 0 1 = cc in omega arith)
+  stopped-ok w ps qs ws (progressed st) ok e = absurd (let z : _≡_ {A = ℕ} 0 1 = cc in omega arith)
+  stopped-ok w ps qs ws (limited st) ok e = absurd (let z : _≡_ {A = ℕ} 0 1 = cc in omega arith)
+  stopped-ok w ps qs ws (stopped v st) ok e = (st, ok .0, ok .1, cc, cc)
 
   -- a run that ended for want of lent memory ended in a state with R
-  pub run-stopped : (lk : Edge → Bool) (ts : List Tri) (ps : List Node) (w : Want) (qs : List Node) (us : List Quad) → Sound Q (start s lk ts ps) [] → run-front s lk ts ps ≡ wanting w qs us
+  pub run-stopped : (lk : Edge → Bool) (ts : List Tri) (ps : List Node) (w : Want) (qs : List Node) (us : List Quad) (ws : List ℕ) → Sound Q (start s lk ts ps) [] → run-front s lk ts ps ≡ wanting w qs us ws
       → (st : State) × Valid (st .mesh) × R st × (qs ≡ st .mesh .points) × (us ≡ st .quads)
   unfolding run-front
-  run-stopped lk ts ps w qs us h e =
+  run-stopped lk ts ps w qs us ws h e =
       let n = s .attempts + 2 in
-      stopped-ok w qs us (front-loop n s (length ts) (start s lk ts ps)) (front-loop-ok n (length ts) (start s lk ts ps) h) e
+      stopped-ok w qs us ws (front-loop n s (length ts) (start s lk ts ps)) (front-loop-ok n (length ts) (start s lk ts ps) h) e

@@ -82,7 +82,7 @@ numbers-back ns old = take-append-seam ns (drop (length ns) old)
 
 -- ---- the lists that a finished run wrote
 
-module _ (r : Result) (l exit : Lent) (n : Lengths) (sizes : n ≡ lengths r) (wrote : exit ≡ written (r .points) (r .quads) (r .triangles) (r .sizes) l) where
+module _ (r : Result) (l exit : Lent) (n : Lengths) (sizes : n ≡ lengths r) (wrote : exit ≡ written (r .points) (r .quads) (r .triangles) (r .sizes) (r .trace) l) where
   -- each list is the run's
   pub read-points : first-points (n .points) (exit .points) ≡ r .points
   unfolding lengths written

@@ -12,7 +12,7 @@ use lib.Ieee.{Float}
 use borrow.Author.Tests.{ltb-false, le-ltb}
 use Rattle.definition.specs.Floats.{_⊗_, _≼_}
 use Rattle.definition.specs.Numbers.{Settings, Turn, first-turn, second-turn, insert-shares, node-spacing, tiny-length, max-triangles}
-use Rattle.definition.specs.Counts.{one-attempt, Refusal, Placement, Recovery, OddRegion, Spent, nothing-spent, trying}
+use Rattle.definition.specs.Counts.{one-attempt, Refusal, Placement, Recovery, OddRegion, Spent, nothing-spent, trying, of-trace}
 use Rattle.definition.specs.Plane.{Node, Vec, Edge, norm, from-to}
 use Rattle.definition.specs.Cells.{Tri, Quad, Cell, tri, quad, Live, Mesh, node-at, cell-of, tri-owner, is-front, live-tris, front}
 use Rattle.definition.specs.Flips.{Recovered}
@@ -22,7 +22,7 @@ use Rattle.definition.specs.Components.{removing-leaves-odd-component}
 use Rattle.definition.specs.Region.{region}
 use Rattle.definition.specs.Loops.{front-loops}
 use Rattle.definition.specs.Trials.{Trial, trials}
-use Rattle.definition.specs.Attempt.{Tried, made, failed, orphaned, no-slot, recover-all, replace, try-region, try-recovered, open-sides, try-pair, Attempt, placed, refused, ended, try-pairs, try-trials, Stance, Sides, found, missing, overfull, sides-by, sides-from, side-nodes, try-both, try-first, target-of, stance, try-along, lies-left, try-seed, try-owner, try-quad}
+use Rattle.definition.specs.Attempt.{Tried, made, failed, orphaned, lacking, recover-all, replace, try-region, try-recovered, open-sides, try-pair, Attempt, placed, refused, ended, try-pairs, try-trials, Stance, Sides, found, missing, overfull, sides-by, sides-from, side-nodes, try-both, try-first, target-of, stance, try-along, lies-left, try-seed, try-owner, try-quad}
 use Rattle.definition.specs.Front.{State, Progress, stuck, progressed, limited, stopped, counting, after, make-attempt, past-limit, attempt, try-edges, open-edges, try-loops, round, front-loop, Result, Outcome, ran, wanting, new-mesh, start, result, outcome, run-front}
 use Rattle.laws.specs.Bools.{which, or-none, cond-ok}
 use Rattle.account.specs.Rounds.{rounds-end}
@@ -33,7 +33,7 @@ use Rattle.account.specs.Walks
 
 -- the settings with another limit on attempts
 unfoldable pub limited-to : ℕ → Settings → Settings
-limited-to k s = record { quality = s .quality; attempts = k; capacity = s .capacity; slots = s .slots; size = s .size; even = s .even }
+limited-to k s = record { quality = s .quality; attempts = k; capacity = s .capacity; slots = s .slots; room = s .room; size = s .size; even = s .even }
 
 module _ (k : ℕ) (s : Settings) where
   abbrev s′ : Settings
@@ -87,7 +87,7 @@ module _ (k : ℕ) (s : Settings) where
 
   recovered-same : (seed : ℕ) (q : Quad) (r : Recovered) → try-recovered s′ seed q r ≡ try-recovered s seed q r
   unfolding try-recovered
-  recovered-same seed q r = ap (λ z. cond (r .there) z (failed (r .flips) Recovery (r .mesh))) (region-same (r .flips) (r .mesh) q (region (r .mesh) seed q))
+  recovered-same seed q r = ap (λ z. cond (r .there) z (cond (r .short) (lacking of-trace (r .flips) (r .mesh)) (failed (r .flips) Recovery (r .mesh)))) (region-same (r .flips) (r .mesh) q (region (r .mesh) seed q))
 
   pair-same : (m : Mesh) (q : Quad) (o : Option Live) → try-pair s′ m q o ≡ try-pair s m q o
   unfolding try-pair
@@ -100,7 +100,7 @@ module _ (k : ℕ) (s : Settings) where
   pairs-case n m e last t ts (made j q m′) f next = rw (pair-same m (t .nodes) (tri-owner m e), f, try-pairs) refl
   pairs-case n m e last t ts (failed j why m′) f next = rw (pair-same m (t .nodes) (tri-owner m e), f, try-pairs) (next j m′ why)
   pairs-case n m e last t ts orphaned f next = rw (pair-same m (t .nodes) (tri-owner m e), f, try-pairs) refl
-  pairs-case n m e last t ts (no-slot j m′) f next = rw (pair-same m (t .nodes) (tri-owner m e), f, try-pairs) refl
+  pairs-case n m e last t ts (lacking w j m′) f next = rw (pair-same m (t .nodes) (tri-owner m e), f, try-pairs) refl
 
   pairs-same : (n : Spent) (m : Mesh) (e : Edge) (last : Refusal) (ts : List Trial) → try-pairs s′ n m e last ts ≡ try-pairs s n m e last ts
   unfolding try-pairs
@@ -297,7 +297,7 @@ quads-of (stopped w st) = st .quads
 -- the quads of a run, finished or not
 unfoldable pub outcome-quads : Outcome → List Quad
 outcome-quads (ran r) = r .quads
-outcome-quads (wanting w ps qs) = qs
+outcome-quads (wanting w ps qs ws) = qs
 
 outcome-is : (p : Progress) → outcome-quads (outcome p) ≡ quads-of p
 unfolding outcome-quads outcome quads-of result

@@ -7,7 +7,7 @@ use native.Mathlib.Omega.{arith}
 use lib.ListN.{length, length-append}
 use Rattle.definition.specs.Lists.{flat-map}
 use Rattle.definition.specs.Plane.{Node}
-use Rattle.definition.specs.Cells.{Tri, tri, Live, Mesh, new-tri, new-live, tri-of, tris-of, with-live, without, set-cell, push-cell}
+use Rattle.definition.specs.Cells.{Tri, tri, Live, Mesh, new-tri, new-live, tri-of, tris-of, with-live, noting, without, set-cell, push-cell}
 use Rattle.definition.specs.Insertion.{with-point, split-triangle}
 use Rattle.definition.specs.Account.{Rearranged}
 use Rattle.laws.specs.Lists.{In, in-either}
@@ -47,7 +47,7 @@ module _ (m : Mesh) (x : Live) (t : Tri) (p : Node) (ok : Valid m) (at : In x (m
 
   -- the cells after
   pub split-live : (split-triangle m (x .slot) t p) .live ≡ ((left ++ (l1 ∷ [])) ++ (l2 ∷ [])) ++ (l3 ∷ [])
-  unfolding left l1 l2 l3 t1 t2 t3 new-node split-triangle push-cell set-cell with-live with-point
+  unfolding left l1 l2 l3 t1 t2 t3 new-node split-triangle push-cell set-cell with-live noting with-point
   split-live = refl
 
   -- the triangles after
@@ -91,7 +91,7 @@ module _ (m : Mesh) (x : Live) (t : Tri) (p : Node) (ok : Valid m) (at : In x (m
       }
 
   split-valid : Valid (split-triangle m (x .slot) t p)
-  unfolding left l1 l2 l3 t1 t2 t3 new-node new-live without split-triangle push-cell set-cell with-live with-point
+  unfolding left l1 l2 l3 t1 t2 t3 new-node new-live without split-triangle push-cell set-cell with-live noting with-point
   split-valid =
       let old : (z : Live) → In z left → In z (m .live) × (z .slot ≢ x .slot) = λ z i. in-without (x .slot) z (m .live) i in
       let lx = ok .given x at in

@@ -16,14 +16,15 @@ use Rattle.definition.specs.Floats.{_⊗_, _≼_}
 use Rattle.definition.specs.Numbers.{Quality, Settings, Turn, first-turn, second-turn, insert-shares, node-spacing, tiny-length}
 use Rattle.definition.specs.Counts.{Refusal, Recovery, Spent, nothing-spent, inserting, trying}
 use Rattle.definition.specs.Plane.{Node, Vec, Edge, norm, from-to, edge-length, size-mismatch}
-use Rattle.definition.specs.Cells.{Tri, Quad, Cell, tri, quad, Live, Mesh, quad-nodes, quad-edges, born, node-at, cell-of, tri-owner, this-round, has-edge, all-edges, with-live, set-cell, push-cell}
+use Rattle.definition.specs.Cells.{Tri, Quad, Cell, tri, quad, Live, Mesh, quad-nodes, quad-edges, born, node-at, cell-of, tri-owner, this-round, has-edge, all-edges, with-live, noting, set-cell, push-cell}
+use Rattle.definition.specs.Trace.{in-room}
 use Rattle.definition.specs.Flips.{flip, flip-first, first-crossing, recover-in, recover}
 use Rattle.definition.specs.Candidates.{candidates}
 use Rattle.definition.specs.Insertion.{Inserted, nowhere, inserted, full, holds, holder, point-clear, slot-clear, with-point, split-triangle, split, split-clear, insert-near, along, insert-by, insert-along}
 use Rattle.definition.specs.Components.{removing-leaves-odd-component}
 use Rattle.definition.specs.Region.{cell-inside, area-agrees, fills, may-go, spares-locked, if-filled, region-from, region}
 use Rattle.definition.specs.Trials.{Trial, trials}
-use Rattle.definition.specs.Attempt.{Tried, made, failed, orphaned, no-slot, flipping, recover-all, replaced, replace, try-region, try-recovered, open-sides, try-pair, Attempt, placed, refused, ended, try-pairs, try-trials, Stance, Sides, found, missing, overfull, sides-by, sides-from, side-nodes, try-both, try-first, target-of, inward-normal, stance, try-along, lies-left, try-seed, try-owner, try-quad}
+use Rattle.definition.specs.Attempt.{Tried, made, failed, orphaned, lacking, flipping, recover-all, replaced, replace, try-region, try-recovered, open-sides, try-pair, Attempt, placed, refused, ended, try-pairs, try-trials, Stance, Sides, found, missing, overfull, sides-by, sides-from, side-nodes, try-both, try-first, target-of, inward-normal, stance, try-along, lies-left, try-seed, try-owner, try-quad}
 use Rattle.definition.specs.Account.{measures}
 use Rattle.laws.specs.Bools.{which, or-none, cond-ok}
 use Rattle.laws.specs.Lists.{In, in-filter, known, in-below}
@@ -89,7 +90,7 @@ abbrev pub Tried-ok : Settings → (ℕ → Mesh → Type 0) → ℕ → List No
 Tried-ok s P n ps (made j q m) = Made s P n m q
 Tried-ok s P n ps (failed j why m) = P n m × (m .points ≡ ps)
 Tried-ok s P n ps orphaned = Unit {0}
-Tried-ok s P n ps (no-slot j m) = P n m
+Tried-ok s P n ps (lacking w j m) = P n m
 
 -- what an attempt leaves
 abbrev pub Attempt-ok : Settings → (ℕ → Mesh → Type 0) → Attempt → Type 0
@@ -120,7 +121,10 @@ module _ (P : ℕ → Mesh → Type 0) (flips : Flips-keep P) where
     | inl e ↦ rw (e, recover-in) p
     | inr e ↦ elim (known (flip-first m (first-crossing m u v))) [
       | inl f ↦ rw (e, recover-in, f) p
-      | inr g ↦ rw (e, recover-in, g .1) (recover-in-ok n (suc i) k (g .0) u v (flip-first-ok k m (g .0) (first-crossing m u v) p (crossing-in m u v) (g .1)))
+      | inr g ↦ elim (which (in-room (g .0))) [
+        | inl r ↦ rw (e, recover-in, g .1, r) (recover-in-ok n (suc i) k (g .0) u v (flip-first-ok k m (g .0) (first-crossing m u v) p (crossing-in m u v) (g .1)))
+        | inr r ↦ rw (e, recover-in, g .1, r) p
+      ]
     ]
   ]
 
@@ -142,7 +146,7 @@ module _ (P : ℕ → Mesh → Type 0) (flips : Flips-keep P) where
 
 -- a split adds a point
 pub split-grows : (m : Mesh) (id : ℕ) (t : Tri) (p : Node) → split-triangle m id t p .points ≡ m .points ++ (p ∷ [])
-unfolding split-triangle push-cell set-cell with-live with-point
+unfolding split-triangle push-cell set-cell with-live noting with-point
 split-grows m id t p = refl
 
 -- exactly one
@@ -156,11 +160,11 @@ module _ (s : Settings) (start : Mesh) (P : ℕ → Mesh → Type 0) (splits : S
   split-ok k m p x (quad q) h on i e f = tt
   split-ok k m p x (tri t) h on i e f =
       cond-ok (Inserted-ok P k) (leb (s .capacity) (length (m .points))) _ _ (λ z. tt) (λ z. cond-ok (Inserted-ok P k) (ltb (s .slots) (m .used + 2)) _ _ (λ y. tt)
-      (λ y. (
+      (λ y. cond-ok (Inserted-ok P k) (in-room (split-triangle m (x .slot) t p)) _ _ (λ r. (
         splits k m x t p h
             (record { at = i; cell = e; held = f; point-left = leb-false (s .capacity) (length (m .points)) z; slots-left = ltb-false (s .slots) (m .used + 2) y; normal = on }),
         omega (arith, split-count m (x .slot) t p),
-      )))
+      )) (λ r. tt)))
 
   split-clear-ok : (k : ℕ) (m : Mesh) (p : Node) (spacing : Float) (o : Option Live) → P k m → On-normal s start m p
       → ((x : Live) → o ≡ some x → In x (m .live) × (holds m p (x .cell) ≡ true)) → Inserted-ok P k (split-clear s m p spacing o)
@@ -246,7 +250,7 @@ module _ (s : Settings) (P : ℕ → Mesh → Type 0) (flips : Flips-keep P) whe
   unfolding replace born
   replace-ok k j m q seed cells h sd r e f =
       cond-ok (Tried-ok s P k (m .points)) (ltb (s .slots) (m .used + 1)) _ _ (λ z. h)
-      (λ z. record {
+      (λ z. cond-ok (Tried-ok s P k (m .points)) (in-room (replaced m (born (this-round m) (length cells) q) cells)) _ _ (λ y. record {
         mesh = m;
         before = h;
         seed = seed;
@@ -259,7 +263,7 @@ module _ (s : Settings) (P : ℕ → Mesh → Type 0) (flips : Flips-keep P) whe
         in-round = refl;
         in-place-of = refl;
         after = refl;
-      })
+      }) (λ y. h))
 
   try-region-ok : (k j : ℕ) (m : Mesh) (q : Quad) (seed : ℕ) (o : Option (List Live)) → P k m → Tri-at m seed → Rated (s .quality) (m .points) q
       → region m seed q ≡ o → Tried-ok s P k (m .points) (try-region s j m q o)
@@ -281,7 +285,7 @@ module _ (s : Settings) (P : ℕ → Mesh → Type 0) (flips : Flips-keep P) whe
       let r′ = subst (λ ps. Rated (s .quality) ps q) (sym (kept .2)) r in
       cond-ok (Tried-ok s P k (m .points)) (w .there) _ _
       (λ z. subst (λ ps. Tried-ok s P k ps (try-region s (w .flips) (w .mesh) q (region (w .mesh) (x .slot) q))) (kept .2) (try-region-ok k (w .flips) (w .mesh) q (x .slot) (region (w .mesh) (x .slot) q) (kept .0) (kept .1) r′ refl))
-      (λ z. (kept .0, kept .2))
+      (λ z. cond-ok (Tried-ok s P k (m .points)) (w .short) _ _ (λ y. kept .0) (λ y. (kept .0, kept .2)))
 
   try-pairs-case : (k : Spent) (m : Mesh) (e : Edge) (last : Refusal) (t : Trial) (ts : List Trial) (r : Tried) → P (k .insertions) m
       → try-pair s m (t .nodes) (tri-owner m e) ≡ r → Tried-ok s P (k .insertions) (m .points) r
@@ -290,7 +294,7 @@ module _ (s : Settings) (P : ℕ → Mesh → Type 0) (flips : Flips-keep P) whe
   try-pairs-case k m e last t ts (made j q m′) h f ok next = rw (f, try-pairs) ok
   try-pairs-case k m e last t ts (failed j why m′) h f ok next = rw (f, try-pairs) (next j why m′ (ok .0) (ok .1))
   try-pairs-case k m e last t ts orphaned h f ok next = rw (f, try-pairs) h
-  try-pairs-case k m e last t ts (no-slot j m′) h f ok next = rw (f, try-pairs) ok
+  try-pairs-case k m e last t ts (lacking w j m′) h f ok next = rw (f, try-pairs) ok
 
   owner-at : (m : Mesh) (e : Edge) (x : Live) → tri-owner m e ≡ some x → Tri-at m (x .slot)
   owner-at m e x f = let w = owner-in m e x f in record { x = x; at = w .at; slot-is = refl; is-one = w .is-one }

@@ -13,7 +13,7 @@ use lib.ListN.{length, length-append}
 use Rattle.definition.specs.Lists.{filter, flat-map}
 use Rattle.definition.specs.Numbers.{Settings}
 use Rattle.definition.specs.Plane.{Node, Edge}
-use Rattle.definition.specs.Cells.{Tri, Quad, Cell, tri, quad, Live, Mesh, live-tri, is-tri, has-side, owns, owners, all-edges, tri-of, tris-of, is-front, front-owners, with-live, set-cell, among, without-all}
+use Rattle.definition.specs.Cells.{Tri, Quad, Cell, tri, quad, Live, Mesh, live-tri, is-tri, has-side, owns, owners, all-edges, tri-of, tris-of, is-front, front-owners, with-live, noting, set-cell, among, without-all}
 use Rattle.definition.specs.Flips.{third, set-tris, flip}
 use Rattle.definition.specs.Insertion.{split-triangle}
 use Rattle.definition.specs.Region.{region}
@@ -76,7 +76,7 @@ module _ (m : Mesh) (e : Edge) (m′ : Mesh) (ok : Valid m) (at : In e (all-edge
   ]
 
   flip-ever : (f : Edge) → Ever dead m f → Ever dead m′ f
-  unfolding set-tris set-cell with-live
+  unfolding set-tris set-cell with-live noting
   flip-ever f h =
       let ts = third-s m e m′ ok at w in
       let tt′ = third-t m e m′ ok at w in
@@ -101,7 +101,7 @@ module _ (m : Mesh) (e : Edge) (m′ : Mesh) (ok : Valid m) (at : In e (all-edge
       }
 
   flip-room : Room dead m → Room dead m′
-  unfolding set-tris set-cell with-live
+  unfolding set-tris set-cell with-live noting
   flip-room h =
       let r = rest m e m′ ok at w in
       let a = same-length (tris-of (m .live)) (r ++ (w .s ∷ w .t ∷ [])) (old-like m e m′ ok at w) in

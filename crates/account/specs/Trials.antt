@@ -18,7 +18,8 @@ use Rattle.definition.specs.Cells.{Tri, Quad, Live, Mesh, quad-nodes, born, tri
 use Rattle.definition.specs.Components.{removing-leaves-odd-component}
 use Rattle.definition.specs.Region.{region}
 use Rattle.definition.specs.Trials.{Trial, trial-before}
-use Rattle.definition.specs.Attempt.{Tried, made, failed, orphaned, no-slot, recover-all, replace, try-region, try-recovered, open-sides, try-pair, Attempt, placed, refused, ended, try-pairs, try-trials, try-quad}
+use Rattle.definition.specs.Trace.{in-room}
+use Rattle.definition.specs.Attempt.{Tried, made, failed, orphaned, lacking, recover-all, replace, try-region, try-recovered, open-sides, try-pair, Attempt, placed, refused, ended, try-pairs, try-trials, try-quad}
 use Rattle.definition.specs.Front.{State, Progress, stuck, progressed, limited, stopped, counting, after, make-attempt, past-limit, attempt, front-loop, Result, ran, start, result, outcome, run-front}
 use Rattle.laws.specs.Bools.{cond-ok}
 use Rattle.account.specs.Rearranged.{same-length, sort-same}
@@ -58,11 +59,11 @@ module _ (s : Settings) (e : Edge) where
   Fine q (made j p m) = quad-nodes p ≡ quad-nodes q
   Fine q (failed j why m) = Owned s e 0 m
   Fine q orphaned = ⊥
-  Fine q (no-slot j m) = Unit {0}
+  Fine q (lacking w j m) = Unit {0}
 
   replace-fine : (j : ℕ) (m : Mesh) (q : Quad) (cells : List Live) → Fine q (replace s j m q cells)
   unfolding replace born quad-nodes
-  replace-fine j m q cells = cond-ok (Fine q) (ltb (s .slots) (m .used + 1)) _ _ (λ z. tt) (λ z. refl)
+  replace-fine j m q cells = cond-ok (Fine q) (ltb (s .slots) (m .used + 1)) _ _ (λ z. tt) (λ z. cond-ok (Fine q) (in-room _) _ _ (λ y. refl) (λ y. tt))
 
   region-fine : (j : ℕ) (m : Mesh) (q : Quad) (o : Option (List Live)) → Owned s e 0 m → Fine q (try-region s j m q o)
   unfolding try-region
@@ -75,7 +76,7 @@ module _ (s : Settings) (e : Edge) where
       let o = owner-there m e (h .1) in
       let r = recover-all m (open-sides q) in
       let k = recover-all-ok (Owned s e) (owned-flips s e) 0 m (open-sides q) h in
-      rw (o .1) (cond-ok (Fine q) (r .there) _ _ (λ z. region-fine (r .flips) (r .mesh) q (region (r .mesh) (o .0 .slot) q) k) (λ z. k))
+      rw (o .1) (cond-ok (Fine q) (r .there) _ _ (λ z. region-fine (r .flips) (r .mesh) q (region (r .mesh) (o .0 .slot) q) k) (λ z. cond-ok (Fine q) (r .short) _ _ (λ y. tt) (λ y. k)))
 
   later : (n : ℕ) (t : Trial) (ts : List Trial) (a : Attempt) → Exactly (suc n) ts a → Exactly n (t ∷ ts) a
   later n t ts (placed k m q) h = (t ∷ h .0, h .1, h .2, ap (λ l. t ∷ l) (h .3), omega (arith, h .4), h .5)
@@ -88,7 +89,7 @@ module _ (s : Settings) (e : Edge) where
   pairs-case k m last t ts (made j p m′) f h next = rw (f, try-pairs) ([], t, ts, refl, omega arith, h)
   pairs-case k m last t ts (failed j why m′) f h next = rw (f, try-pairs) (later (k .trials) t ts (try-pairs s (trying j k) m′ e why ts) (next j why m′ h))
   pairs-case k m last t ts orphaned f h next = absurd h
-  pairs-case k m last t ts (no-slot j m′) f h next = rw (f, try-pairs) (omega arith)
+  pairs-case k m last t ts (lacking w j m′) f h next = rw (f, try-pairs) (omega arith)
 
   pairs-exact : (k : Spent) (m : Mesh) (last : Refusal) (ts : List Trial) → Owned s e 0 m → Exactly (k .trials) ts (try-pairs s k m e last ts)
   unfolding try-pairs trying
@@ -146,7 +147,7 @@ module _ (s : Settings) (e : Edge) where
   up-case k m last t ts (made j p m′) f next = rw (f, try-pairs) (omega arith)
   up-case k m last t ts (failed j why m′) f next = rw (f, try-pairs) (up-later (k .trials) t ts (try-pairs s (trying j k) m′ e why ts) (next j why m′))
   up-case k m last t ts orphaned f next = rw (f, try-pairs) (omega arith)
-  up-case k m last t ts (no-slot j m′) f next = rw (f, try-pairs) (omega arith)
+  up-case k m last t ts (lacking w j m′) f next = rw (f, try-pairs) (omega arith)
 
   pairs-up : (k : Spent) (m : Mesh) (last : Refusal) (ts : List Trial) → Up-to (k .trials) ts (try-pairs s k m e last ts)
   unfolding try-pairs trying

@@ -14,9 +14,9 @@ use lib.ListN.{length, drop, length-append}
 use lib.Seq.{drop-drop}
 use Rattle.definition.specs.Lists.{flat-map}
 use Rattle.definition.specs.Numbers.{max-attempts, max-triangles}
-use Rattle.definition.specs.Counts.{Counts, tally, _⊞_, one-attempt, Spent, nothing-spent, spending, at-limit, Refusal, Placement, refused-by, Want, of-points, of-slots}
+use Rattle.definition.specs.Counts.{Counts, tally, _⊞_, one-attempt, Spent, nothing-spent, spending, at-limit, Refusal, Placement, refused-by, Want, of-points, of-slots, of-trace}
 use Rattle.definition.specs.Plane.{Node, Edge}
-use Rattle.definition.specs.Cells.{Mesh, Quad, new-quad, born, quad-nodes, key, is-front, live-tris, same-edge, has-edge-in}
+use Rattle.definition.specs.Cells.{Mesh, Quad, new-quad, born, quad-nodes, key, is-front, live-tris, same-edge, has-edge-in, this-round}
 use Rattle.definition.specs.Attempt.{Attempt, placed, refused, ended, try-quad}
 use Rattle.definition.specs.Front.{State, counting, freed, after, make-attempt, past-limit, attempt}
 use Rattle.definition.specs.Call.{quad-words}
@@ -27,11 +27,12 @@ use Rattle.laws.specs.Cells.{same-self}
 use Rattle.laws.specs.Frames.{Under}
 use Rattle.account.specs.Counting.{added-refused}
 use Rattle.joints.specs.Table.{Locks}
+use Rattle.traces.specs.Log.{Logged}
 use Rattle.rules.specs.declared.Rules.{Rules}
 use Rattle.rules.specs.Settings.{settings-of}
 use Rattle.account.specs.Run.{Progress-ok}
 use Rattle.account.specs.Grown.{Grown, attempt-grown}
-use Rattle.account.specs.Placed.{last-round}
+use Rattle.account.specs.Placed.{live-quad, quad-cells, last-round}
 use Rattle.account.specs.Trials as Trials
 use Rattle.account.specs.Trials.{Few-trials}
 use Rattle.account.specs.Reach.{by-refusal, by-quad, Reached-state, records-fit}
@@ -48,7 +49,7 @@ use Rattle.blocked_edges.proofs.Edges.{with-old, with-new}
 use Rattle.blocked_edges.proofs.Room.{with-distinct}
 use Rattle.blocked_edges.proofs.Framing.{framed}
 use Rattle.outcomes.specs.Ready.{Small, Ready, Behind, Beyond}
-use Rattle.outcomes.specs.Ends.{spent, spent-of, end-of, quad-of, Grew, Plain, Left, AttemptTo}
+use Rattle.outcomes.specs.Ends.{spent, spent-of, end-of, quad-of, Grew, Plain, Left, AttemptTo, attempt-mesh}
 use Rattle.outcomes.specs.declared.Tried.{Tried}
 use Rattle.outcomes.specs.declared.End.the-variants as ends
 use Rattle.settling.specs.declared.standing.Standing.{Standing}
@@ -192,7 +193,7 @@ quad-edge round t = refl
 last-in : {A : Type 0} (xs : List A) (a : A) → In a (xs ++ a ∷ [])
 last-in xs a = in-right a xs (a ∷ []) (inl refl)
 
-module _ (x : Setup) (w : List ℕ) (q : List Float) (quads : List ℕ) (g : Standing) (st : State) (u v : ℕ) (es : List Edge) (k : Makes w q quads x g st (u, v) es) where
+module _ (x : Setup) (w : List ℕ) (q : List Float) (quads tr : List ℕ) (g : Standing) (st : State) (u v : ℕ) (es : List Edge) (k : Makes w q quads tr x g st (u, v) es) where
   fx : Fixed x
   fx = k .reaches .fixed
 
@@ -268,9 +269,22 @@ module _ (x : Setup) (w : List ℕ) (q : List Float) (quads : List ℕ) (g : Sta
   unfolding counting
   behind-before = k .holds .behind
 
+  -- the trace, and the round: every round before placed one quad
+  pub log-before : Logged (x .begun .log) tr (g .words) (st .mesh)
+  unfolding counting
+  log-before = k .holds .log
+
+  pub in-round : g .quads + 1 ≡ this-round (st .mesh)
+  unfolding this-round quad-cells live-quad
+  in-round = omega (arith, number-before, sb .good .in-rounds .number)
+
   quads-few : length (st .quads) ≤ x .rules .slots
   unfolding settings-of
   quads-few = omega (arith, sb .good .quads-fit, sb .good .fits .slots)
+
+  -- a round more can be counted
+  pub round-few : g .quads < 2 ^ 32
+  round-few = omega (arith, number-before, quads-few, ready .small .slots)
 
   quads-long : length quads ≡ length (x .begun .old)
   unfolding counting
@@ -431,10 +445,11 @@ module _ (x : Setup) (w : List ℕ) (q : List Float) (quads : List ℕ) (g : Sta
         no-want : (wt : Want) → sort-of (t .end) ≡ want-sort wt → (n : ℕ) → sort-of (t .end) ≡ n → n ≤ 1 → ⊥
         no-want of-points e n f l = omega (arith, e, f, l)
         no-want of-slots e n f l = omega (arith, e, f, l)
+        no-want of-trace e n f l = omega (arith, e, f, l)
 
     -- ---- what is left
 
-    module _ (w'' quads'' : List ℕ) (r : Step) (set : SettleTo w' w'' quads'' (x .rules .slots) (x .rules .capacity) g t u v (k .ever) (st .blocked) (st .quads) (x .begun .old) r) where
+    module _ (w'' quads'' tr' : List ℕ) (r : Step) (set : SettleTo w' w'' quads'' (x .rules .slots) (x .rules .capacity) g t u v (k .ever) (st .blocked) (st .quads) (x .begun .old) r) where
       ready-after : (n : Spent) (m : Mesh) → Left w' q q' (x .rules) (g .counters) n m t → (c : Counters) → c ≡ t .counters → Ready w'' q' (x .rules) c m
       ready-after n m l c e =
           subst (λ (z : Counters). Ready w'' q' (x .rules) z m) (sym e)
@@ -443,10 +458,13 @@ module _ (x : Setup) (w : List ℕ) (q : List Float) (quads : List ℕ) (g : Sta
       counts-after : (n : Spent) (d : Counts) (s' : Standing) → counts-of s' ≡ d → d ≡ counts-of g ⊞ spending (spent-of t) → spent-of t ≡ n → counts-of s' ≡ st .counts ⊞ one-attempt ⊞ spending n
       counts-after n d s' e f i = e ∙ f ∙ ap (λ z. z ⊞ spending (spent-of t)) counts-before ∙ ap (λ (z : Spent). st .counts ⊞ one-attempt ⊞ spending z) i
 
+      log-after : (m : Mesh) → Logged (x .begun .log) tr' (t .at) m → (n : ℕ) → n ≡ t .at → Logged (x .begun .log) tr' n m
+      log-after m l n e = subst (λ (z : ℕ). Logged (x .begun .log) tr' z m) (sym e) l
+
       pub stepped : (a : Attempt) → attempt (settings-of (x .rules)) (x .rules .given) st (u, v) ≡ after (counting st one-attempt) (u, v) a
-          → AttemptTo w' q q' (x .rules) (g .counters) a t → Stepped w'' q' quads'' x es (after (counting st one-attempt) (u, v) a) r
+          → AttemptTo w' q q' (x .rules) (g .counters) a t → Logged (x .begun .log) tr' (t .at) (attempt-mesh a) → Stepped w'' q' quads'' tr' x es (after (counting st one-attempt) (u, v) a) r
       unfolding after counting
-      stepped (placed n m h) ran to =
+      stepped (placed n m h) ran to lg =
           let p = set .placed (to .0) in
           let l = to .2 in (
             p .kind,
@@ -456,12 +474,13 @@ module _ (x : Setup) (w : List ℕ) (q : List Float) (quads : List ℕ) (g : Sta
                 ready = ready-after n m l (r .standing .counters) (p .counted .counters);
                 counts = counts-after n _ (r .standing) (p .counted .counts (l .attempts)) refl (l .spent);
                 behind = behind-trans (x .begun .floats) q q' (length (st .mesh .points)) (length (m .points)) (placed-fine n m h ran (l .ready .rep .points) .1) behind-before (l .behind);
+                log = log-after m lg (r .standing .words) (p .counted .words);
                 so-far = subst (λ (z : Quad). Kept-so-far w'' quads'' (x .rules .slots) (x .rules .capacity) (r .standing) (k .ever) (freed z (st .blocked)) (st .quads ++ z ∷ []) (x .begun .old)) (placed-next n m h ran t (to .1)) (p .so-far);
               };
               reaches = record { fixed = fx; old = k .reaches .old; reach = placed-reach n m h ran; sub = k .reaches .sub };
             },
           )
-      stepped (refused why n m) ran to =
+      stepped (refused why n m) ran to lg =
           let p = set .refused why (to .0) in
           let l = to .1 in (
             p .kind,
@@ -471,12 +490,13 @@ module _ (x : Setup) (w : List ℕ) (q : List Float) (quads : List ℕ) (g : Sta
                 ready = ready-after n m l (r .standing .counters) (p .counted .counters);
                 counts = p .counted .counts (l .attempts) ∙ ap (λ z. z ⊞ spending (spent-of t) ⊞ refused-by why) counts-before ∙ ap (λ (z : Spent). st .counts ⊞ one-attempt ⊞ spending z ⊞ refused-by why) (l .spent);
                 behind = behind-trans (x .begun .floats) q q' (length (st .mesh .points)) (length (m .points)) (refused-fine why n m ran (l .ready .rep .points) .1) behind-before (l .behind);
+                log = log-after m lg (r .standing .words) (p .counted .words);
                 so-far = p .so-far;
               };
               reaches = record { fixed = fx; old = (u, v) ∷ k .reaches .old; reach = refused-reach why n m ran; sub = refused-sub why n m ran };
             },
           )
-      stepped (ended wt n m) ran to =
+      stepped (ended wt n m) ran to lg =
           let p = set .ended wt (to .0) in
           let l = to .1 in (
             p .kind,
@@ -486,14 +506,15 @@ module _ (x : Setup) (w : List ℕ) (q : List Float) (quads : List ℕ) (g : Sta
               number = p .so-far .number;
               text = p .so-far .text;
               behind = behind-trans (x .begun .floats) q q' (length (st .mesh .points)) (length (m .points)) (ended-fine wt n m ran (l .ready .rep .points) .1) behind-before (l .behind);
+              log = log-after m lg (r .standing .words) (p .counted .words);
             },
           )
 
 -- ---- the callees' answers
 
-module _ (x : Setup) (w : List ℕ) (q : List Float) (quads : List ℕ) (g : Standing) (st : State) (u v : ℕ) (es : List Edge) (k : Makes w q quads x g st (u, v) es) where
+module _ (x : Setup) (w : List ℕ) (q : List Float) (quads tr : List ℕ) (g : Standing) (st : State) (u v : ℕ) (es : List Edge) (k : Makes w q quads tr x g st (u, v) es) where
   front-as : (b : Bool) → ((m : Mesh) → Rep w (x .rules .slots) (x .rules .capacity) m → b ≡ is-front m (key u v)) → b ≡ is-front (st .mesh) (u, v)
-  front-as b h = h (st .mesh) (ready x w q quads g st u v es k .rep) ∙ ap (is-front (st .mesh)) (key-up u v (up x w q quads g st u v es k))
+  front-as b h = h (st .mesh) (ready x w q quads tr g st u v es k .rep) ∙ ap (is-front (st .mesh)) (key-up u v (up x w q quads tr g st u v es k))
 
   pub was-off : (b : Bool) → ((m : Mesh) → Rep w (x .rules .slots) (x .rules .capacity) m → b ≡ is-front m (key u v)) → not b ≡ true → is-front (st .mesh) (u, v) ≡ false
   was-off b h e = sym (front-as b h) ∙ not-true b e
@@ -502,25 +523,28 @@ module _ (x : Setup) (w : List ℕ) (q : List Float) (quads : List ℕ) (g : Sta
   was-front b h e = sym (front-as b h) ∙ not-false b e
 
   -- off the front nothing is tried
-  pub off-to : (t : Tried) → Plain ends.Placement (g .counters) 0 0 0 t → AttemptTo w q q (x .rules) (g .counters) (refused Placement nothing-spent (st .mesh)) t
+  pub off-to : (t : Tried) → Plain ends.Placement (g .counters) (g .words) 0 0 0 t → AttemptTo w q q (x .rules) (g .counters) (refused Placement nothing-spent (st .mesh)) t
   unfolding end-of nothing-spent
   off-to t h = (
     h .end,
     record {
-      ready = subst (λ (z : Counters). Ready w q (x .rules) z (st .mesh)) (sym (h .counters)) (ready x w q quads g st u v es k);
+      ready = subst (λ (z : Counters). Ready w q (x .rules) z (st .mesh)) (sym (h .counters)) (ready x w q quads tr g st u v es k);
       spent = ap (λ (z : ℕ). spent z (t .trials) (t .flips)) (h .inserted) ∙ ap (λ (z : ℕ). spent 0 z (t .flips)) (h .trials) ∙ ap (spent 0 0) (h .flips);
       attempts = ap (λ c. c .attempts) (h .counters);
       behind = record { len = refl; rest = refl };
     },
   )
 
-  pub step-is : (w' : List ℕ) (q' : List Float) (t : Tried) (by : Beyond w w' (x .rules .slots) (x .rules .capacity)) (w'' quads'' : List ℕ) (r : Step)
+  pub off-log : (t : Tried) → Plain ends.Placement (g .counters) (g .words) 0 0 0 t → Logged (x .begun .log) tr (t .at) (st .mesh)
+  off-log t h = subst (λ (z : ℕ). Logged (x .begun .log) tr z (st .mesh)) (sym (h .at)) (log-before x w q quads tr g st u v es k)
+
+  pub step-is : (w' : List ℕ) (q' : List Float) (t : Tried) (by : Beyond w w' (x .rules .slots) (x .rules .capacity)) (w'' quads'' tr' : List ℕ) (r : Step)
       → SettleTo w' w'' quads'' (x .rules .slots) (x .rules .capacity) g t u v (k .ever) (st .blocked) (st .quads) (x .begun .old) r
       → (a : Attempt) → attempt (settings-of (x .rules)) (x .rules .given) st (u, v) ≡ after (counting st one-attempt) (u, v) a
-      → AttemptTo w' q q' (x .rules) (g .counters) a t → StepTo w w'' q' quads'' x es (attempt (settings-of (x .rules)) (x .rules .given) st (u, v)) r
-  step-is w' q' t by w'' quads'' r set a ran to =
+      → AttemptTo w' q q' (x .rules) (g .counters) a t → Logged (x .begun .log) tr' (t .at) (attempt-mesh a) → StepTo w w'' q' quads'' tr' x es (attempt (settings-of (x .rules)) (x .rules .given) st (u, v)) r
+  step-is w' q' t by w'' quads'' tr' r set a ran to lg =
       record {
-        is = subst (λ p. Stepped w'' q' quads'' x es p r) (sym ran) (stepped x w q quads g st u v es k w' q' t by w'' quads'' r set a ran to);
+        is = subst (λ p. Stepped w'' q' quads'' tr' x es p r) (sym ran) (stepped x w q quads tr g st u v es k w' q' t by w'' quads'' tr' r set a ran to lg);
         front = front-kept w w' w'' (x .rules .slots) (x .rules .capacity) by (set .kept);
       }
 
@@ -538,18 +562,19 @@ live-as w q rules c d m h l r =
       small = r .small;
     }
 
-module _ (x : Setup) (w : List ℕ) (q : List Float) (quads : List ℕ) (g₀ : Standing) (st : State) (e : Edge) (es : List Edge) (k : Goes w q quads x g₀ st (e ∷ es)) (g : Standing) (one : CountedOne g₀ g) where
+module _ (x : Setup) (w : List ℕ) (q : List Float) (quads tr : List ℕ) (g₀ : Standing) (st : State) (e : Edge) (es : List Edge) (k : Goes w q quads tr x g₀ st (e ∷ es)) (g : Standing) (one : CountedOne g₀ g) where
   -- the memory stands for the state with the attempt counted
-  pub counted-holds : Holds w q quads x g (counting st one-attempt) (k .ever)
+  pub counted-holds : Holds w q quads tr x g (counting st one-attempt) (k .ever)
   unfolding counting
   counted-holds =
       let h = k .holds in
-      let tr : st .counts .attempts ≤ 829200 = tries-few x st (k .reaches .old) (e ∷ es) (k .reaches .fixed) (h .ready .small) (k .reaches .reach) in
+      let few : st .counts .attempts ≤ 829200 = tries-few x st (k .reaches .old) (e ∷ es) (k .reaches .fixed) (h .ready .small) (k .reaches .reach) in
       let same : g₀ .counters .attempts ≡ st .counts .attempts = ap (λ c. c .attempts) (h .counts) in
       record {
         ready = live-as w q (x .rules) (g₀ .counters) (g .counters) (st .mesh) (one .counters) (omega arith) (h .ready);
         counts = one .counts ∙ ap (λ c. c ⊞ one-attempt) (h .counts);
         behind = h .behind;
+        log = subst (λ (z : ℕ). Logged (x .begun .log) tr z (st .mesh)) (sym (one .words)) (h .log);
         so-far = record { blocks = h .so-far .blocks; records = one .records ∙ h .so-far .records; number = one .quads ∙ h .so-far .number; text = h .so-far .text };
       }
 
@@ -563,7 +588,7 @@ module _ (x : Setup) (w : List ℕ) (q : List Float) (quads : List ℕ) (g₀ : 
       sym (h ∙ ap (λ (n : ℕ). ltb (x .rules .attempts) n || ltb (max-triangles (x .rules .given)) (g .counters .live)) tries
       ∙ ap (λ (n : ℕ). ltb (x .rules .attempts) ((st .counts ⊞ one-attempt) .attempts) || ltb (max-triangles (x .rules .given)) n) live)
 
-  pub makes : past-limit (settings-of (x .rules)) (x .rules .given) (counting st one-attempt) ≡ false → Makes w q quads x g st e es
+  pub makes : past-limit (settings-of (x .rules)) (x .rules .given) (counting st one-attempt) ≡ false → Makes w q quads tr x g st e es
   makes b = record { ever = k .ever; holds = counted-holds; reaches = k .reaches; below = b }
 
   pub few-now : FewTally (g .tally)
@@ -571,7 +596,7 @@ module _ (x : Setup) (w : List ℕ) (q : List Float) (quads : List ℕ) (g₀ : 
 
   -- past a limit the attempt is not made
   pub limited-step : past-limit (settings-of (x .rules)) (x .rules .given) (counting st one-attempt) ≡ true → (h : Standing) → CountsMore g at-limit h
-      → StepTo w w q quads x es (attempt (settings-of (x .rules)) (x .rules .given) st e) (record { kind = goings.Limited; standing = h })
+      → StepTo w w q quads tr x es (attempt (settings-of (x .rules)) (x .rules .given) st e) (record { kind = goings.Limited; standing = h })
   unfolding attempt counting settings-of
   limited-step b h more =
       let c = counted-holds in
@@ -584,6 +609,7 @@ module _ (x : Setup) (w : List ℕ) (q : List Float) (quads : List ℕ) (g₀ : 
             number = more .quads ∙ c .so-far .number;
             text = c .so-far .text;
             behind = c .behind;
+            log = subst (λ (z : ℕ). Logged (x .begun .log) tr z (st .mesh)) (sym (more .words)) (c .log);
           },
         );
         front = record { len = refl; same = λ i a b. refl };

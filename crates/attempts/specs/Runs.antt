@@ -21,6 +21,7 @@ use Rattle.rules.specs.Settings.{settings-of}
 use Rattle.account.specs.Start.{Proper}
 use Rattle.account.specs.Reach.{Reach}
 use Rattle.exact.specs.Theorems.{Within}
+use Rattle.traces.specs.Log.{Logged}
 use Rattle.cells.specs.Layout.{front-u-at, near-at}
 use Rattle.outcomes.specs.Ready.{Ready, Behind}
 use Rattle.settling.specs.declared.standing.Standing.{Standing}
@@ -29,13 +30,14 @@ use Rattle.settling.specs.declared.standing.Going.the-variants as goings
 use Rattle.settling.specs.Standings.{counts-of}
 use Rattle.settling.specs.Settles.{Kept-so-far, want-kind}
 
--- what a run was given, beside the numbers: the locked edges, triangles, points, and the slices of points and quads as they were
+-- what a run was given, beside the numbers: the locked edges, triangles, points, and the slices of points, quads and trace as they were
 pub record Begun : Type 0 where
   pub locked : Edge → Bool
   pub ts : List Tri
   pub ps : List Node
   pub floats : List Float
   pub old : List ℕ
+  pub log : List ℕ
 
 -- all that stays for a run
 pub record Setup : Type 0 where
@@ -63,18 +65,20 @@ pub record Fixed (x : Setup) : Type 0 where
   pub room : 8 * x .rules .slots ≤ length (x .begun .old)
 
 -- the memory stands for the state; no record of refusals
-pub record Leaves (w : List ℕ) (q : List Float) (quads : List ℕ) (x : Setup) (g : Standing) (st : State) : Type 0 where
+pub record Leaves (w : List ℕ) (q : List Float) (quads t : List ℕ) (x : Setup) (g : Standing) (st : State) : Type 0 where
   pub ready : Ready w q (x .rules) (g .counters) (st .mesh)
   pub counts : counts-of g ≡ st .counts
   pub number : g .quads ≡ length (st .quads)
   pub text : quads ≡ onto (flat-map quad-words (st .quads)) (x .begun .old)
   pub behind : Behind (x .begun .floats) q (length (st .mesh .points))
+  pub log : Logged (x .begun .log) t (g .words) (st .mesh)
 
 -- the memory stands for the state, ever are the edges that have a record
-pub record Holds (w : List ℕ) (q : List Float) (quads : List ℕ) (x : Setup) (g : Standing) (st : State) (ever : List Edge) : Type 0 where
+pub record Holds (w : List ℕ) (q : List Float) (quads t : List ℕ) (x : Setup) (g : Standing) (st : State) (ever : List Edge) : Type 0 where
   pub ready : Ready w q (x .rules) (g .counters) (st .mesh)
   pub counts : counts-of g ≡ st .counts
   pub behind : Behind (x .begun .floats) q (length (st .mesh .points))
+  pub log : Logged (x .begun .log) t (g .words) (st .mesh)
   pub so-far : Kept-so-far w quads (x .rules .slots) (x .rules .capacity) g ever (st .blocked) (st .quads) (x .begun .old)
 
 -- a run reaches the state, with the edges es waiting
@@ -85,9 +89,9 @@ pub record Reaches (x : Setup) (st : State) (ever es : List Edge) : Type 0 where
   pub sub : (e : Edge) → In e ever → In e old
 
 -- the run goes on from the state that the memory stands for
-pub record Goes (w : List ℕ) (q : List Float) (quads : List ℕ) (x : Setup) (g : Standing) (st : State) (es : List Edge) : Type 0 where
+pub record Goes (w : List ℕ) (q : List Float) (quads t : List ℕ) (x : Setup) (g : Standing) (st : State) (es : List Edge) : Type 0 where
   pub ever : List Edge
-  pub holds : Holds w q quads x g st ever
+  pub holds : Holds w q quads t x g st ever
   pub reaches : Reaches x st ever es
 
 -- the front's edges, its loops and their marks are as they were
@@ -95,20 +99,20 @@ abbrev pub FrontKept : List ℕ → List ℕ → ℕ → ℕ → Type 0
 FrontKept w w' s p = Stays w w' (front-u-at s p) (near-at s p)
 
 -- after a step, by cases; es still wait where no quad was placed
-abbrev pub Stepped : List ℕ → List Float → List ℕ → Setup → List Edge → Progress → Step → Type 0
-Stepped w q quads x es (stuck st) r = (r .kind ≡ goings.Stuck) × Goes w q quads x (r .standing) st es
-Stepped w q quads x es (progressed st) r = (r .kind ≡ goings.Progressed) × Goes w q quads x (r .standing) st []
-Stepped w q quads x es (limited st) r = (r .kind ≡ goings.Limited) × Leaves w q quads x (r .standing) st
-Stepped w q quads x es (stopped wt st) r = (r .kind ≡ want-kind wt) × Leaves w q quads x (r .standing) st
+abbrev pub Stepped : List ℕ → List Float → List ℕ → List ℕ → Setup → List Edge → Progress → Step → Type 0
+Stepped w q quads t x es (stuck st) r = (r .kind ≡ goings.Stuck) × Goes w q quads t x (r .standing) st es
+Stepped w q quads t x es (progressed st) r = (r .kind ≡ goings.Progressed) × Goes w q quads t x (r .standing) st []
+Stepped w q quads t x es (limited st) r = (r .kind ≡ goings.Limited) × Leaves w q quads t x (r .standing) st
+Stepped w q quads t x es (stopped wt st) r = (r .kind ≡ want-kind wt) × Leaves w q quads t x (r .standing) st
 
 -- the attempt on e is counted, and no limit is passed
-pub record Makes (w : List ℕ) (q : List Float) (quads : List ℕ) (x : Setup) (g : Standing) (st : State) (e : Edge) (es : List Edge) : Type 0 where
+pub record Makes (w : List ℕ) (q : List Float) (quads t : List ℕ) (x : Setup) (g : Standing) (st : State) (e : Edge) (es : List Edge) : Type 0 where
   pub ever : List Edge
-  pub holds : Holds w q quads x g (counting st one-attempt) ever
+  pub holds : Holds w q quads t x g (counting st one-attempt) ever
   pub reaches : Reaches x st ever (e ∷ es)
   pub below : past-limit (settings-of (x .rules)) (x .rules .given) (counting st one-attempt) ≡ false
 
 -- what an attempt leaves, and that the front's areas are as they were
-pub record StepTo (w w' : List ℕ) (q' : List Float) (quads' : List ℕ) (x : Setup) (es : List Edge) (p : Progress) (r : Step) : Type 0 where
-  pub is : Stepped w' q' quads' x es p r
+pub record StepTo (w w' : List ℕ) (q' : List Float) (quads' t' : List ℕ) (x : Setup) (es : List Edge) (p : Progress) (r : Step) : Type 0 where
+  pub is : Stepped w' q' quads' t' x es p r
   pub front : FrontKept w w' (x .rules .slots) (x .rules .capacity)

@@ -7,7 +7,7 @@ use lib.IntN.{ℤ, pos, negsuc}
 use lib.Ieee.{Float, nan, inf, fin}
 use Rattle.vectors.specs.Opened.{opened-attempts}
 use Rattle.vectors.specs.Steps.{edges-none, edges-stuck, edges-progressed, edges-limited, edges-stopped, loops-none, loops-stuck, loops-progressed, loops-limited, loops-stopped, round-loops, run-progressed, run-stuck, run-limited, run-stopped}
-use Rattle.definition.specs.Cells.{front, Tri, Quad, Cell, tri, quad, Live, Mesh}
+use Rattle.definition.specs.Cells.{front, Tri, Quad, Cell, tri, quad, Live, Event, was-split, was-flipped, was-placed, Mesh}
 use Rattle.definition.specs.Loops.{front-loops}
 use Rattle.definition.specs.Front.{attempt, open-edges, try-edges, round, front-loop, outcome, counting, State, Progress, stuck, progressed, limited, stopped}
 use Rattle.definition.specs.Call.{after-run}
@@ -29,37 +29,37 @@ abbrev lv : ℕ → Cell → Live
 lv n c = record { slot = n; cell = c }
 
 s : Settings
-s = record { quality = base; attempts = max-attempts 5; capacity = 96; slots = 160; size = (fin false 5404319552844595 (negsuc 51)); even = true }
+s = record { quality = base; attempts = max-attempts 5; capacity = 96; slots = 160; room = 0; size = (fin false 5404319552844595 (negsuc 51)); even = true }
 
 points-0 : List Node
 points-0 = pt (fin false 0 (pos 0)) (fin false 0 (pos 0)) (fin false 0 (pos 0)) ∷ pt (fin false 1 (pos 0)) (fin false 0 (pos 0)) (fin false 0 (pos 0)) ∷ pt (fin false 6993349533087659 (negsuc 52)) (fin true 2755262244098581 (negsuc 50)) (fin false 0 (pos 0)) ∷ pt (fin false 1204667831124121 (negsuc 49)) (fin false 1204667831124121 (negsuc 49)) (fin false 0 (pos 0)) ∷ pt (fin false 835196575463465 (negsuc 49)) (fin true 1416603238221783 (negsuc 49)) (fin false 0 (pos 0)) ∷ pt (fin true 1721144994106031 (negsuc 51)) (fin true 8402717597813751 (negsuc 51)) (fin false 0 (pos 0)) ∷ pt (fin false 1726035522533005 (negsuc 52)) (fin false 4045512374005615 (negsuc 50)) (fin false 0 (pos 0)) ∷ []
 
 st-0 : State
-st-0 = record { mesh = record { points = points-0; used = 5; live = lv 0 (tri (tr 0 1 2)) ∷ lv 1 (tri (tr 0 1 3)) ∷ lv 2 (tri (tr 0 1 4)) ∷ lv 3 (tri (tr 4 0 5)) ∷ lv 4 (tri (tr 3 0 6)) ∷ []; bucket = (fin false 5404319552844595 (negsuc 51)); locked = λ e. false }; quads = []; blocked = []; counts = tally 0 0 0 0 0 0 0 0 0 0 }
+st-0 = record { mesh = record { points = points-0; used = 5; live = lv 0 (tri (tr 0 1 2)) ∷ lv 1 (tri (tr 0 1 3)) ∷ lv 2 (tri (tr 0 1 4)) ∷ lv 3 (tri (tr 4 0 5)) ∷ lv 4 (tri (tr 3 0 6)) ∷ []; bucket = (fin false 5404319552844595 (negsuc 51)); locked = λ e. false; room = 0; history = [] }; quads = []; blocked = []; counts = tally 0 0 0 0 0 0 0 0 0 0 }
 
 st-1 : State
-st-1 = record { mesh = record { points = points-0; used = 5; live = lv 0 (tri (tr 0 1 2)) ∷ lv 1 (tri (tr 0 1 3)) ∷ lv 2 (tri (tr 0 1 4)) ∷ lv 3 (tri (tr 4 0 5)) ∷ lv 4 (tri (tr 3 0 6)) ∷ []; bucket = (fin false 5404319552844595 (negsuc 51)); locked = λ e. false }; quads = []; blocked = (4, 5) ∷ []; counts = tally 0 1 0 1 0 0 0 0 0 0 }
+st-1 = record { mesh = record { points = points-0; used = 5; live = lv 0 (tri (tr 0 1 2)) ∷ lv 1 (tri (tr 0 1 3)) ∷ lv 2 (tri (tr 0 1 4)) ∷ lv 3 (tri (tr 4 0 5)) ∷ lv 4 (tri (tr 3 0 6)) ∷ []; bucket = (fin false 5404319552844595 (negsuc 51)); locked = λ e. false; room = 0; history = [] }; quads = []; blocked = (4, 5) ∷ []; counts = tally 0 1 0 1 0 0 0 0 0 0 }
 
 st-2 : State
-st-2 = record { mesh = record { points = points-0; used = 5; live = lv 0 (tri (tr 0 1 2)) ∷ lv 2 (tri (tr 0 1 4)) ∷ lv 3 (tri (tr 4 0 5)) ∷ lv 1 (tri (tr 1 6 0)) ∷ lv 4 (tri (tr 6 1 3)) ∷ []; bucket = (fin false 5404319552844595 (negsuc 51)); locked = λ e. false }; quads = []; blocked = (1, 4) ∷ (4, 5) ∷ []; counts = tally 0 2 0 1 0 1 0 0 0 3 }
+st-2 = record { mesh = record { points = points-0; used = 5; live = lv 0 (tri (tr 0 1 2)) ∷ lv 2 (tri (tr 0 1 4)) ∷ lv 3 (tri (tr 4 0 5)) ∷ lv 1 (tri (tr 1 6 0)) ∷ lv 4 (tri (tr 6 1 3)) ∷ []; bucket = (fin false 5404319552844595 (negsuc 51)); locked = λ e. false; room = 0; history = was-flipped (0, 3) ∷ [] }; quads = []; blocked = (1, 4) ∷ (4, 5) ∷ []; counts = tally 0 2 0 1 0 1 0 0 0 3 }
 
 st-3 : State
-st-3 = record { mesh = record { points = points-0; used = 5; live = lv 0 (tri (tr 0 1 2)) ∷ lv 2 (tri (tr 0 1 4)) ∷ lv 3 (tri (tr 4 0 5)) ∷ lv 1 (tri (tr 0 1 3)) ∷ lv 4 (tri (tr 3 6 0)) ∷ []; bucket = (fin false 5404319552844595 (negsuc 51)); locked = λ e. false }; quads = []; blocked = (0, 5) ∷ (1, 4) ∷ (4, 5) ∷ []; counts = tally 0 3 0 1 1 1 0 0 0 5 }
+st-3 = record { mesh = record { points = points-0; used = 5; live = lv 0 (tri (tr 0 1 2)) ∷ lv 2 (tri (tr 0 1 4)) ∷ lv 3 (tri (tr 4 0 5)) ∷ lv 1 (tri (tr 0 1 3)) ∷ lv 4 (tri (tr 3 6 0)) ∷ []; bucket = (fin false 5404319552844595 (negsuc 51)); locked = λ e. false; room = 0; history = was-flipped (0, 3) ∷ was-flipped (1, 6) ∷ [] }; quads = []; blocked = (0, 5) ∷ (1, 4) ∷ (4, 5) ∷ []; counts = tally 0 3 0 1 1 1 0 0 0 5 }
 
 st-4 : State
-st-4 = record { mesh = record { points = points-0; used = 5; live = lv 0 (tri (tr 0 1 2)) ∷ lv 2 (tri (tr 0 1 4)) ∷ lv 3 (tri (tr 4 0 5)) ∷ lv 1 (tri (tr 0 1 3)) ∷ lv 4 (tri (tr 3 6 0)) ∷ []; bucket = (fin false 5404319552844595 (negsuc 51)); locked = λ e. false }; quads = []; blocked = (1, 3) ∷ (0, 5) ∷ (1, 4) ∷ (4, 5) ∷ []; counts = tally 0 4 0 1 1 1 1 0 0 6 }
+st-4 = record { mesh = record { points = points-0; used = 5; live = lv 0 (tri (tr 0 1 2)) ∷ lv 2 (tri (tr 0 1 4)) ∷ lv 3 (tri (tr 4 0 5)) ∷ lv 1 (tri (tr 0 1 3)) ∷ lv 4 (tri (tr 3 6 0)) ∷ []; bucket = (fin false 5404319552844595 (negsuc 51)); locked = λ e. false; room = 0; history = was-flipped (0, 3) ∷ was-flipped (1, 6) ∷ [] }; quads = []; blocked = (1, 3) ∷ (0, 5) ∷ (1, 4) ∷ (4, 5) ∷ []; counts = tally 0 4 0 1 1 1 1 0 0 6 }
 
 st-5 : State
-st-5 = record { mesh = record { points = points-0; used = 5; live = lv 0 (tri (tr 0 1 2)) ∷ lv 2 (tri (tr 0 1 4)) ∷ lv 3 (tri (tr 4 0 5)) ∷ lv 1 (tri (tr 0 1 3)) ∷ lv 4 (tri (tr 3 6 0)) ∷ []; bucket = (fin false 5404319552844595 (negsuc 51)); locked = λ e. false }; quads = []; blocked = (3, 6) ∷ (1, 3) ∷ (0, 5) ∷ (1, 4) ∷ (4, 5) ∷ []; counts = tally 0 5 0 1 1 1 2 0 0 7 }
+st-5 = record { mesh = record { points = points-0; used = 5; live = lv 0 (tri (tr 0 1 2)) ∷ lv 2 (tri (tr 0 1 4)) ∷ lv 3 (tri (tr 4 0 5)) ∷ lv 1 (tri (tr 0 1 3)) ∷ lv 4 (tri (tr 3 6 0)) ∷ []; bucket = (fin false 5404319552844595 (negsuc 51)); locked = λ e. false; room = 0; history = was-flipped (0, 3) ∷ was-flipped (1, 6) ∷ [] }; quads = []; blocked = (3, 6) ∷ (1, 3) ∷ (0, 5) ∷ (1, 4) ∷ (4, 5) ∷ []; counts = tally 0 5 0 1 1 1 2 0 0 7 }
 
 st-6 : State
-st-6 = record { mesh = record { points = points-0; used = 5; live = lv 0 (tri (tr 0 1 2)) ∷ lv 2 (tri (tr 0 1 4)) ∷ lv 3 (tri (tr 4 0 5)) ∷ lv 1 (tri (tr 1 6 0)) ∷ lv 4 (tri (tr 6 1 3)) ∷ []; bucket = (fin false 5404319552844595 (negsuc 51)); locked = λ e. false }; quads = []; blocked = (1, 2) ∷ (3, 6) ∷ (1, 3) ∷ (0, 5) ∷ (1, 4) ∷ (4, 5) ∷ []; counts = tally 0 6 0 1 1 2 2 0 0 8 }
+st-6 = record { mesh = record { points = points-0; used = 5; live = lv 0 (tri (tr 0 1 2)) ∷ lv 2 (tri (tr 0 1 4)) ∷ lv 3 (tri (tr 4 0 5)) ∷ lv 1 (tri (tr 1 6 0)) ∷ lv 4 (tri (tr 6 1 3)) ∷ []; bucket = (fin false 5404319552844595 (negsuc 51)); locked = λ e. false; room = 0; history = was-flipped (0, 3) ∷ was-flipped (1, 6) ∷ was-flipped (0, 3) ∷ [] }; quads = []; blocked = (1, 2) ∷ (3, 6) ∷ (1, 3) ∷ (0, 5) ∷ (1, 4) ∷ (4, 5) ∷ []; counts = tally 0 6 0 1 1 2 2 0 0 8 }
 
 st-7 : State
-st-7 = record { mesh = record { points = points-0; used = 5; live = lv 0 (tri (tr 0 1 2)) ∷ lv 2 (tri (tr 0 1 4)) ∷ lv 3 (tri (tr 4 0 5)) ∷ lv 1 (tri (tr 1 6 0)) ∷ lv 4 (tri (tr 6 1 3)) ∷ []; bucket = (fin false 5404319552844595 (negsuc 51)); locked = λ e. false }; quads = []; blocked = (0, 2) ∷ (1, 2) ∷ (3, 6) ∷ (1, 3) ∷ (0, 5) ∷ (1, 4) ∷ (4, 5) ∷ []; counts = tally 0 7 0 1 1 3 2 0 0 9 }
+st-7 = record { mesh = record { points = points-0; used = 5; live = lv 0 (tri (tr 0 1 2)) ∷ lv 2 (tri (tr 0 1 4)) ∷ lv 3 (tri (tr 4 0 5)) ∷ lv 1 (tri (tr 1 6 0)) ∷ lv 4 (tri (tr 6 1 3)) ∷ []; bucket = (fin false 5404319552844595 (negsuc 51)); locked = λ e. false; room = 0; history = was-flipped (0, 3) ∷ was-flipped (1, 6) ∷ was-flipped (0, 3) ∷ [] }; quads = []; blocked = (0, 2) ∷ (1, 2) ∷ (3, 6) ∷ (1, 3) ∷ (0, 5) ∷ (1, 4) ∷ (4, 5) ∷ []; counts = tally 0 7 0 1 1 3 2 0 0 9 }
 
 st-8 : State
-st-8 = record { mesh = record { points = points-0; used = 5; live = lv 0 (tri (tr 0 1 2)) ∷ lv 2 (tri (tr 0 1 4)) ∷ lv 3 (tri (tr 4 0 5)) ∷ lv 1 (tri (tr 1 6 0)) ∷ lv 4 (tri (tr 6 1 3)) ∷ []; bucket = (fin false 5404319552844595 (negsuc 51)); locked = λ e. false }; quads = []; blocked = (0, 6) ∷ (0, 2) ∷ (1, 2) ∷ (3, 6) ∷ (1, 3) ∷ (0, 5) ∷ (1, 4) ∷ (4, 5) ∷ []; counts = tally 0 8 0 1 1 4 2 0 0 12 }
+st-8 = record { mesh = record { points = points-0; used = 5; live = lv 0 (tri (tr 0 1 2)) ∷ lv 2 (tri (tr 0 1 4)) ∷ lv 3 (tri (tr 4 0 5)) ∷ lv 1 (tri (tr 1 6 0)) ∷ lv 4 (tri (tr 6 1 3)) ∷ []; bucket = (fin false 5404319552844595 (negsuc 51)); locked = λ e. false; room = 0; history = was-flipped (0, 3) ∷ was-flipped (1, 6) ∷ was-flipped (0, 3) ∷ [] }; quads = []; blocked = (0, 6) ∷ (0, 2) ∷ (1, 2) ∷ (3, 6) ∷ (1, 3) ∷ (0, 5) ∷ (1, 4) ∷ (4, 5) ∷ []; counts = tally 0 8 0 1 1 4 2 0 0 12 }
 
 front-is-0 : front (st-0 .mesh) ≡ (0, 2) ∷ (0, 5) ∷ (0, 6) ∷ (1, 2) ∷ (1, 3) ∷ (1, 4) ∷ (3, 6) ∷ (4, 5) ∷ []
 unfolding opened-attempts s points-0 st-0

@@ -7,7 +7,7 @@ use lib.IntN.{ℤ, pos, negsuc}
 use lib.Ieee.{Float, nan, inf, fin}
 use Rattle.vectors.specs.Opened.{opened-attempts}
 use Rattle.vectors.specs.Steps.{edges-none, edges-stuck, edges-progressed, edges-limited, edges-stopped, loops-none, loops-stuck, loops-progressed, loops-limited, loops-stopped, round-loops, run-progressed, run-stuck, run-limited, run-stopped}
-use Rattle.definition.specs.Cells.{front, Tri, Quad, Cell, tri, quad, Live, Mesh}
+use Rattle.definition.specs.Cells.{front, Tri, Quad, Cell, tri, quad, Live, Event, was-split, was-flipped, was-placed, Mesh}
 use Rattle.definition.specs.Loops.{front-loops}
 use Rattle.definition.specs.Front.{attempt, open-edges, try-edges, round, front-loop, outcome, counting, State, Progress, stuck, progressed, limited, stopped}
 use Rattle.definition.specs.Call.{after-run}
@@ -29,7 +29,7 @@ abbrev lv : ℕ → Cell → Live
 lv n c = record { slot = n; cell = c }
 
 s : Settings
-s = record { quality = base; attempts = max-attempts 6; capacity = 96; slots = 160; size = (fin false 5404319552844595 (negsuc 53)); even = true }
+s = record { quality = base; attempts = max-attempts 6; capacity = 96; slots = 160; room = 0; size = (fin false 5404319552844595 (negsuc 53)); even = true }
 
 points-0 : List Node
 points-0 = pt (fin false 1 (pos 0)) (fin false 0 (pos 0)) (fin false 0 (pos 0)) ∷ pt (fin true 2251799813685247 (negsuc 51)) (fin false 7800463371553963 (negsuc 52)) (fin false 0 (pos 0)) ∷ pt (fin true 1125899906842625 (negsuc 50)) (fin true 975057921444245 (negsuc 49)) (fin false 0 (pos 0)) ∷ pt (fin false 3 (negsuc 0)) (fin false 0 (pos 0)) (fin false 0 (pos 0)) ∷ pt (fin true 6755399441055741 (negsuc 52)) (fin false 45705840067699 (negsuc 44)) (fin false 0 (pos 0)) ∷ pt (fin true 3377699720527875 (negsuc 51)) (fin true 2925173764332735 (negsuc 50)) (fin false 0 (pos 0)) ∷ []
@@ -41,28 +41,28 @@ points-2 : List Node
 points-2 = pt (fin false 1 (pos 0)) (fin false 0 (pos 0)) (fin false 0 (pos 0)) ∷ pt (fin true 2251799813685247 (negsuc 51)) (fin false 7800463371553963 (negsuc 52)) (fin false 0 (pos 0)) ∷ pt (fin true 1125899906842625 (negsuc 50)) (fin true 975057921444245 (negsuc 49)) (fin false 0 (pos 0)) ∷ pt (fin false 3 (negsuc 0)) (fin false 0 (pos 0)) (fin false 0 (pos 0)) ∷ pt (fin true 6755399441055741 (negsuc 52)) (fin false 45705840067699 (negsuc 44)) (fin false 0 (pos 0)) ∷ pt (fin true 3377699720527875 (negsuc 51)) (fin true 2925173764332735 (negsuc 50)) (fin false 0 (pos 0)) ∷ pt (fin true 413107796105629 (negsuc 48)) (fin false 6584491472163929 (negsuc 52)) (fin false 0 (pos 0)) ∷ pt (fin true 2397474517050931 (negsuc 52)) (fin true 2254108817735999 (negsuc 50)) (fin false 0 (pos 0)) ∷ []
 
 st-0 : State
-st-0 = record { mesh = record { points = points-0; used = 6; live = lv 0 (tri (tr 3 4 0)) ∷ lv 1 (tri (tr 4 1 0)) ∷ lv 2 (tri (tr 4 5 2)) ∷ lv 3 (tri (tr 4 2 1)) ∷ lv 4 (tri (tr 5 3 0)) ∷ lv 5 (tri (tr 5 0 2)) ∷ []; bucket = (fin false 5404319552844595 (negsuc 53)); locked = λ e. false }; quads = []; blocked = []; counts = tally 0 0 0 0 0 0 0 0 0 0 }
+st-0 = record { mesh = record { points = points-0; used = 6; live = lv 0 (tri (tr 3 4 0)) ∷ lv 1 (tri (tr 4 1 0)) ∷ lv 2 (tri (tr 4 5 2)) ∷ lv 3 (tri (tr 4 2 1)) ∷ lv 4 (tri (tr 5 3 0)) ∷ lv 5 (tri (tr 5 0 2)) ∷ []; bucket = (fin false 5404319552844595 (negsuc 53)); locked = λ e. false; room = 0; history = [] }; quads = []; blocked = []; counts = tally 0 0 0 0 0 0 0 0 0 0 }
 
 st-1 : State
-st-1 = record { mesh = record { points = points-0; used = 7; live = lv 2 (tri (tr 4 5 2)) ∷ lv 3 (tri (tr 4 2 1)) ∷ lv 4 (tri (tr 5 3 0)) ∷ lv 5 (tri (tr 5 0 2)) ∷ lv 6 (quad (qd 1 0 3 4 (0, 1) 1 2)) ∷ []; bucket = (fin false 5404319552844595 (negsuc 53)); locked = λ e. false }; quads = (qd 1 0 3 4 (0, 1) 1 2) ∷ []; blocked = []; counts = tally 0 1 0 0 0 0 0 0 0 1 }
+st-1 = record { mesh = record { points = points-0; used = 7; live = lv 2 (tri (tr 4 5 2)) ∷ lv 3 (tri (tr 4 2 1)) ∷ lv 4 (tri (tr 5 3 0)) ∷ lv 5 (tri (tr 5 0 2)) ∷ lv 6 (quad (qd 1 0 3 4 (0, 1) 1 2)) ∷ []; bucket = (fin false 5404319552844595 (negsuc 53)); locked = λ e. false; room = 0; history = was-placed (qd 1 0 3 4 (0, 1) 1 2) (1 ∷ 0 ∷ []) ∷ [] }; quads = (qd 1 0 3 4 (0, 1) 1 2) ∷ []; blocked = []; counts = tally 0 1 0 0 0 0 0 0 0 1 }
 
 st-2 : State
-st-2 = record { mesh = record { points = points-1; used = 9; live = lv 3 (tri (tr 4 2 1)) ∷ lv 4 (tri (tr 5 3 0)) ∷ lv 5 (tri (tr 5 0 2)) ∷ lv 6 (quad (qd 1 0 3 4 (0, 1) 1 2)) ∷ lv 2 (tri (tr 4 5 6)) ∷ lv 7 (tri (tr 5 2 6)) ∷ lv 8 (tri (tr 2 4 6)) ∷ []; bucket = (fin false 5404319552844595 (negsuc 53)); locked = λ e. false }; quads = (qd 1 0 3 4 (0, 1) 1 2) ∷ []; blocked = (1, 4) ∷ []; counts = tally 0 2 0 1 0 0 0 1 0 1 }
+st-2 = record { mesh = record { points = points-1; used = 9; live = lv 3 (tri (tr 4 2 1)) ∷ lv 4 (tri (tr 5 3 0)) ∷ lv 5 (tri (tr 5 0 2)) ∷ lv 6 (quad (qd 1 0 3 4 (0, 1) 1 2)) ∷ lv 2 (tri (tr 4 5 6)) ∷ lv 7 (tri (tr 5 2 6)) ∷ lv 8 (tri (tr 2 4 6)) ∷ []; bucket = (fin false 5404319552844595 (negsuc 53)); locked = λ e. false; room = 0; history = was-placed (qd 1 0 3 4 (0, 1) 1 2) (1 ∷ 0 ∷ []) ∷ was-split 2 (pt (fin true 413107796105629 (negsuc 48)) (fin false 6584491472163929 (negsuc 52)) (fin false 0 (pos 0))) ∷ [] }; quads = (qd 1 0 3 4 (0, 1) 1 2) ∷ []; blocked = (1, 4) ∷ []; counts = tally 0 2 0 1 0 0 0 1 0 1 }
 
 st-3 : State
-st-3 = record { mesh = record { points = points-1; used = 9; live = lv 3 (tri (tr 4 2 1)) ∷ lv 4 (tri (tr 5 3 0)) ∷ lv 5 (tri (tr 5 0 2)) ∷ lv 6 (quad (qd 1 0 3 4 (0, 1) 1 2)) ∷ lv 2 (tri (tr 4 5 6)) ∷ lv 7 (tri (tr 5 2 6)) ∷ lv 8 (tri (tr 2 4 6)) ∷ []; bucket = (fin false 5404319552844595 (negsuc 53)); locked = λ e. false }; quads = (qd 1 0 3 4 (0, 1) 1 2) ∷ []; blocked = (0, 3) ∷ (1, 4) ∷ []; counts = tally 0 3 1 1 0 0 0 1 0 1 }
+st-3 = record { mesh = record { points = points-1; used = 9; live = lv 3 (tri (tr 4 2 1)) ∷ lv 4 (tri (tr 5 3 0)) ∷ lv 5 (tri (tr 5 0 2)) ∷ lv 6 (quad (qd 1 0 3 4 (0, 1) 1 2)) ∷ lv 2 (tri (tr 4 5 6)) ∷ lv 7 (tri (tr 5 2 6)) ∷ lv 8 (tri (tr 2 4 6)) ∷ []; bucket = (fin false 5404319552844595 (negsuc 53)); locked = λ e. false; room = 0; history = was-placed (qd 1 0 3 4 (0, 1) 1 2) (1 ∷ 0 ∷ []) ∷ was-split 2 (pt (fin true 413107796105629 (negsuc 48)) (fin false 6584491472163929 (negsuc 52)) (fin false 0 (pos 0))) ∷ [] }; quads = (qd 1 0 3 4 (0, 1) 1 2) ∷ []; blocked = (0, 3) ∷ (1, 4) ∷ []; counts = tally 0 3 1 1 0 0 0 1 0 1 }
 
 st-4 : State
-st-4 = record { mesh = record { points = points-1; used = 10; live = lv 4 (tri (tr 5 3 0)) ∷ lv 5 (tri (tr 5 0 2)) ∷ lv 6 (quad (qd 1 0 3 4 (0, 1) 1 2)) ∷ lv 9 (quad (qd 2 1 4 5 (1, 2) 2 4)) ∷ []; bucket = (fin false 5404319552844595 (negsuc 53)); locked = λ e. false }; quads = (qd 1 0 3 4 (0, 1) 1 2) ∷ (qd 2 1 4 5 (1, 2) 2 4) ∷ []; blocked = (0, 3) ∷ []; counts = tally 0 4 1 1 0 0 0 1 0 2 }
+st-4 = record { mesh = record { points = points-1; used = 10; live = lv 4 (tri (tr 5 3 0)) ∷ lv 5 (tri (tr 5 0 2)) ∷ lv 6 (quad (qd 1 0 3 4 (0, 1) 1 2)) ∷ lv 9 (quad (qd 2 1 4 5 (1, 2) 2 4)) ∷ []; bucket = (fin false 5404319552844595 (negsuc 53)); locked = λ e. false; room = 0; history = was-placed (qd 1 0 3 4 (0, 1) 1 2) (1 ∷ 0 ∷ []) ∷ was-split 2 (pt (fin true 413107796105629 (negsuc 48)) (fin false 6584491472163929 (negsuc 52)) (fin false 0 (pos 0))) ∷ was-placed (qd 2 1 4 5 (1, 2) 2 4) (3 ∷ 8 ∷ 2 ∷ 7 ∷ []) ∷ [] }; quads = (qd 1 0 3 4 (0, 1) 1 2) ∷ (qd 2 1 4 5 (1, 2) 2 4) ∷ []; blocked = (0, 3) ∷ []; counts = tally 0 4 1 1 0 0 0 1 0 2 }
 
 st-5 : State
-st-5 = record { mesh = record { points = points-2; used = 12; live = lv 5 (tri (tr 5 0 2)) ∷ lv 6 (quad (qd 1 0 3 4 (0, 1) 1 2)) ∷ lv 9 (quad (qd 2 1 4 5 (1, 2) 2 4)) ∷ lv 4 (tri (tr 5 3 7)) ∷ lv 10 (tri (tr 3 0 7)) ∷ lv 11 (tri (tr 0 5 7)) ∷ []; bucket = (fin false 5404319552844595 (negsuc 53)); locked = λ e. false }; quads = (qd 1 0 3 4 (0, 1) 1 2) ∷ (qd 2 1 4 5 (1, 2) 2 4) ∷ []; blocked = (2, 5) ∷ (0, 3) ∷ []; counts = tally 0 5 1 2 0 0 0 2 0 2 }
+st-5 = record { mesh = record { points = points-2; used = 12; live = lv 5 (tri (tr 5 0 2)) ∷ lv 6 (quad (qd 1 0 3 4 (0, 1) 1 2)) ∷ lv 9 (quad (qd 2 1 4 5 (1, 2) 2 4)) ∷ lv 4 (tri (tr 5 3 7)) ∷ lv 10 (tri (tr 3 0 7)) ∷ lv 11 (tri (tr 0 5 7)) ∷ []; bucket = (fin false 5404319552844595 (negsuc 53)); locked = λ e. false; room = 0; history = was-placed (qd 1 0 3 4 (0, 1) 1 2) (1 ∷ 0 ∷ []) ∷ was-split 2 (pt (fin true 413107796105629 (negsuc 48)) (fin false 6584491472163929 (negsuc 52)) (fin false 0 (pos 0))) ∷ was-placed (qd 2 1 4 5 (1, 2) 2 4) (3 ∷ 8 ∷ 2 ∷ 7 ∷ []) ∷ was-split 4 (pt (fin true 2397474517050931 (negsuc 52)) (fin true 2254108817735999 (negsuc 50)) (fin false 0 (pos 0))) ∷ [] }; quads = (qd 1 0 3 4 (0, 1) 1 2) ∷ (qd 2 1 4 5 (1, 2) 2 4) ∷ []; blocked = (2, 5) ∷ (0, 3) ∷ []; counts = tally 0 5 1 2 0 0 0 2 0 2 }
 
 st-6 : State
-st-6 = record { mesh = record { points = points-2; used = 13; live = lv 6 (quad (qd 1 0 3 4 (0, 1) 1 2)) ∷ lv 9 (quad (qd 2 1 4 5 (1, 2) 2 4)) ∷ lv 12 (quad (qd 0 2 5 3 (0, 2) 3 4)) ∷ []; bucket = (fin false 5404319552844595 (negsuc 53)); locked = λ e. false }; quads = (qd 1 0 3 4 (0, 1) 1 2) ∷ (qd 2 1 4 5 (1, 2) 2 4) ∷ (qd 0 2 5 3 (0, 2) 3 4) ∷ []; blocked = []; counts = tally 0 6 1 2 0 0 0 2 0 3 }
+st-6 = record { mesh = record { points = points-2; used = 13; live = lv 6 (quad (qd 1 0 3 4 (0, 1) 1 2)) ∷ lv 9 (quad (qd 2 1 4 5 (1, 2) 2 4)) ∷ lv 12 (quad (qd 0 2 5 3 (0, 2) 3 4)) ∷ []; bucket = (fin false 5404319552844595 (negsuc 53)); locked = λ e. false; room = 0; history = was-placed (qd 1 0 3 4 (0, 1) 1 2) (1 ∷ 0 ∷ []) ∷ was-split 2 (pt (fin true 413107796105629 (negsuc 48)) (fin false 6584491472163929 (negsuc 52)) (fin false 0 (pos 0))) ∷ was-placed (qd 2 1 4 5 (1, 2) 2 4) (3 ∷ 8 ∷ 2 ∷ 7 ∷ []) ∷ was-split 4 (pt (fin true 2397474517050931 (negsuc 52)) (fin true 2254108817735999 (negsuc 50)) (fin false 0 (pos 0))) ∷ was-placed (qd 0 2 5 3 (0, 2) 3 4) (5 ∷ 11 ∷ 4 ∷ 10 ∷ []) ∷ [] }; quads = (qd 1 0 3 4 (0, 1) 1 2) ∷ (qd 2 1 4 5 (1, 2) 2 4) ∷ (qd 0 2 5 3 (0, 2) 3 4) ∷ []; blocked = []; counts = tally 0 6 1 2 0 0 0 2 0 3 }
 
 st-7 : State
-st-7 = record { mesh = record { points = points-2; used = 13; live = lv 6 (quad (qd 1 0 3 4 (0, 1) 1 2)) ∷ lv 9 (quad (qd 2 1 4 5 (1, 2) 2 4)) ∷ lv 12 (quad (qd 0 2 5 3 (0, 2) 3 4)) ∷ []; bucket = (fin false 5404319552844595 (negsuc 53)); locked = λ e. false }; quads = (qd 1 0 3 4 (0, 1) 1 2) ∷ (qd 2 1 4 5 (1, 2) 2 4) ∷ (qd 0 2 5 3 (0, 2) 3 4) ∷ []; blocked = []; counts = tally 1 6 1 2 0 0 0 2 0 3 }
+st-7 = record { mesh = record { points = points-2; used = 13; live = lv 6 (quad (qd 1 0 3 4 (0, 1) 1 2)) ∷ lv 9 (quad (qd 2 1 4 5 (1, 2) 2 4)) ∷ lv 12 (quad (qd 0 2 5 3 (0, 2) 3 4)) ∷ []; bucket = (fin false 5404319552844595 (negsuc 53)); locked = λ e. false; room = 0; history = was-placed (qd 1 0 3 4 (0, 1) 1 2) (1 ∷ 0 ∷ []) ∷ was-split 2 (pt (fin true 413107796105629 (negsuc 48)) (fin false 6584491472163929 (negsuc 52)) (fin false 0 (pos 0))) ∷ was-placed (qd 2 1 4 5 (1, 2) 2 4) (3 ∷ 8 ∷ 2 ∷ 7 ∷ []) ∷ was-split 4 (pt (fin true 2397474517050931 (negsuc 52)) (fin true 2254108817735999 (negsuc 50)) (fin false 0 (pos 0))) ∷ was-placed (qd 0 2 5 3 (0, 2) 3 4) (5 ∷ 11 ∷ 4 ∷ 10 ∷ []) ∷ [] }; quads = (qd 1 0 3 4 (0, 1) 1 2) ∷ (qd 2 1 4 5 (1, 2) 2 4) ∷ (qd 0 2 5 3 (0, 2) 3 4) ∷ []; blocked = []; counts = tally 1 6 1 2 0 0 0 2 0 3 }
 
 front-is-0 : front (st-0 .mesh) ≡ (0, 1) ∷ (0, 2) ∷ (1, 2) ∷ (3, 4) ∷ (3, 5) ∷ (4, 5) ∷ []
 unfolding opened-attempts s points-0 points-1 points-2 st-0

@@ -7,7 +7,7 @@ use lib.IntN.{ℤ, pos, negsuc}
 use lib.Ieee.{Float, nan, inf, fin}
 use Rattle.vectors.specs.Opened.{opened-attempts}
 use Rattle.vectors.specs.Steps.{edges-none, edges-stuck, edges-progressed, edges-limited, edges-stopped, loops-none, loops-stuck, loops-progressed, loops-limited, loops-stopped, round-loops, run-progressed, run-stuck, run-limited, run-stopped}
-use Rattle.definition.specs.Cells.{front, Tri, Quad, Cell, tri, quad, Live, Mesh}
+use Rattle.definition.specs.Cells.{front, Tri, Quad, Cell, tri, quad, Live, Event, was-split, was-flipped, was-placed, Mesh}
 use Rattle.definition.specs.Loops.{front-loops}
 use Rattle.definition.specs.Front.{attempt, open-edges, try-edges, round, front-loop, outcome, counting, State, Progress, stuck, progressed, limited, stopped}
 use Rattle.definition.specs.Call.{after-run}
@@ -29,49 +29,49 @@ abbrev lv : ℕ → Cell → Live
 lv n c = record { slot = n; cell = c }
 
 s : Settings
-s = record { quality = base; attempts = max-attempts 6; capacity = 96; slots = 160; size = (fin false 5404319552844595 (negsuc 50)); even = true }
+s = record { quality = base; attempts = max-attempts 6; capacity = 96; slots = 160; room = 0; size = (fin false 5404319552844595 (negsuc 50)); even = true }
 
 points-0 : List Node
 points-0 = pt (fin false 1 (pos 1)) (fin false 0 (pos 0)) (fin false 0 (pos 0)) ∷ pt (fin false 0 (pos 0)) (fin false 0 (pos 0)) (fin false 0 (pos 0)) ∷ pt (fin false 1 (pos 1)) (fin false 1 (pos 2)) (fin false 0 (pos 0)) ∷ pt (fin false 1 (pos 2)) (fin false 0 (pos 0)) (fin false 0 (pos 0)) ∷ pt (fin false 1 (pos 2)) (fin false 1 (pos 1)) (fin false 0 (pos 0)) ∷ pt (fin false 1 (pos 2)) (fin false 1 (pos 2)) (fin false 0 (pos 0)) ∷ pt (fin false 0 (pos 0)) (fin false 1 (pos 1)) (fin false 0 (pos 0)) ∷ pt (fin false 1 (pos 1)) (fin false 1 (pos 1)) (fin false 0 (pos 0)) ∷ pt (fin false 0 (pos 0)) (fin false 1 (pos 2)) (fin false 0 (pos 0)) ∷ []
 
 st-0 : State
-st-0 = record { mesh = record { points = points-0; used = 6; live = lv 0 (tri (tr 1 2 8)) ∷ lv 1 (tri (tr 1 0 6)) ∷ lv 2 (tri (tr 5 3 4)) ∷ lv 3 (tri (tr 4 2 0)) ∷ lv 4 (tri (tr 0 1 8)) ∷ lv 5 (tri (tr 3 5 2)) ∷ []; bucket = (fin false 5404319552844595 (negsuc 50)); locked = λ e. false }; quads = []; blocked = []; counts = tally 0 0 0 0 0 0 0 0 0 0 }
+st-0 = record { mesh = record { points = points-0; used = 6; live = lv 0 (tri (tr 1 2 8)) ∷ lv 1 (tri (tr 1 0 6)) ∷ lv 2 (tri (tr 5 3 4)) ∷ lv 3 (tri (tr 4 2 0)) ∷ lv 4 (tri (tr 0 1 8)) ∷ lv 5 (tri (tr 3 5 2)) ∷ []; bucket = (fin false 5404319552844595 (negsuc 50)); locked = λ e. false; room = 0; history = [] }; quads = []; blocked = []; counts = tally 0 0 0 0 0 0 0 0 0 0 }
 
 st-1 : State
-st-1 = record { mesh = record { points = points-0; used = 6; live = lv 0 (tri (tr 1 2 8)) ∷ lv 1 (tri (tr 1 0 6)) ∷ lv 2 (tri (tr 5 3 4)) ∷ lv 3 (tri (tr 4 2 0)) ∷ lv 4 (tri (tr 0 1 8)) ∷ lv 5 (tri (tr 3 5 2)) ∷ []; bucket = (fin false 5404319552844595 (negsuc 50)); locked = λ e. false }; quads = []; blocked = (1, 6) ∷ []; counts = tally 0 1 0 1 0 0 0 0 0 0 }
+st-1 = record { mesh = record { points = points-0; used = 6; live = lv 0 (tri (tr 1 2 8)) ∷ lv 1 (tri (tr 1 0 6)) ∷ lv 2 (tri (tr 5 3 4)) ∷ lv 3 (tri (tr 4 2 0)) ∷ lv 4 (tri (tr 0 1 8)) ∷ lv 5 (tri (tr 3 5 2)) ∷ []; bucket = (fin false 5404319552844595 (negsuc 50)); locked = λ e. false; room = 0; history = [] }; quads = []; blocked = (1, 6) ∷ []; counts = tally 0 1 0 1 0 0 0 0 0 0 }
 
 st-2 : State
-st-2 = record { mesh = record { points = points-0; used = 6; live = lv 0 (tri (tr 1 2 8)) ∷ lv 1 (tri (tr 1 0 6)) ∷ lv 2 (tri (tr 5 3 4)) ∷ lv 3 (tri (tr 4 2 0)) ∷ lv 4 (tri (tr 0 1 8)) ∷ lv 5 (tri (tr 3 5 2)) ∷ []; bucket = (fin false 5404319552844595 (negsuc 50)); locked = λ e. false }; quads = []; blocked = (0, 6) ∷ (1, 6) ∷ []; counts = tally 0 2 0 2 0 0 0 0 0 0 }
+st-2 = record { mesh = record { points = points-0; used = 6; live = lv 0 (tri (tr 1 2 8)) ∷ lv 1 (tri (tr 1 0 6)) ∷ lv 2 (tri (tr 5 3 4)) ∷ lv 3 (tri (tr 4 2 0)) ∷ lv 4 (tri (tr 0 1 8)) ∷ lv 5 (tri (tr 3 5 2)) ∷ []; bucket = (fin false 5404319552844595 (negsuc 50)); locked = λ e. false; room = 0; history = [] }; quads = []; blocked = (0, 6) ∷ (1, 6) ∷ []; counts = tally 0 2 0 2 0 0 0 0 0 0 }
 
 st-3 : State
-st-3 = record { mesh = record { points = points-0; used = 6; live = lv 0 (tri (tr 1 2 8)) ∷ lv 1 (tri (tr 1 0 6)) ∷ lv 2 (tri (tr 5 3 4)) ∷ lv 3 (tri (tr 4 2 0)) ∷ lv 4 (tri (tr 0 1 8)) ∷ lv 5 (tri (tr 3 5 2)) ∷ []; bucket = (fin false 5404319552844595 (negsuc 50)); locked = λ e. false }; quads = []; blocked = (0, 2) ∷ (0, 6) ∷ (1, 6) ∷ []; counts = tally 0 3 0 3 0 0 0 0 0 0 }
+st-3 = record { mesh = record { points = points-0; used = 6; live = lv 0 (tri (tr 1 2 8)) ∷ lv 1 (tri (tr 1 0 6)) ∷ lv 2 (tri (tr 5 3 4)) ∷ lv 3 (tri (tr 4 2 0)) ∷ lv 4 (tri (tr 0 1 8)) ∷ lv 5 (tri (tr 3 5 2)) ∷ []; bucket = (fin false 5404319552844595 (negsuc 50)); locked = λ e. false; room = 0; history = [] }; quads = []; blocked = (0, 2) ∷ (0, 6) ∷ (1, 6) ∷ []; counts = tally 0 3 0 3 0 0 0 0 0 0 }
 
 st-4 : State
-st-4 = record { mesh = record { points = points-0; used = 6; live = lv 0 (tri (tr 1 2 8)) ∷ lv 1 (tri (tr 1 0 6)) ∷ lv 2 (tri (tr 5 3 4)) ∷ lv 3 (tri (tr 4 2 0)) ∷ lv 4 (tri (tr 0 1 8)) ∷ lv 5 (tri (tr 3 5 2)) ∷ []; bucket = (fin false 5404319552844595 (negsuc 50)); locked = λ e. false }; quads = []; blocked = (1, 2) ∷ (0, 2) ∷ (0, 6) ∷ (1, 6) ∷ []; counts = tally 0 4 0 4 0 0 0 0 0 0 }
+st-4 = record { mesh = record { points = points-0; used = 6; live = lv 0 (tri (tr 1 2 8)) ∷ lv 1 (tri (tr 1 0 6)) ∷ lv 2 (tri (tr 5 3 4)) ∷ lv 3 (tri (tr 4 2 0)) ∷ lv 4 (tri (tr 0 1 8)) ∷ lv 5 (tri (tr 3 5 2)) ∷ []; bucket = (fin false 5404319552844595 (negsuc 50)); locked = λ e. false; room = 0; history = [] }; quads = []; blocked = (1, 2) ∷ (0, 2) ∷ (0, 6) ∷ (1, 6) ∷ []; counts = tally 0 4 0 4 0 0 0 0 0 0 }
 
 st-5 : State
-st-5 = record { mesh = record { points = points-0; used = 6; live = lv 0 (tri (tr 1 2 8)) ∷ lv 1 (tri (tr 1 0 6)) ∷ lv 2 (tri (tr 5 3 4)) ∷ lv 3 (tri (tr 4 2 0)) ∷ lv 4 (tri (tr 0 1 8)) ∷ lv 5 (tri (tr 3 5 2)) ∷ []; bucket = (fin false 5404319552844595 (negsuc 50)); locked = λ e. false }; quads = []; blocked = (2, 5) ∷ (1, 2) ∷ (0, 2) ∷ (0, 6) ∷ (1, 6) ∷ []; counts = tally 0 5 0 5 0 0 0 0 0 0 }
+st-5 = record { mesh = record { points = points-0; used = 6; live = lv 0 (tri (tr 1 2 8)) ∷ lv 1 (tri (tr 1 0 6)) ∷ lv 2 (tri (tr 5 3 4)) ∷ lv 3 (tri (tr 4 2 0)) ∷ lv 4 (tri (tr 0 1 8)) ∷ lv 5 (tri (tr 3 5 2)) ∷ []; bucket = (fin false 5404319552844595 (negsuc 50)); locked = λ e. false; room = 0; history = [] }; quads = []; blocked = (2, 5) ∷ (1, 2) ∷ (0, 2) ∷ (0, 6) ∷ (1, 6) ∷ []; counts = tally 0 5 0 5 0 0 0 0 0 0 }
 
 st-6 : State
-st-6 = record { mesh = record { points = points-0; used = 6; live = lv 0 (tri (tr 1 2 8)) ∷ lv 1 (tri (tr 1 0 6)) ∷ lv 2 (tri (tr 5 3 4)) ∷ lv 3 (tri (tr 4 2 0)) ∷ lv 4 (tri (tr 0 1 8)) ∷ lv 5 (tri (tr 3 5 2)) ∷ []; bucket = (fin false 5404319552844595 (negsuc 50)); locked = λ e. false }; quads = []; blocked = (2, 8) ∷ (2, 5) ∷ (1, 2) ∷ (0, 2) ∷ (0, 6) ∷ (1, 6) ∷ []; counts = tally 0 6 0 5 1 0 0 0 0 2 }
+st-6 = record { mesh = record { points = points-0; used = 6; live = lv 0 (tri (tr 1 2 8)) ∷ lv 1 (tri (tr 1 0 6)) ∷ lv 2 (tri (tr 5 3 4)) ∷ lv 3 (tri (tr 4 2 0)) ∷ lv 4 (tri (tr 0 1 8)) ∷ lv 5 (tri (tr 3 5 2)) ∷ []; bucket = (fin false 5404319552844595 (negsuc 50)); locked = λ e. false; room = 0; history = [] }; quads = []; blocked = (2, 8) ∷ (2, 5) ∷ (1, 2) ∷ (0, 2) ∷ (0, 6) ∷ (1, 6) ∷ []; counts = tally 0 6 0 5 1 0 0 0 0 2 }
 
 st-7 : State
-st-7 = record { mesh = record { points = points-0; used = 6; live = lv 0 (tri (tr 1 2 8)) ∷ lv 1 (tri (tr 1 0 6)) ∷ lv 2 (tri (tr 5 3 4)) ∷ lv 3 (tri (tr 4 2 0)) ∷ lv 4 (tri (tr 0 1 8)) ∷ lv 5 (tri (tr 3 5 2)) ∷ []; bucket = (fin false 5404319552844595 (negsuc 50)); locked = λ e. false }; quads = []; blocked = (3, 4) ∷ (2, 8) ∷ (2, 5) ∷ (1, 2) ∷ (0, 2) ∷ (0, 6) ∷ (1, 6) ∷ []; counts = tally 0 7 0 6 1 0 0 0 0 2 }
+st-7 = record { mesh = record { points = points-0; used = 6; live = lv 0 (tri (tr 1 2 8)) ∷ lv 1 (tri (tr 1 0 6)) ∷ lv 2 (tri (tr 5 3 4)) ∷ lv 3 (tri (tr 4 2 0)) ∷ lv 4 (tri (tr 0 1 8)) ∷ lv 5 (tri (tr 3 5 2)) ∷ []; bucket = (fin false 5404319552844595 (negsuc 50)); locked = λ e. false; room = 0; history = [] }; quads = []; blocked = (3, 4) ∷ (2, 8) ∷ (2, 5) ∷ (1, 2) ∷ (0, 2) ∷ (0, 6) ∷ (1, 6) ∷ []; counts = tally 0 7 0 6 1 0 0 0 0 2 }
 
 st-8 : State
-st-8 = record { mesh = record { points = points-0; used = 6; live = lv 0 (tri (tr 1 2 8)) ∷ lv 1 (tri (tr 1 0 6)) ∷ lv 2 (tri (tr 5 3 4)) ∷ lv 3 (tri (tr 4 2 0)) ∷ lv 4 (tri (tr 0 1 8)) ∷ lv 5 (tri (tr 3 5 2)) ∷ []; bucket = (fin false 5404319552844595 (negsuc 50)); locked = λ e. false }; quads = []; blocked = (4, 5) ∷ (3, 4) ∷ (2, 8) ∷ (2, 5) ∷ (1, 2) ∷ (0, 2) ∷ (0, 6) ∷ (1, 6) ∷ []; counts = tally 0 8 1 6 1 0 0 0 0 2 }
+st-8 = record { mesh = record { points = points-0; used = 6; live = lv 0 (tri (tr 1 2 8)) ∷ lv 1 (tri (tr 1 0 6)) ∷ lv 2 (tri (tr 5 3 4)) ∷ lv 3 (tri (tr 4 2 0)) ∷ lv 4 (tri (tr 0 1 8)) ∷ lv 5 (tri (tr 3 5 2)) ∷ []; bucket = (fin false 5404319552844595 (negsuc 50)); locked = λ e. false; room = 0; history = [] }; quads = []; blocked = (4, 5) ∷ (3, 4) ∷ (2, 8) ∷ (2, 5) ∷ (1, 2) ∷ (0, 2) ∷ (0, 6) ∷ (1, 6) ∷ []; counts = tally 0 8 1 6 1 0 0 0 0 2 }
 
 st-9 : State
-st-9 = record { mesh = record { points = points-0; used = 6; live = lv 0 (tri (tr 1 2 8)) ∷ lv 1 (tri (tr 1 0 6)) ∷ lv 2 (tri (tr 5 3 4)) ∷ lv 3 (tri (tr 4 2 0)) ∷ lv 4 (tri (tr 0 1 8)) ∷ lv 5 (tri (tr 3 5 2)) ∷ []; bucket = (fin false 5404319552844595 (negsuc 50)); locked = λ e. false }; quads = []; blocked = (0, 4) ∷ (4, 5) ∷ (3, 4) ∷ (2, 8) ∷ (2, 5) ∷ (1, 2) ∷ (0, 2) ∷ (0, 6) ∷ (1, 6) ∷ []; counts = tally 0 9 1 6 1 1 0 0 0 3 }
+st-9 = record { mesh = record { points = points-0; used = 6; live = lv 0 (tri (tr 1 2 8)) ∷ lv 1 (tri (tr 1 0 6)) ∷ lv 2 (tri (tr 5 3 4)) ∷ lv 3 (tri (tr 4 2 0)) ∷ lv 4 (tri (tr 0 1 8)) ∷ lv 5 (tri (tr 3 5 2)) ∷ []; bucket = (fin false 5404319552844595 (negsuc 50)); locked = λ e. false; room = 0; history = [] }; quads = []; blocked = (0, 4) ∷ (4, 5) ∷ (3, 4) ∷ (2, 8) ∷ (2, 5) ∷ (1, 2) ∷ (0, 2) ∷ (0, 6) ∷ (1, 6) ∷ []; counts = tally 0 9 1 6 1 1 0 0 0 3 }
 
 st-10 : State
-st-10 = record { mesh = record { points = points-0; used = 6; live = lv 0 (tri (tr 1 2 8)) ∷ lv 1 (tri (tr 1 0 6)) ∷ lv 2 (tri (tr 5 3 4)) ∷ lv 3 (tri (tr 4 2 0)) ∷ lv 4 (tri (tr 0 1 8)) ∷ lv 5 (tri (tr 3 5 2)) ∷ []; bucket = (fin false 5404319552844595 (negsuc 50)); locked = λ e. false }; quads = []; blocked = (2, 4) ∷ (0, 4) ∷ (4, 5) ∷ (3, 4) ∷ (2, 8) ∷ (2, 5) ∷ (1, 2) ∷ (0, 2) ∷ (0, 6) ∷ (1, 6) ∷ []; counts = tally 0 10 1 6 1 2 0 0 0 4 }
+st-10 = record { mesh = record { points = points-0; used = 6; live = lv 0 (tri (tr 1 2 8)) ∷ lv 1 (tri (tr 1 0 6)) ∷ lv 2 (tri (tr 5 3 4)) ∷ lv 3 (tri (tr 4 2 0)) ∷ lv 4 (tri (tr 0 1 8)) ∷ lv 5 (tri (tr 3 5 2)) ∷ []; bucket = (fin false 5404319552844595 (negsuc 50)); locked = λ e. false; room = 0; history = [] }; quads = []; blocked = (2, 4) ∷ (0, 4) ∷ (4, 5) ∷ (3, 4) ∷ (2, 8) ∷ (2, 5) ∷ (1, 2) ∷ (0, 2) ∷ (0, 6) ∷ (1, 6) ∷ []; counts = tally 0 10 1 6 1 2 0 0 0 4 }
 
 st-11 : State
-st-11 = record { mesh = record { points = points-0; used = 6; live = lv 0 (tri (tr 1 2 8)) ∷ lv 1 (tri (tr 1 0 6)) ∷ lv 2 (tri (tr 5 3 4)) ∷ lv 3 (tri (tr 4 2 0)) ∷ lv 4 (tri (tr 0 1 8)) ∷ lv 5 (tri (tr 3 5 2)) ∷ []; bucket = (fin false 5404319552844595 (negsuc 50)); locked = λ e. false }; quads = []; blocked = (0, 8) ∷ (2, 4) ∷ (0, 4) ∷ (4, 5) ∷ (3, 4) ∷ (2, 8) ∷ (2, 5) ∷ (1, 2) ∷ (0, 2) ∷ (0, 6) ∷ (1, 6) ∷ []; counts = tally 0 11 1 7 1 2 0 0 0 4 }
+st-11 = record { mesh = record { points = points-0; used = 6; live = lv 0 (tri (tr 1 2 8)) ∷ lv 1 (tri (tr 1 0 6)) ∷ lv 2 (tri (tr 5 3 4)) ∷ lv 3 (tri (tr 4 2 0)) ∷ lv 4 (tri (tr 0 1 8)) ∷ lv 5 (tri (tr 3 5 2)) ∷ []; bucket = (fin false 5404319552844595 (negsuc 50)); locked = λ e. false; room = 0; history = [] }; quads = []; blocked = (0, 8) ∷ (2, 4) ∷ (0, 4) ∷ (4, 5) ∷ (3, 4) ∷ (2, 8) ∷ (2, 5) ∷ (1, 2) ∷ (0, 2) ∷ (0, 6) ∷ (1, 6) ∷ []; counts = tally 0 11 1 7 1 2 0 0 0 4 }
 
 st-12 : State
-st-12 = record { mesh = record { points = points-0; used = 6; live = lv 0 (tri (tr 1 2 8)) ∷ lv 1 (tri (tr 1 0 6)) ∷ lv 2 (tri (tr 5 3 4)) ∷ lv 3 (tri (tr 4 2 0)) ∷ lv 4 (tri (tr 0 1 8)) ∷ lv 5 (tri (tr 3 5 2)) ∷ []; bucket = (fin false 5404319552844595 (negsuc 50)); locked = λ e. false }; quads = []; blocked = (2, 3) ∷ (0, 8) ∷ (2, 4) ∷ (0, 4) ∷ (4, 5) ∷ (3, 4) ∷ (2, 8) ∷ (2, 5) ∷ (1, 2) ∷ (0, 2) ∷ (0, 6) ∷ (1, 6) ∷ []; counts = tally 0 12 1 8 1 2 0 0 0 4 }
+st-12 = record { mesh = record { points = points-0; used = 6; live = lv 0 (tri (tr 1 2 8)) ∷ lv 1 (tri (tr 1 0 6)) ∷ lv 2 (tri (tr 5 3 4)) ∷ lv 3 (tri (tr 4 2 0)) ∷ lv 4 (tri (tr 0 1 8)) ∷ lv 5 (tri (tr 3 5 2)) ∷ []; bucket = (fin false 5404319552844595 (negsuc 50)); locked = λ e. false; room = 0; history = [] }; quads = []; blocked = (2, 3) ∷ (0, 8) ∷ (2, 4) ∷ (0, 4) ∷ (4, 5) ∷ (3, 4) ∷ (2, 8) ∷ (2, 5) ∷ (1, 2) ∷ (0, 2) ∷ (0, 6) ∷ (1, 6) ∷ []; counts = tally 0 12 1 8 1 2 0 0 0 4 }
 
 front-is-0 : front (st-0 .mesh) ≡ (0, 2) ∷ (0, 4) ∷ (0, 6) ∷ (0, 8) ∷ (1, 2) ∷ (1, 6) ∷ (2, 3) ∷ (2, 4) ∷ (2, 5) ∷ (2, 8) ∷ (3, 4) ∷ (4, 5) ∷ []
 unfolding opened-attempts s points-0 st-0

@@ -1,6 +1,6 @@
 -- One attempt: `try_quad` of the Rust, from its last step to its first.
 use mathlib.Core.Bool.{Bool, true, false, not, _&&_, _||_, cond}
-use mathlib.Core.List.{List, [], _∷_}
+use mathlib.Core.List.{List, [], _∷_, map}
 use mathlib.Core.Option.{Option, none, some}
 use Prim.Native.Nat.{ℕ, _+_}
 use lib.Dec.{ltb}
@@ -8,9 +8,10 @@ use lib.ListN.{length}
 use lib.Ieee.{Float, neg}
 use Rattle.definition.specs.Floats.{_⊘_, _≺_, _≼_, 0·0}
 use Rattle.definition.specs.Numbers.{Settings, Turn, first-turn, second-turn, tiny-length}
-use Rattle.definition.specs.Counts.{Refusal, Placement, Shape, Recovery, Region, OddRegion, Want, of-slots, Spent, nothing-spent, inserting, trying}
+use Rattle.definition.specs.Counts.{Refusal, Placement, Shape, Recovery, Region, OddRegion, Want, of-slots, of-trace, Spent, nothing-spent, inserting, trying}
 use Rattle.definition.specs.Plane.{Vec, Edge, cross, norm, from-to, edge-length, size-mismatch}
-use Rattle.definition.specs.Cells.{Tri, Quad, Cell, tri, quad, Live, Mesh, born, node-at, tri-owner, this-round, remove-cells, push-cell}
+use Rattle.definition.specs.Cells.{Tri, Quad, Cell, tri, quad, Live, was-placed, Mesh, born, node-at, tri-owner, this-round, noting, remove-cells, push-cell}
+use Rattle.definition.specs.Trace.{in-room}
 use Rattle.definition.specs.Flips.{third, Recovered, recover}
 use Rattle.definition.specs.Candidates.{candidates}
 use Rattle.definition.specs.Insertion.{Inserted, nowhere, inserted, full, insert-along}
@@ -20,35 +21,36 @@ use Rattle.definition.specs.Trials.{Trial, trials}
 
 -- ---- one pair
 
--- the quad stands; the pair failed, and the next one's turn comes; no triangle owns the edge any more; no slot is left for the quad.
+-- the quad stands; the pair failed, and the next one's turn comes; no triangle owns the edge any more; lent memory is wanting.
 -- The number is that of the pair's flips; those of a pair that failed stay.
 pub data Tried : Type 0 where
   made : ℕ → Quad → Mesh → Tried
   failed : ℕ → Refusal → Mesh → Tried
   orphaned : Tried
-  no-slot : ℕ → Mesh → Tried
+  lacking : Want → ℕ → Mesh → Tried
 
 -- k flips more
 unfoldable pub flipping : ℕ → Recovered → Recovered
-flipping k r = record { there = r .there; flips = k + r .flips; mesh = r .mesh }
+flipping k r = record { there = r .there; short = r .short; flips = k + r .flips; mesh = r .mesh }
 
 -- the sides one after the other, until one cannot be recovered
 unfoldable pub recover-all : Mesh → List Edge → Recovered
-recover-all m [] = record { there = true; flips = 0; mesh = m }
+recover-all m [] = record { there = true; short = false; flips = 0; mesh = m }
 recover-all m (e ∷ es) =
     let r = recover m (e .0) (e .1) in
     elim (r .there) [ true ↦ flipping (r .flips) (recover-all (r .mesh) es) | false ↦ r ]
 
 -- the quad in place of the region's cells, in a slot of its own
 unfoldable pub replaced : Mesh → Quad → List Live → Mesh
-replaced m q cells = push-cell (remove-cells m cells) (quad q)
+replaced m q cells = noting (was-placed q (map (λ x. x .slot) cells)) (push-cell (remove-cells m cells) (quad q))
 
--- with its birth, if a slot is left; k flips were made
+-- with its birth, if a slot is left and the entry fits the trace; k flips were made
 unfoldable pub replace : Settings → ℕ → Mesh → Quad → List Live → Tried
 replace s k m q cells =
     let b = born (this-round m) (length cells) q in
-    let done = made k b (replaced m b cells) in
-    cond (ltb (s .slots) (m .used + 1)) (no-slot k m) done
+    let done = replaced m b cells in
+    let entered = cond (in-room done) (made k b done) (lacking of-trace k m) in
+    cond (ltb (s .slots) (m .used + 1)) (lacking of-slots k m) entered
 
 -- the region is refused, or is refused as odd, or gives way to the quad, after k flips
 unfoldable pub try-region : Settings → ℕ → Mesh → Quad → Option (List Live) → Tried
@@ -61,7 +63,7 @@ try-region s k m q (some cells) =
 unfoldable pub try-recovered : Settings → ℕ → Quad → Recovered → Tried
 try-recovered s seed q r =
     let next = try-region s (r .flips) (r .mesh) q (region (r .mesh) seed q) in
-    cond (r .there) next (failed (r .flips) Recovery (r .mesh))
+    cond (r .there) next (cond (r .short) (lacking of-trace (r .flips) (r .mesh)) (failed (r .flips) Recovery (r .mesh)))
 
 -- the sides of the quad a b d c that are not the front edge a b, in the order in which they are recovered
 unfoldable pub open-sides : Quad → List Edge
@@ -88,7 +90,7 @@ try-pairs s n m e last (t ∷ ts) =
       | made k q m′ ↦ placed (trying k n) m′ q
       | failed k why m′ ↦ try-pairs s (trying k n) m′ e why ts
       | orphaned ↦ refused Placement n m
-      | no-slot k m′ ↦ ended of-slots (trying k n) m′
+      | lacking w k m′ ↦ ended w (trying k n) m′
     ]
 
 -- without a pair the attempt is refused under the shape

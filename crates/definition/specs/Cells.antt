@@ -36,14 +36,22 @@ pub record Live : Type 0 where
   pub slot : ℕ
   pub cell : Cell
 
--- The points; how many slots were given out so far; the live cells; the bucket's side; and which edges are locked. All else that the Rust's `CellMesh` holds follows
--- from these. A removed cell's slot is never used again.
+-- what changed a mesh: the triangle in a slot was split at a point; an edge was flipped; a quad was placed on the cells of some slots, in the region's order
+pub data Event : Type 0 where
+  was-split : ℕ → Node → Event
+  was-flipped : Edge → Event
+  was-placed : Quad → List ℕ → Event
+
+-- The points; how many slots were given out so far; the live cells; the bucket's side; which edges are locked; the words of the lent trace, 0 where none is lent; and
+-- what happened so far. All else that the Rust's `CellMesh` holds follows from these. A removed cell's slot is never used again.
 pub record Mesh : Type 0 where
   pub points : List Node
   pub used : ℕ
   pub live : List Live
   pub bucket : Float
   pub locked : Edge → Bool
+  pub room : ℕ
+  pub history : List Event
 
 -- the triangle of three nodes
 unfoldable pub new-tri : ℕ → ℕ → ℕ → Tri
@@ -230,7 +238,12 @@ front m = flat-map (front-at m) (below (length (m .points)))
 
 -- the mesh with other live cells
 unfoldable pub with-live : Mesh → ℕ → List Live → Mesh
-with-live m n xs = record { points = m .points; used = n; live = xs; bucket = m .bucket; locked = m .locked }
+with-live m n xs = record { points = m .points; used = n; live = xs; bucket = m .bucket; locked = m .locked; room = m .room; history = m .history }
+
+-- one event more
+unfoldable pub noting : Event → Mesh → Mesh
+noting v m =
+    record { points = m .points; used = m .used; live = m .live; bucket = m .bucket; locked = m .locked; room = m .room; history = m .history ++ (v ∷ []) }
 
 -- the cells in other slots
 unfoldable pub without : ℕ → List Live → List Live

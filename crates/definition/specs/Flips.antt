@@ -9,7 +9,8 @@ use Rattle.definition.specs.Lists.{filter, first, sort}
 use Rattle.definition.specs.Floats.{_⊗_, _⊘_, _≼_, lesser, greater, 0·0}
 use Rattle.definition.specs.Root.{floor}
 use Rattle.definition.specs.Plane.{Node, Edge, side, segments-cross}
-use Rattle.definition.specs.Cells.{Tri, Cell, tri, quad, Live, Mesh, new-tri, edge-before, touches, node-at, owners, has-edge, is-locked, all-edges, set-cell}
+use Rattle.definition.specs.Cells.{Tri, Cell, tri, quad, Live, was-flipped, Mesh, new-tri, edge-before, touches, node-at, owners, has-edge, is-locked, all-edges, noting, set-cell}
+use Rattle.definition.specs.Trace.{in-room}
 
 -- ---- flip
 
@@ -53,7 +54,7 @@ set-tris m i s j t = set-cell (set-cell m i (tri s)) j (tri t)
 
 -- the other diagonal, with the winding of the first triangle
 unfoldable pub flipped : Mesh → Edge → ℕ → Tri → ℕ → ℕ → ℕ → Mesh
-flipped m e i t j p q = set-tris m i (first-turned (runs t e) e p q) j (second-turned (runs t e) e p q)
+flipped m e i t j p q = noting (was-flipped e) (set-tris m i (first-turned (runs t e) e p q) j (second-turned (runs t e) e p q))
 
 -- the third nodes are p and q
 unfoldable pub flip-tris : Mesh → Edge → ℕ → Tri → ℕ → Tri → Option Mesh
@@ -118,21 +119,25 @@ unfoldable pub flip-first : Mesh → Option Edge → Option Mesh
 flip-first m none = none
 flip-first m (some e) = flip m e
 
--- whether the edge is there, the flips made, and the mesh after them
+-- whether the edge is there; whether the recovery ended for want of trace; the flips made, and the mesh after them
 pub record Recovered : Type 0 where
   pub there : Bool
+  pub short : Bool
   pub flips : ℕ
   pub mesh : Mesh
 
--- at most n flips after the k made so far; the flips made stay
+-- at most n flips after the k made so far; the flips made stay. A flip whose entry does not fit the lent trace is not made.
 unfoldable pub recover-in : ℕ → ℕ → Mesh → ℕ → ℕ → Recovered
-recover-in zero k m u v = record { there = has-edge m u v; flips = k; mesh = m }
+recover-in zero k m u v = record { there = has-edge m u v; short = false; flips = k; mesh = m }
 recover-in (suc n) k m u v =
     elim (has-edge m u v) [
-      | true ↦ record { there = true; flips = k; mesh = m }
+      | true ↦ record { there = true; short = false; flips = k; mesh = m }
       | false ↦ elim (flip-first m (first-crossing m u v)) [
-        | none ↦ record { there = false; flips = k; mesh = m }
-        | some flipped-once ↦ recover-in n (suc k) flipped-once u v
+        | none ↦ record { there = false; short = false; flips = k; mesh = m }
+        | some flipped-once ↦ elim (in-room flipped-once) [
+          | true ↦ recover-in n (suc k) flipped-once u v
+          | false ↦ record { there = false; short = true; flips = k; mesh = m }
+        ]
       ]
     ]
 

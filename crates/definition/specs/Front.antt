@@ -10,6 +10,7 @@ use Rattle.definition.specs.Numbers.{Settings, max-triangles, tiny-size}
 use Rattle.definition.specs.Counts.{Counts, _⊞_, no-counts, emptied, one-attempt, nothing-spent, spending, at-limit, Placement, refused-by, Want}
 use Rattle.definition.specs.Plane.{Node, Edge}
 use Rattle.definition.specs.Cells.{Tri, Quad, tri, Live, Mesh, new-live, quad-nodes, has-edge-in, is-front, live-tris, triangles, front}
+use Rattle.definition.specs.Trace.{traced}
 use Rattle.definition.specs.Components.{component-sizes}
 use Rattle.definition.specs.Loops.{front-loops, by-length}
 use Rattle.definition.specs.Attempt.{Attempt, placed, refused, ended, try-quad}
@@ -129,20 +130,30 @@ pub record Result : Type 0 where
   pub triangles : List Tri
   pub points : List Node
   pub sizes : List ℕ
+  pub trace : List ℕ
 
--- ran to its end, also where a limit ended the run; or ended for want of lent memory, with the points and the quads so far
+-- ran to its end, also where a limit ended the run; or ended for want of lent memory, with the points, the quads and the entries so far
 pub data Outcome : Type 0 where
   ran : Result → Outcome
-  wanting : Want → List Node → List Quad → Outcome
+  wanting : Want → List Node → List Quad → List ℕ → Outcome
 
 -- each given triangle in the slot of its place
 unfoldable pub in-slots : ℕ → List Tri → List Live
 in-slots n [] = []
 in-slots n (t ∷ ts) = new-live n (tri t) ∷ in-slots (suc n) ts
 
--- `CellMesh::new`: every given triangle live; without a size the bucket is 1.0; these edges are locked
+-- `CellMesh::new`: every given triangle live; without a size the bucket is 1.0; these edges are locked; nothing happened
 unfoldable pub new-mesh : Settings → (Edge → Bool) → List Tri → List Node → Mesh
-new-mesh s locked ts ps = record { points = ps; used = length ts; live = in-slots 0 ts; bucket = cond (tiny-size ≺ s .size) (s .size) 1·0; locked = locked }
+new-mesh s locked ts ps =
+    record {
+      points = ps;
+      used = length ts;
+      live = in-slots 0 ts;
+      bucket = cond (tiny-size ≺ s .size) (s .size) 1·0;
+      locked = locked;
+      room = s .room;
+      history = [];
+    }
 
 -- the given mesh, nothing made, blocked or counted
 unfoldable pub start : Settings → (Edge → Bool) → List Tri → List Node → State
@@ -154,18 +165,18 @@ start s locked ts ps =
       counts = no-counts;
     }
 
--- the leftover triangles by ascending slot, and the sizes of their components
+-- the leftover triangles by ascending slot, the sizes of their components, and the trace
 unfoldable pub result : State → Result
 result st =
     let left = triangles (st .mesh) in
-    record { counts = st .counts; quads = st .quads; triangles = left; points = st .mesh .points; sizes = component-sizes left }
+    record { counts = st .counts; quads = st .quads; triangles = left; points = st .mesh .points; sizes = component-sizes left; trace = traced (st .mesh) }
 
 -- the end of a run
 unfoldable pub outcome : Progress → Outcome
 outcome (stuck st) = ran (result st)
 outcome (progressed st) = ran (result st)
 outcome (limited st) = ran (result st)
-outcome (stopped w st) = wanting w (st .mesh .points) (st .quads)
+outcome (stopped w st) = wanting w (st .mesh .points) (st .quads) (traced (st .mesh))
 
 -- rounds enough: each that places a quad makes an attempt, and at most `attempts` are made
 unfoldable pub run-front : Settings → (Edge → Bool) → List Tri → List Node → Outcome

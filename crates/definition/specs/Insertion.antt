@@ -9,9 +9,10 @@ use lib.Ieee.{Float}
 use Rattle.definition.specs.Lists.{all, find}
 use Rattle.definition.specs.Floats.{_⊕_, _⊗_, _≺_}
 use Rattle.definition.specs.Numbers.{Settings, insert-shares, node-spacing, insert-reach}
-use Rattle.definition.specs.Counts.{Want, of-points, of-slots}
+use Rattle.definition.specs.Counts.{Want, of-points, of-slots, of-trace}
 use Rattle.definition.specs.Plane.{Node, Vec, flat, point-strictly-inside, dist}
-use Rattle.definition.specs.Cells.{Tri, Cell, tri, quad, Live, Mesh, new-tri, nodes, node-at, cell-of, in-slot-order, set-cell, push-cell}
+use Rattle.definition.specs.Cells.{Tri, Cell, tri, quad, Live, was-split, Mesh, new-tri, nodes, node-at, cell-of, in-slot-order, noting, set-cell, push-cell}
+use Rattle.definition.specs.Trace.{in-room}
 use Rattle.definition.specs.Candidates.{live-region}
 
 -- no place found; a new node and the mesh with it; or the run ends, and the mesh stays
@@ -44,22 +45,25 @@ holder m seed p = find (λ x. holds m p (x .cell)) (live-region m seed p (insert
 
 -- a point added after the others
 unfoldable pub with-point : Mesh → Node → Mesh
-with-point m p = record { points = m .points ++ (p ∷ []); used = m .used; live = m .live; bucket = m .bucket; locked = m .locked }
+with-point m p =
+    record { points = m .points ++ (p ∷ []); used = m .used; live = m .live; bucket = m .bucket; locked = m .locked; room = m .room; history = m .history }
 
 -- the first third keeps the slot; the other two take new ones
 unfoldable pub split-triangle : Mesh → ℕ → Tri → Node → Mesh
 split-triangle m id t p =
     let v = length (m .points) in
-    push-cell
+    noting (was-split id p)
+    (push-cell
     (push-cell (set-cell (with-point m p) id (tri (new-tri (t .n0) (t .n1) v))) (tri (new-tri (t .n1) (t .n2) v)))
-    (tri (new-tri (t .n2) (t .n0) v))
+    (tri (new-tri (t .n2) (t .n0) v)))
 
--- a triangle split at p, if a point and two slots are free
+-- a triangle split at p, if a point and two slots are free and the entry fits the trace
 unfoldable pub split : Settings → Mesh → Node → ℕ → Cell → Inserted
 split s m p id (quad q) = nowhere
 split s m p id (tri t) =
-    let done = inserted (length (m .points)) (split-triangle m id t p) in
-    cond (leb (s .capacity) (length (m .points))) (full of-points) (cond (ltb (s .slots) (m .used + 2)) (full of-slots) done)
+    let done = split-triangle m id t p in
+    let entered = cond (in-room done) (inserted (length (m .points)) done) (full of-trace) in
+    cond (leb (s .capacity) (length (m .points))) (full of-points) (cond (ltb (s .slots) (m .used + 2)) (full of-slots) entered)
 
 -- split where no node is too near
 unfoldable pub split-clear : Settings → Mesh → Node → Float → Option Live → Inserted

@@ -82,7 +82,7 @@ after-mesh j l p = record { returned = after-run l (outcome p); charged = charge
 unfoldable pub run-mesh : Job → Asked → Lent → Job-returned
 run-mesh j a l =
     elim (find (λ c. c .1) (conditions a l)) [
-      | none ↦ after-mesh j l (rounds-of (settings-within (job-limit j a) a) (given-locks a l) (given-tris a l) (given-points a l))
+      | none ↦ after-mesh j l (rounds-of (settings-within (job-limit j a) (length (l .trace)) a) (given-locks a l) (given-tris a l) (given-points a l))
       | some c ↦ record { returned = untouched (c .0) l; charged = 0; next = handed-on j 0 }
     ]
 

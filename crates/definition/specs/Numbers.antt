@@ -105,11 +105,13 @@ max-triangles given = 4 * given + 100
 
 -- ---- what a run goes by
 
--- what a run is given beside the mesh: the quality set, the most attempts, point capacity, slots, target size, and whether the stop rule is the even one
+-- what a run is given beside the mesh: the quality set, the most attempts, point capacity, slots, the words of the lent trace (0 where none is lent), target size,
+-- and whether the stop rule is the even one
 pub record Settings : Type 0 where
   pub quality : Quality
   pub attempts : ℕ
   pub capacity : ℕ
   pub slots : ℕ
+  pub room : ℕ
   pub size : Float
   pub even : Bool

@@ -51,6 +51,7 @@ cleared l =
       components = l .components;
       work = all-of 0 (l .work);
       float-work = all-of 0·0 (l .float-work);
+      trace = l .trace;
     }
 
 -- what is shown, and the contents of the slices at exit

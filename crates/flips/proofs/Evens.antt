@@ -69,7 +69,7 @@ quad-good n q h =
       below = (h .known .0, (h .known .1 .0, (h .known .1 .1 .0, (h .known .1 .1 .1 .0, tt))));
     }
 
-valid : (w : List ℕ) (s p : ℕ) (m : Mesh) → Rep w s p m → Valid m
+pub valid : (w : List ℕ) (s p : ℕ) (m : Mesh) → Rep w s p m → Valid m
 valid w s p m r =
     let n = length (m .points) in
     let held : (x : Live) → In x (m .live) → Held w s (m .used) n x = λ x i. rep-held w s p m r (in-has x (m .live) i) in

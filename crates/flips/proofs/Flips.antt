@@ -12,7 +12,7 @@ use lib.Ieee.{Float}
 use borrow.Author.Tests.{eq-eqb, ne-eqb}
 use Rattle.definition.specs.Floats.{_⊗_, _≼_, 0·0}
 use Rattle.definition.specs.Plane.{Edge, side}
-use Rattle.definition.specs.Cells.{Tri, Cell, tri, quad, Live, Mesh, nodes, tri-nodes, quad-nodes, new-tri, new-live, key, tri-has, has-side, owns, owners, is-locked, set-cell, with-live}
+use Rattle.definition.specs.Cells.{Tri, Cell, tri, quad, Live, was-flipped, Mesh, nodes, tri-nodes, quad-nodes, new-tri, new-live, key, tri-has, has-side, owns, owners, is-locked, set-cell, with-live}
 use Rattle.definition.specs.Call.{point-at}
 use Rattle.definition.specs.Flips.{off-edge, third, is-step, runs, first-turned, second-turned, set-tris, flipped, convex-pair, flip-tris, flip-cells, flip-owners, flip, apart}
 use Rattle.laws.specs.Bools.{and-left, and-right, cond-ok}
@@ -28,8 +28,10 @@ use Rattle.crossings.proofs.Tris.{TriOk, tri-ok, Which, is0, is1, is2, which, o
 use Rattle.flips.specs.Nodes.{tri-read}
 use Rattle.flips.specs.Flip.{Kinds, TwinsAt, CanTurn, FlipTo}
 use Rattle.flips.specs.Twins.{OfKinds, IsTwins}
+use Rattle.flips.specs.declared.flip.Turned.the-variants.{Not, Short, Flipped}
 use Rattle.flips.specs.declared.flip.Twins.{Twins}
 use Rattle.flips.specs.declared.flip.Twins.the-variants.{Two, Other}
+use Rattle.flips.proofs.Notes.{rep-noting}
 
 -- ---- the owners
 
@@ -213,11 +215,11 @@ module _ (m : Mesh) (u v i j x y : ℕ) (k : CanTurn m u v i j x y) where
 module _ (w : List ℕ) (s p : ℕ) (m : Mesh) (u v i j x y : ℕ) (t : Tri) where
   pub turned-along : (r : Bool) → r ≡ runs t (u, v) → r ≡ true → Rep w s p (set-cell (set-cell m i (tri-of-nodes x u y)) j (tri-of-nodes y v x)) → Rep w s p (flipped m (u, v) i t j x y)
   unfolding flipped set-tris first-turned second-turned
-  turned-along r e h k = rw (← e, h) k
+  turned-along r e h k = rw (← e, h) (rep-noting (was-flipped (u, v)) (set-cell (set-cell m i (tri-of-nodes x u y)) j (tri-of-nodes y v x)) w s p k)
 
   pub turned-back : (r : Bool) → r ≡ runs t (u, v) → r ≡ false → Rep w s p (set-cell (set-cell m i (tri-of-nodes x y u)) j (tri-of-nodes y x v)) → Rep w s p (flipped m (u, v) i t j x y)
   unfolding flipped set-tris first-turned second-turned
-  turned-back r e h k = rw (← e, h) k
+  turned-back r e h k = rw (← e, h) (rep-noting (was-flipped (u, v)) (set-cell (set-cell m i (tri-of-nodes x y u)) j (tri-of-nodes y x v)) w s p k)
 
 -- ---- the flip
 
@@ -235,11 +237,15 @@ module _ (m : Mesh) (u v i j : ℕ) (up : u < v) (t : TwinsAt m u v i j) where
     unfolding flip-tris
     flip-turned l h o q = rw (flip-free m (key u v) l, flip-two, ← ex, ← ey, ← e, h) (ap (λ (z : Tri). some (flipped m (u, v) i z j x y)) (sym q))
 
-pub flip-none : (w : List ℕ) (s p : ℕ) (m : Mesh) (u v : ℕ) → flip m (key u v) ≡ none → Rep w s p m → FlipTo w s p m (flip m (key u v)) false
-flip-none w s p m u v h r = rw h ((refl, r))
+module _ (w : List ℕ) (s p : ℕ) (m : Mesh) (u v : ℕ) (room : Bool) where
+  pub flip-none : flip m (key u v) ≡ none → Rep w s p m → FlipTo w s p m (flip m (key u v)) room Not
+  flip-none h r = rw h ((refl, r))
 
-pub flip-some : (w : List ℕ) (s p : ℕ) (m m' : Mesh) (u v : ℕ) → flip m (key u v) ≡ some m' → Rep w s p m' → FlipTo w s p m (flip m (key u v)) true
-flip-some w s p m m' u v h r = rw h ((refl, r))
+  pub flip-short : (m' : Mesh) → flip m (key u v) ≡ some m' → room ≡ false → Rep w s p m → FlipTo w s p m (flip m (key u v)) room Short
+  flip-short m' h e r = rw (h, e) ((refl, r))
+
+  pub flip-some : (m' : Mesh) → flip m (key u v) ≡ some m' → room ≡ true → Rep w s p m' → FlipTo w s p m (flip m (key u v)) room Flipped
+  flip-some m' h e r = rw (h, e) ((refl, r))
 
 pub can-turn : (m : Mesh) (u v i j x y : ℕ) → i < m .used → j < m .used → Third (length (m .points)) u v x → Third (length (m .points)) u v y → x ≢ y
     → CanTurn m u v i j x y

@@ -1,3 +1,4 @@
+pub mod Notes
 pub mod Flips
 pub mod Evens
 pub mod Splits

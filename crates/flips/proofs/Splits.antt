@@ -9,7 +9,7 @@ use lib.Seq.{getD-set-same, getD-set-other}
 use lib.Ieee.{Float, nan}
 use Rattle.definition.specs.Floats.{0·0}
 use Rattle.definition.specs.Plane.{Node, flat}
-use Rattle.definition.specs.Cells.{Tri, Mesh, new-tri, new-live, set-cell, push-cell, with-live}
+use Rattle.definition.specs.Cells.{Tri, was-split, Mesh, new-tri, new-live, noting, set-cell, push-cell, with-live}
 use Rattle.definition.specs.Insertion.{with-point, split-triangle}
 use Rattle.cells.specs.Rep.{Shape, Rep, Pts}
 use Rattle.cells.specs.Walk.{node-in, CanSee}
@@ -19,6 +19,7 @@ use Rattle.cells.proofs.Slots.{rep-held, rep-see, tri-held}
 use Rattle.crossings.proofs.Tris.{TriOk, tri-ok}
 use Rattle.flips.specs.Nodes.{tri-read}
 use Rattle.flips.specs.Split.{with-spot, HasRoom, CanSplit}
+use Rattle.flips.proofs.Notes.{rep-noting}
 use Rattle.flips.proofs.Flips.{ok-shape, tri-path}
 
 -- ---- the three parts
@@ -83,7 +84,9 @@ pub split-is : (w : List ℕ) (s p : ℕ) (m : Mesh) (z : Node) (i n a b c a' b'
     → Rep w s p (push-cell (push-cell (set-cell (with-point m z) i (tri-of-nodes a b n)) (tri-of-nodes b c n)) (tri-of-nodes c a n))
     → Rep w s p (split-triangle m i (new-tri a' b' c') z)
 unfolding split-triangle new-tri
-split-is w s p m z i n a b c a' b' c' e ea eb ec r = rw (e, ← ea, ← eb, ← ec) r
+split-is w s p m z i n a b c a' b' c' e ea eb ec r =
+    rw (e, ← ea, ← eb, ← ec)
+    (rep-noting (was-split i z) (push-cell (push-cell (set-cell (with-point m z) i (tri-of-nodes a b n)) (tri-of-nodes b c n)) (tri-of-nodes c a n)) w s p r)
 
 -- ---- the points slice
 
@@ -112,7 +115,7 @@ module _ (q : List Float) (n : ℕ) (x y : Float) where
       rw (e0, e1, e2)
 
 split-points : (m : Mesh) (i : ℕ) (t : Tri) (z : Node) → with-point m z .points ≡ split-triangle m i t z .points
-unfolding split-triangle push-cell set-cell with-point with-live
+unfolding split-triangle noting push-cell set-cell with-point with-live
 split-points m i t z = refl
 
 pub pts-split : (q q' : List Float) (p : ℕ) (m : Mesh) (i n : ℕ) (t : Tri) (x y : Float) → Pts q p m → length (m .points) ≡ n → n < p → q' ≡ with-spot q n x y

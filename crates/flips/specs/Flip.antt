@@ -13,6 +13,8 @@ use Rattle.cells.specs.Layout.{mesh-end}
 use Rattle.cells.specs.Rep.{Rep, Pts}
 use Rattle.joints.specs.Table.{Locks}
 use Rattle.flips.specs.Nodes.{tri-read}
+use Rattle.flips.specs.declared.flip.Turned.{Turned}
+use Rattle.flips.specs.declared.flip.Turned.the-variants.{Not, Short, Flipped}
 
 -- both slots hold triangles
 pub record Kinds (w : List ℕ) (i j : ℕ) : Type 0 where
@@ -45,12 +47,13 @@ pub record IsFlip (w : List ℕ) (s : ℕ) (m : Mesh) (u v i j x y : ℕ) : Type
   pub up : u < v
   pub is : flip m (key u v) ≡ some (flipped m (u, v) i (tri-read w s i) j x y)
 
--- the answer, and the mesh that the memory stands for afterwards
-abbrev pub FlipTo : List ℕ → ℕ → ℕ → Mesh → Option Mesh → Bool → Type 0
-FlipTo w s p m none r = (r ≡ false) × Rep w s p m
-FlipTo w s p m (some m') r = (r ≡ true) × Rep w s p m'
+-- the answer, with room for the entry or without, and the mesh that the memory stands for afterwards
+abbrev pub FlipTo : List ℕ → ℕ → ℕ → Mesh → Option Mesh → Bool → Turned → Type 0
+FlipTo w s p m none room r = (r ≡ Not) × Rep w s p m
+FlipTo w s p m (some m') true r = (r ≡ Flipped) × Rep w s p m'
+FlipTo w s p m (some m') false r = (r ≡ Short) × Rep w s p m
 
 -- the edge u-v was flipped as the definition says, for each mesh that the memory stood for and whose locked edges are the joints; beyond the mesh's own areas nothing changed
-pub record Flips (w w' : List ℕ) (q : List Float) (j : List ℕ) (s p u v : ℕ) (r : Bool) : Type 0 where
-  pub is : (m : Mesh) → Rep w s p m → Pts q p m → Locks j (m .locked) → FlipTo w' s p m (flip m (key u v)) r
+pub record Flips (w w' : List ℕ) (q : List Float) (j : List ℕ) (s p u v : ℕ) (room : Bool) (r : Turned) : Type 0 where
+  pub is : (m : Mesh) → Rep w s p m → Pts q p m → Locks j (m .locked) → FlipTo w' s p m (flip m (key u v)) room r
   pub keeps : Keeps w w' (mesh-end s p)

@@ -28,6 +28,13 @@ pub enum Twins {
     Other,
 }
 
+// A flip: not possible, not made for want of room for its entry, or made.
+pub enum Turned {
+    Not,
+    Short,
+    Flipped,
+}
+
 // a and b are u and v.
 fn is_step(a: usize, b: usize, u: usize, v: usize) -> bool
     ensures { λ r. ⌜ r ≡ is-step (u, v) a b ⌝ }
@@ -166,24 +173,37 @@ fn turn_evenly(
     note_even(w, s, p);
 }
 
-// The edge u-v becomes the other diagonal of its two triangles; not where it is locked, its owners are others, or the four points form no strictly convex quad.
-pub fn flip(w: &mut [u32], q: &[f64], j: &[u32], s: usize, p: usize, u: usize, v: usize) -> bool
+// The edge u-v becomes the other diagonal of its two triangles; not where it is locked, its owners are others, or the four points form no strictly convex quad. Nothing is
+// turned without `room` for the entry.
+pub fn flip(
+    w: &mut [u32],
+    q: &[f64],
+    j: &[u32],
+    s: usize,
+    p: usize,
+    u: usize,
+    v: usize,
+    room: bool,
+) -> Turned
     requires { ⌜ ((m : Mesh) × Rep (now w) s p m × Pts (now q) p m × Locks (now j) (m .locked)) ⌝ }
     requires { ⌜ Up p u v ⌝ }
-    ensures { λ r. ⌜ Flips (now (w .entry)) (now (w .exit)) (now (q .entry)) (now (j .entry)) s p u v r ⌝ }
+    ensures { λ r. ⌜ Flips (now (w .entry)) (now (w .exit)) (now (q .entry)) (now (j .entry)) s p u v room r ⌝ }
 {
     if locked(j, u, v) {
-        return false;
+        return Turned::Not;
     }
     let t = two_tris(w, s, p, u, v);
     let Twins::Two(a, b) = t else {
-        return false;
+        return Turned::Not;
     };
     let x = third(w, s, a, u, v);
     let y = third(w, s, b, u, v);
     if !convex_pair(q, u, v, x, y) {
-        return false;
+        return Turned::Not;
+    }
+    if !room {
+        return Turned::Short;
     }
     turn_evenly(w, s, p, u, v, a, b, x, y);
-    true
+    Turned::Flipped
 }

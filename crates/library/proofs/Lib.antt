@@ -1,3 +1,5 @@
 pub mod Handing
 pub mod Meshes
+pub mod Replaying
 pub mod Showing
+pub mod Unplayed

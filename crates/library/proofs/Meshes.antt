@@ -32,7 +32,7 @@ without-state a l js old h =
     }
 
 -- none for the numbers
-pub without-answer : (a : Asked) (l : Lent) (js old : List ℕ) (k : ℕ) → 5 ≤ length js → length old < 14 → k ≡ short-number (state-in js) (first-refusal a l) → Exported-job a l js old k js old l
+pub without-answer : (a : Asked) (l : Lent) (js old : List ℕ) (k : ℕ) → 5 ≤ length js → length old < 15 → k ≡ short-number (state-in js) (first-refusal a l) → Exported-job a l js old k js old l
 without-answer a l js old k h d e =
     record {
       roomy = λ _ s. absurd (omega (arith, d, s));
@@ -48,7 +48,7 @@ pub record Came (j : defined.Job) (a : Asked) (l : Lent) (m : Mesh) (exit : Lent
   pub area : Kept-area a l (m .answer) exit
 
 -- room for both
-pub with-both : (j : defined.Job) (a : Asked) (l : Lent) (js old : List ℕ) (k : ℕ) (ks new : List ℕ) (exit : Lent) (m : Mesh) → j ≡ state-in js → 5 ≤ length js → 14 ≤ length old
+pub with-both : (j : defined.Job) (a : Asked) (l : Lent) (js old : List ℕ) (k : ℕ) (ks new : List ℕ) (exit : Lent) (m : Mesh) → j ≡ state-in js → 5 ≤ length js → 15 ≤ length old
     → Came j a l m exit → k ≡ m .answer .refusal → ks ≡ onto (job-numbers m) js → new ≡ handed (m .answer) old → Exported-job a l js old k ks new exit
 with-both j a l js old k ks new exit m e h d c number state answer =
     let x = subst (λ (v : defined.Job). Came v a l m exit) e c in

@@ -29,6 +29,7 @@ numbers r =
     ∷ r .points
     ∷ r .components
     ∷ r .trials
+    ∷ r .words
     ∷ []
 
 -- a quality set by its five numbers
@@ -61,5 +62,5 @@ pub record Short (a : Asked) (l : Lent) (old : List ℕ) (k : ℕ) (new : List �
 
 -- k is returned of a call that states a and lends l, with `old` in the answer's slice; `new` and `exit` are there then
 pub record Exported (a : Asked) (l : Lent) (old : List ℕ) (k : ℕ) (new : List ℕ) (exit : Lent) : Type 0 where
-  pub roomy : 14 ≤ length old → (r : Answer) × Roomy a l old k new exit r
-  pub short : length old < 14 → Short a l old k new exit
+  pub roomy : 15 ≤ length old → (r : Answer) × Roomy a l old k new exit r
+  pub short : length old < 15 → Short a l old k new exit

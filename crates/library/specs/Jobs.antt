@@ -43,6 +43,6 @@ short-number j k = cond (bad-job j) 16 (up-to-4 k)
 
 -- k is returned of a mesh that states a and lends l, with `js` in the job's slice and `old` in the answer's; `ks`, `new` and `exit` are there then
 pub record Exported-job (a : Asked) (l : Lent) (js old : List ℕ) (k : ℕ) (ks new : List ℕ) (exit : Lent) : Type 0 where
-  pub roomy : 5 ≤ length js → 14 ≤ length old → (m : Mesh) × Meshed a l js old k ks new exit m
-  pub short : 5 ≤ length js → length old < 14 → Untouched (short-number (state-in js) (first-refusal a l)) l js old k ks new exit
+  pub roomy : 5 ≤ length js → 15 ≤ length old → (m : Mesh) × Meshed a l js old k ks new exit m
+  pub short : 5 ≤ length js → length old < 15 → Untouched (short-number (state-in js) (first-refusal a l)) l js old k ks new exit
   pub no-state : length js < 5 → Untouched 4 l js old k ks new exit

@@ -3,3 +3,4 @@ pub mod Exported
 pub mod Filed
 pub mod Jobs
 pub mod Previews
+pub mod Replays

@@ -77,19 +77,20 @@ fn meshed(
     components: &mut [u32],
     work: &mut [u32],
     float_work: &mut [f64],
+    trace: &mut [u32],
     stated: Stated,
     job: &mut [usize],
     answer: &mut [usize],
 ) -> usize
     ensures { λ r. ⌜ Exported-job
         (asked stated)
-        (lent-of (now (points .entry)) (now (triangles .entry)) (now (joints .entry)) (now (quads .entry)) (now («triangles_out» .entry)) (now (components .entry)) (now (work .entry)) (now («float_work» .entry)))
+        (lent-of (now (points .entry)) (now (triangles .entry)) (now (joints .entry)) (now (quads .entry)) (now («triangles_out» .entry)) (now (components .entry)) (now (work .entry)) (now («float_work» .entry)) (now (trace .entry)))
         (now (job .entry))
         (now (answer .entry))
         r
         (now (job .exit))
         (now (answer .exit))
-        (lent-of (now (points .exit)) (now (triangles .entry)) (now (joints .entry)) (now (quads .exit)) (now («triangles_out» .exit)) (now (components .exit)) (now (work .exit)) (now («float_work» .exit))) ⌝ }
+        (lent-of (now (points .exit)) (now (triangles .entry)) (now (joints .entry)) (now (quads .exit)) (now («triangles_out» .exit)) (now (components .exit)) (now (work .exit)) (now («float_work» .exit)) (now (trace .exit))) ⌝ }
 {
     if job.len() < JOB {
         return 4;
@@ -114,6 +115,7 @@ fn meshed(
         components,
         work,
         float_work,
+        trace,
         state,
         stated,
     );
@@ -139,6 +141,7 @@ pub extern "C" fn sedgepick_job(
     components: &mut [u32],
     work: &mut [u32],
     float_work: &mut [f64],
+    trace: &mut [u32],
     given: usize,
     capacity: usize,
     count: usize,
@@ -157,13 +160,13 @@ pub extern "C" fn sedgepick_job(
 ) -> usize
     ensures { λ r. ⌜ Exported-job
         (asked-for given capacity count slots «joint_count» size stop (set-of «least_jacobian» «largest_cosine» «side_low» «side_high» pairs) (not (eqb grid 0)))
-        (lent-of (now (points .entry)) (now (triangles .entry)) (now (joints .entry)) (now (quads .entry)) (now («triangles_out» .entry)) (now (components .entry)) (now (work .entry)) (now («float_work» .entry)))
+        (lent-of (now (points .entry)) (now (triangles .entry)) (now (joints .entry)) (now (quads .entry)) (now («triangles_out» .entry)) (now (components .entry)) (now (work .entry)) (now («float_work» .entry)) (now (trace .entry)))
         (now (job .entry))
         (now (answer .entry))
         r
         (now (job .exit))
         (now (answer .exit))
-        (lent-of (now (points .exit)) (now (triangles .entry)) (now (joints .entry)) (now (quads .exit)) (now («triangles_out» .exit)) (now (components .exit)) (now (work .exit)) (now («float_work» .exit))) ⌝ }
+        (lent-of (now (points .exit)) (now (triangles .entry)) (now (joints .entry)) (now (quads .exit)) (now («triangles_out» .exit)) (now (components .exit)) (now (work .exit)) (now («float_work» .exit)) (now (trace .exit))) ⌝ }
 {
     let quality = Quality {
         least_jacobian,
@@ -192,6 +195,7 @@ pub extern "C" fn sedgepick_job(
         components,
         work,
         float_work,
+        trace,
         stated,
         job,
         answer,

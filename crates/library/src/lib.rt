@@ -1,7 +1,8 @@
-// The mesher, a mesh of a job, what an edge would give, the quality sheet, the filing order and every small mesh for programs in C and Rust: numbers and slices only. include/sedgepick.h says the same to their authors.
+// The mesher, a mesh of a job, what an edge would give, the mesh of a trace, the quality sheet, the filing order and every small mesh for programs in C and Rust: numbers and slices only. include/sedgepick.h says the same to their authors.
 mod jobs;
 mod orders;
 mod previews;
+mod replays;
 mod sheets;
 mod small_meshes;
 
@@ -25,12 +26,12 @@ ghost use Rattle.refusals.specs.Refusals.{first-refusal};
 ghost use Rattle.mesher.specs.Promise.{lent-of};
 ghost use Rattle.library.specs.Exported.{numbers, up-to-4, set-of, Exported};
 
-// Numbers of a finished run: nine counts, four lengths, and the pairs tried.
-const ANSWER: usize = 14;
+// Numbers of a finished run: nine counts, four lengths, the pairs tried, and the words of its trace.
+const ANSWER: usize = 15;
 
 // The numbers of a finished run come to the front of the slice.
 fn write_answer(answer: &mut [usize], a: Answer)
-    requires { ⌜ 14 ≤ length (now answer) ⌝ }
+    requires { ⌜ 15 ≤ length (now answer) ⌝ }
     ensures { λ r. ⌜ now (answer .exit) ≡ onto (numbers a) (now (answer .entry)) ⌝ }
 {
     answer[0] = a.front_empty;
@@ -47,6 +48,7 @@ fn write_answer(answer: &mut [usize], a: Answer)
     answer[11] = a.points;
     answer[12] = a.components;
     answer[13] = a.trials;
+    answer[14] = a.words;
 }
 
 // The number of a call whose answer is too short: 1 to 3 and 14 come before it, and it is 4.
@@ -79,16 +81,17 @@ fn answered(
     components: &mut [u32],
     work: &mut [u32],
     float_work: &mut [f64],
+    trace: &mut [u32],
     stated: Stated,
     answer: &mut [usize],
 ) -> usize
     ensures { λ r. ⌜ Exported
         (asked stated)
-        (lent-of (now (points .entry)) (now (triangles .entry)) (now (joints .entry)) (now (quads .entry)) (now («triangles_out» .entry)) (now (components .entry)) (now (work .entry)) (now («float_work» .entry)))
+        (lent-of (now (points .entry)) (now (triangles .entry)) (now (joints .entry)) (now (quads .entry)) (now («triangles_out» .entry)) (now (components .entry)) (now (work .entry)) (now («float_work» .entry)) (now (trace .entry)))
         (now (answer .entry))
         r
         (now (answer .exit))
-        (lent-of (now (points .exit)) (now (triangles .entry)) (now (joints .entry)) (now (quads .exit)) (now («triangles_out» .exit)) (now (components .exit)) (now (work .exit)) (now («float_work» .exit))) ⌝ }
+        (lent-of (now (points .exit)) (now (triangles .entry)) (now (joints .entry)) (now (quads .exit)) (now («triangles_out» .exit)) (now (components .exit)) (now (work .exit)) (now («float_work» .exit)) (now (trace .exit))) ⌝ }
 {
     if answer.len() < ANSWER {
         let room = Room {
@@ -109,6 +112,7 @@ fn answered(
         components,
         work,
         float_work,
+        trace,
         stated,
     );
     let k = a.refusal;
@@ -119,7 +123,7 @@ fn answered(
     0
 }
 
-// run_front, with document 01's quality set, without joints and off the grid.
+// run_front, with document 01's quality set, without joints, trace and grid.
 #[no_mangle]
 pub extern "C" fn sedgepick_run_front(
     points: &mut [f64],
@@ -139,14 +143,15 @@ pub extern "C" fn sedgepick_run_front(
 ) -> usize
     ensures { λ r. ⌜ Exported
         (asked-for given capacity count slots 0 size stop base false)
-        (lent-of (now (points .entry)) (now (triangles .entry)) [] (now (quads .entry)) (now («triangles_out» .entry)) (now (components .entry)) (now (work .entry)) (now («float_work» .entry)))
+        (lent-of (now (points .entry)) (now (triangles .entry)) [] (now (quads .entry)) (now («triangles_out» .entry)) (now (components .entry)) (now (work .entry)) (now («float_work» .entry)) [])
         (now (answer .entry))
         r
         (now (answer .exit))
-        (lent-of (now (points .exit)) (now (triangles .entry)) [] (now (quads .exit)) (now («triangles_out» .exit)) (now (components .exit)) (now (work .exit)) (now («float_work» .exit))) ⌝ }
+        (lent-of (now (points .exit)) (now (triangles .entry)) [] (now (quads .exit)) (now («triangles_out» .exit)) (now (components .exit)) (now (work .exit)) (now («float_work» .exit)) []) ⌝ }
 {
     let stated = standard(given, capacity, count, slots, size, stop);
     let none = [0u32; 0];
+    let mut no_trace = [0u32; 0];
     answered(
         points,
         triangles,
@@ -156,12 +161,13 @@ pub extern "C" fn sedgepick_run_front(
         components,
         work,
         float_work,
+        &mut no_trace,
         stated,
         answer,
     )
 }
 
-// run_front, with joints, a quality set by its five numbers and, where `grid` is not 0, in the grid profile.
+// run_front, with joints, a trace (an empty slice is none), a quality set by its five numbers and, where `grid` is not 0, in the grid profile.
 #[no_mangle]
 pub extern "C" fn sedgepick_run_front_with(
     points: &mut [f64],
@@ -172,6 +178,7 @@ pub extern "C" fn sedgepick_run_front_with(
     components: &mut [u32],
     work: &mut [u32],
     float_work: &mut [f64],
+    trace: &mut [u32],
     given: usize,
     capacity: usize,
     count: usize,
@@ -189,11 +196,11 @@ pub extern "C" fn sedgepick_run_front_with(
 ) -> usize
     ensures { λ r. ⌜ Exported
         (asked-for given capacity count slots «joint_count» size stop (set-of «least_jacobian» «largest_cosine» «side_low» «side_high» pairs) (not (eqb grid 0)))
-        (lent-of (now (points .entry)) (now (triangles .entry)) (now (joints .entry)) (now (quads .entry)) (now («triangles_out» .entry)) (now (components .entry)) (now (work .entry)) (now («float_work» .entry)))
+        (lent-of (now (points .entry)) (now (triangles .entry)) (now (joints .entry)) (now (quads .entry)) (now («triangles_out» .entry)) (now (components .entry)) (now (work .entry)) (now («float_work» .entry)) (now (trace .entry)))
         (now (answer .entry))
         r
         (now (answer .exit))
-        (lent-of (now (points .exit)) (now (triangles .entry)) (now (joints .entry)) (now (quads .exit)) (now («triangles_out» .exit)) (now (components .exit)) (now (work .exit)) (now («float_work» .exit))) ⌝ }
+        (lent-of (now (points .exit)) (now (triangles .entry)) (now (joints .entry)) (now (quads .exit)) (now («triangles_out» .exit)) (now (components .exit)) (now (work .exit)) (now («float_work» .exit)) (now (trace .exit))) ⌝ }
 {
     let quality = Quality {
         least_jacobian,
@@ -222,6 +229,7 @@ pub extern "C" fn sedgepick_run_front_with(
         components,
         work,
         float_work,
+        trace,
         stated,
         answer,
     )

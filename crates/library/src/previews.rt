@@ -10,6 +10,7 @@ use refusals::Stated;
 use rules::Quality;
 ghost use mathlib.Core.Path.{_≡_};
 ghost use mathlib.Core.Bool.{not};
+ghost use mathlib.Core.List.{[]};
 ghost use lib.Dec.{eqb};
 ghost use lib.ListN.{length};
 ghost use Prim.Native.Nat.{_≤_};
@@ -110,12 +111,12 @@ fn previewed(
 ) -> usize
     ensures { λ r. ⌜ Exported-preview
         (asked stated)
-        (lent-of (now (points .entry)) (now (triangles .entry)) (now (joints .entry)) (now (quads .entry)) (now («triangles_out» .entry)) (now (components .entry)) (now (work .entry)) (now («float_work» .entry)))
+        (lent-of (now (points .entry)) (now (triangles .entry)) (now (joints .entry)) (now (quads .entry)) (now («triangles_out» .entry)) (now (components .entry)) (now (work .entry)) (now («float_work» .entry)) [])
         u v
         (now (answer .entry))
         r
         (now (answer .exit))
-        (lent-of (now (points .exit)) (now (triangles .entry)) (now (joints .entry)) (now (quads .entry)) (now («triangles_out» .entry)) (now (components .entry)) (now (work .exit)) (now («float_work» .exit))) ⌝ }
+        (lent-of (now (points .exit)) (now (triangles .entry)) (now (joints .entry)) (now (quads .entry)) (now («triangles_out» .entry)) (now (components .entry)) (now (work .exit)) (now («float_work» .exit)) []) ⌝ }
 {
     if answer.len() < NUMBERS {
         let room = Room {
@@ -173,12 +174,12 @@ pub extern "C" fn sedgepick_preview(
 ) -> usize
     ensures { λ r. ⌜ Exported-preview
         (asked-for given capacity count slots «joint_count» size stop (set-of «least_jacobian» «largest_cosine» «side_low» «side_high» pairs) (not (eqb grid 0)))
-        (lent-of (now (points .entry)) (now (triangles .entry)) (now (joints .entry)) (now (quads .entry)) (now («triangles_out» .entry)) (now (components .entry)) (now (work .entry)) (now («float_work» .entry)))
+        (lent-of (now (points .entry)) (now (triangles .entry)) (now (joints .entry)) (now (quads .entry)) (now («triangles_out» .entry)) (now (components .entry)) (now (work .entry)) (now («float_work» .entry)) [])
         u v
         (now (answer .entry))
         r
         (now (answer .exit))
-        (lent-of (now (points .exit)) (now (triangles .entry)) (now (joints .entry)) (now (quads .entry)) (now («triangles_out» .entry)) (now (components .entry)) (now (work .exit)) (now («float_work» .exit))) ⌝ }
+        (lent-of (now (points .exit)) (now (triangles .entry)) (now (joints .entry)) (now (quads .entry)) (now («triangles_out» .entry)) (now (components .entry)) (now (work .exit)) (now («float_work» .exit)) []) ⌝ }
 {
     let quality = Quality {
         least_jacobian,

@@ -4,7 +4,7 @@ use mathlib.Core.Bool.{Bool, true, false}
 use mathlib.Core.Logic.{_≢_, inl, inr}
 use mathlib.Core.List.{List, []}
 use Prim.{absurd, Unit, tt}
-use Prim.Native.Nat.{ℕ, _+_, _-_, _*_, _≤_, _<_}
+use Prim.Native.Nat.{ℕ, suc, _+_, _-_, _*_, _≤_, _<_}
 use native.Mathlib.Decide.{ℕ-discrete, decLe}
 use native.Mathlib.Omega.{arith}
 use lib.ListN.{length, getD, set, length-set, length-append, List·getD-append}
@@ -14,9 +14,9 @@ use borrow.Author.Tests.{eq-eqb, ne-eqb}
 use Rattle.definition.specs.Lists.{find, table, below}
 use Rattle.definition.specs.Floats.{0·0}
 use Rattle.definition.specs.Numbers.{max-attempts}
-use Rattle.definition.specs.Counts.{Spent, Refusal, Placement, Shape, Recovery, Region, OddRegion, Want, of-points, of-slots, number}
+use Rattle.definition.specs.Counts.{Spent, Refusal, Placement, Shape, Recovery, Region, OddRegion, Want, of-points, of-slots, of-trace, number}
 use Rattle.definition.specs.Plane.{Node, point}
-use Rattle.definition.specs.Cells.{Quad, Mesh, key, new-quad, born, is-front}
+use Rattle.definition.specs.Cells.{Quad, Mesh, key, new-quad, born, is-front, this-round}
 use Rattle.definition.specs.Attempt.{Attempt, placed, refused, ended, try-quad}
 use Rattle.definition.specs.Front.{State, new-mesh, start}
 use Rattle.definition.specs.Call.{Asked, Lent, point-at, joint-at, first-points, given-points, given-tris, given-joints, given-locks, all-of, conditions, settings-within, settings}
@@ -32,7 +32,7 @@ use Rattle.account.specs.FlipKeeps.{flip-kept}
 use Rattle.account.specs.SplitKeeps.{split-kept}
 use Rattle.account.specs.QuadKeeps.{replaced-points}
 use Rattle.account.specs.Steps.{Attempt-ok, made-weaker, try-quad-ok}
-use Rattle.account.specs.Placed.{In-rounds, rounds-rule, start-rounds, last-round}
+use Rattle.account.specs.Placed.{In-rounds, live-quad, quad-cells, rounds-rule, start-rounds, last-round}
 use Rattle.account.specs.Grown.{Grown, attempt-grown}
 use Rattle.account.specs.Tracked.{front-odd}
 use Rattle.account.specs.Finished.{given-proper, points-number}
@@ -47,6 +47,8 @@ use Rattle.cells.proofs.Edges.{key-up}
 use Rattle.meshes.specs.Build.{IsNew, Builds, CanBuild}
 use Rattle.outcomes.specs.Ends.{spent-of, end-of, end-for, Grew, Left, AttemptTo}
 use Rattle.outcomes.specs.declared.Tried.{Tried}
+use Rattle.traces.specs.Log.{Logged}
+use Rattle.traces.proofs.Logs.{log-start}
 use Rattle.try_quad.specs.Tries.{CanAttempt, TriedTo}
 use Rattle.refusals.specs.Tests.{by-thirds}
 use Rattle.refusals.specs.Refusals.{number-of, first-refusal, passed, none-holds}
@@ -195,6 +197,7 @@ module _ (t : Tried) (u v : ℕ) where
   unfolding end-for number
   ended-shown of-points e = ap (λ z. shown-of (shown-by z t u v)) e
   ended-shown of-slots e = ap (λ z. shown-of (shown-by z t u v)) e
+  ended-shown of-trace e = ap (λ z. shown-of (shown-by z t u v)) e
 
   shown-is : (w' : List ℕ) (q q' : List Float) (rules : Rules) (c : Counters) (x : Attempt) → AttemptTo w' q q' rules c x t → Grown (u, v) x → First-round x
       → shown-of (shown-by (t .end) t u v) ≡ shown x
@@ -290,11 +293,11 @@ module _ (a : Asked) (l : Lent) (z : first-refusal a l ≡ 0) where
   -- ---- the memory
 
   pub first-can-build : CanBuild (l .work) (a .slots) (a .capacity) (l .triangles) (a .count) (a .given)
-  first-can-build = can-build (max-attempts (a .count)) a l z
+  first-can-build = can-build (max-attempts (a .count)) 0 a l z
 
   pub first-is-new : IsNew (first-of a l) (l .triangles) (a .count) (a .given)
   unfolding start settings settings-within settings-of
-  first-is-new = is-new (max-attempts (a .count)) a l z
+  first-is-new = is-new (max-attempts (a .count)) 0 a l z
 
 module _ (q : List Float) (ts js w : List ℕ) (a : Asked) (l : Lent) (h : CanShow q ts js w a l) where
   pub show-build : CanBuild w (a .slots) (a .capacity) ts (a .count) (a .given)
@@ -334,15 +337,24 @@ module _ (q : List Float) (js w : List ℕ) (a : Asked) (l : Lent) (u v : ℕ) (
   unfolding start settings settings-within settings-of
   try-can rules e c n =
       let p = passed a l (h .passed) in
-      let run = can-run (max-attempts (a .count)) a l (h .passed) (omega arith) w c (h .rep) n in
+      let run = can-run (max-attempts (a .count)) 0 a l (h .passed) (omega arith) [] refl w c (h .rep) n in
       subst (λ (y : Rules). CanAttempt w q y c u v (first-of a l)) (sym e)
       (subst (λ (y : List Float). CanAttempt w y (usual-rules a) c u v (first-of a l)) (h .points)
       (record { ready = run .ready; up = h .up; known = omega (arith, n .2, h .known); pairs = p .pairs }))
 
-  pub try-to : (rules : Rules) → rules ≡ usual-rules a → (c : Counters) (w' : List ℕ) (q' : List Float) (t : Tried)
-      → TriedTo w w' q q' rules c (try-quad (settings-of rules) (first-of a l) (u, v)) t → (c : Counters) × AttemptTo w' q q' (usual-rules a) c (try-quad (settings a) (first-of a l) (u, v)) t
+  -- nothing happened to the mesh, and no quad was placed
+  pub try-log : Logged [] [] 0 (first-of a l)
+  unfolding new-mesh settings settings-within
+  try-log = log-start [] (first-of a l) refl refl
+
+  pub try-round : 1 ≡ this-round (first-of a l)
+  unfolding start this-round quad-cells live-quad
+  try-round = ap suc (sym (start-rounds (settings a) (given-locks a l) (given-tris a l) (given-points a l) .number))
+
+  pub try-to : (rules : Rules) → rules ≡ usual-rules a → (c : Counters) (w' : List ℕ) (q' : List Float) (tr' : List ℕ) (t : Tried)
+      → TriedTo w w' q q' [] tr' rules c (try-quad (settings-of rules) (first-of a l) (u, v)) t → (c : Counters) × AttemptTo w' q q' (usual-rules a) c (try-quad (settings a) (first-of a l) (u, v)) t
   unfolding settings settings-within settings-of
-  try-to rules e c w' q' t k = (c, subst (λ (y : Rules). AttemptTo w' q q' y c (try-quad (settings-of y) (first-of a l) (u, v)) t) e (k .is))
+  try-to rules e c w' q' tr' t k = (c, subst (λ (y : Rules). AttemptTo w' q q' y c (try-quad (settings-of y) (first-of a l) (u, v)) t) e (k .is))
 
 -- ---- the whole preview
 
@@ -364,13 +376,13 @@ preview-shows a l u v z = rw (none-holds a l z, preview) refl
 
 module _ (q : List Float) (ts js qs o cs w : List ℕ) (f : List Float) where
   -- the points are as they were, and both work slices are zero
-  pub shown-previews : (a : Asked) (u v : ℕ) → first-refusal a (lent-of q ts js qs o cs w f) ≡ 0 → (r : Shown) (q' : List Float) (w₁ w' : List ℕ) (f' : List Float)
-      → (q' ≡ q) × (shown-of r ≡ show-edge (settings a) (first-of a (lent-of q ts js qs o cs w f)) (key u v)) → length w₁ ≡ length w → w' ≡ all-of 0 w₁ → f' ≡ all-of 0·0 f
-      → Previews (preview a (lent-of q ts js qs o cs w f) u v) r (lent-of q' ts js qs o cs w' f')
+  pub shown-previews : (a : Asked) (u v : ℕ) → first-refusal a (lent-of q ts js qs o cs w f []) ≡ 0 → (r : Shown) (q' : List Float) (w₁ w' : List ℕ) (f' : List Float)
+      → (q' ≡ q) × (shown-of r ≡ show-edge (settings a) (first-of a (lent-of q ts js qs o cs w f [])) (key u v)) → length w₁ ≡ length w → w' ≡ all-of 0 w₁ → f' ≡ all-of 0·0 f
+      → Previews (preview a (lent-of q ts js qs o cs w f []) u v) r (lent-of q' ts js qs o cs w' f' [])
   unfolding cleared
   shown-previews a u v z r q' w₁ w' f' h len ew ef =
-      let l = lent-of q ts js qs o cs w f in
+      let l = lent-of q ts js qs o cs w f [] in
       let work : all-of 0 w ≡ w' = run.cleared 0 w w₁ (sym len) ∙ sym ew in
       let points = h .0 in
-      subst (λ (x : Previewed). Previews x r (lent-of q' ts js qs o cs w' f')) (sym (preview-shows a l u v z))
-      (record { shown = h .1; lent = λ i. lent-of (sym points i) ts js qs o cs (work i) (sym ef i) })
+      subst (λ (x : Previewed). Previews x r (lent-of q' ts js qs o cs w' f' [])) (sym (preview-shows a l u v z))
+      (record { shown = h .1; lent = λ i. lent-of (sym points i) ts js qs o cs (work i) (sym ef i) [] })

@@ -42,13 +42,13 @@ unfolding filter in-slots live-tri is-tri new-live
 live-new n [] = refl
 live-new n (t ∷ ts) = ap suc (live-new (suc n) ts)
 
-module _ (most : ℕ) (a : Asked) (l : Lent) (h : first-refusal a l ≡ 0) where
+module _ (most room : ℕ) (a : Asked) (l : Lent) (h : first-refusal a l ≡ 0) where
   pub given-shapes : Given (l .triangles) (a .count) (a .given)
   given-shapes i k =
       let p = passed a l h in
       shape-at (l .triangles) (a .given) i (p .apart i k) (p .known (3 * i) (omega arith)) (p .known (3 * i + 1) (omega arith)) (p .known (3 * i + 2) (omega arith))
 
-  pub small : Small (rules-of most a)
+  pub small : Small (rules-of most room a)
   small = let p = passed a l h in record { slots = p .limited .slots; points = p .limited .capacity; pairs = p .pairs }
 
   -- what building it asks
@@ -65,7 +65,7 @@ module _ (most : ℕ) (a : Asked) (l : Lent) (h : first-refusal a l ≡ 0) where
 
   -- the mesh that the run starts from
   abbrev pub first-mesh : Mesh
-  first-mesh = start (settings-of (rules-of most a)) (given-locks a l) (given-tris a l) (given-points a l) .mesh
+  first-mesh = start (settings-of (rules-of most room a)) (given-locks a l) (given-tris a l) (given-points a l) .mesh
 
   pub is-new : IsNew first-mesh (l .triangles) (a .count) (a .given)
   unfolding start new-mesh given-tris
@@ -92,11 +92,11 @@ module _ (most : ℕ) (a : Asked) (l : Lent) (h : first-refusal a l ≡ 0) where
   side-is = refl
 
   -- what `front_loop` asks
-  pub can-run : most ≤ max-attempts (a .count) → (w' : List ℕ) (c : Counters) → Rep w' (a .slots) (a .capacity) first-mesh
+  pub can-run : most ≤ max-attempts (a .count) → (t : List ℕ) → room ≡ length t → (w' : List ℕ) (c : Counters) → Rep w' (a .slots) (a .capacity) first-mesh
       → (c .live ≡ a .count) × (c .used ≡ a .count) × (c .points ≡ a .given) × (c .attempts ≡ 0)
-      → CanRun w' (l .points) (l .float-work) (l .quads) (rules-of most a) c (given-locks a l) (given-tris a l) (given-points a l)
+      → CanRun w' (l .points) (l .float-work) (l .quads) t (rules-of most room a) c (given-locks a l) (given-tris a l) (given-points a l)
   unfolding bad-size
-  can-run usual w' c r n =
+  can-run usual t long w' c r n =
       let p = passed a l h in
       let o = none-holds a l h in
       let live = n .0 in
@@ -123,28 +123,29 @@ module _ (most : ℕ) (a : Asked) (l : Lent) (h : first-refusal a l ≡ 0) where
         sized = p .sized;
         floats = omega (arith, p .roomy .float-work);
         room = p .roomy .quads;
+        trace = long;
       }
 
 -- ---- by the slices of the call
 
-left-from : (w₁ w w' : List ℕ) (q q' f f' : List Float) (quads quads' : List ℕ) (rules : Rules) (st : State) (r : Run) → length w₁ ≡ length w
-    → LeftRun w₁ w' q q' f f' quads quads' rules st r → LeftRun w w' q q' f f' quads quads' rules st r
-left-from w₁ w w' q q' f f' quads quads' rules st r e h =
-    record { ready = h .ready; counts = h .counts; number = h .number; text = h .text; behind = h .behind; words = h .words ∙ e; reals = h .reals }
+left-from : (w₁ w w' : List ℕ) (q q' f f' : List Float) (quads quads' tr tr' : List ℕ) (rules : Rules) (st : State) (r : Run) → length w₁ ≡ length w
+    → LeftRun w₁ w' q q' f f' quads quads' tr tr' rules st r → LeftRun w w' q q' f f' quads quads' tr tr' rules st r
+left-from w₁ w w' q q' f f' quads quads' tr tr' rules st r e h =
+    record { ready = h .ready; counts = h .counts; number = h .number; text = h .text; behind = h .behind; words = h .words ∙ e; reals = h .reals; log = h .log }
 
 -- only the length of the memory at the start counts
-run-from : (w₁ w w' : List ℕ) (q q' f f' : List Float) (quads quads' : List ℕ) (rules : Rules) (pr : Progress) (r : Run) → length w₁ ≡ length w
-    → RunTo w₁ w' q q' f f' quads quads' rules pr r → RunTo w w' q q' f f' quads quads' rules pr r
-run-from w₁ w w' q q' f f' quads quads' rules (stuck st) r e h = (h .0, left-from w₁ w w' q q' f f' quads quads' rules st r e (h .1))
-run-from w₁ w w' q q' f f' quads quads' rules (progressed st) r e h = (h .0, left-from w₁ w w' q q' f f' quads quads' rules st r e (h .1))
-run-from w₁ w w' q q' f f' quads quads' rules (limited st) r e h = (h .0, left-from w₁ w w' q q' f f' quads quads' rules st r e (h .1))
-run-from w₁ w w' q q' f f' quads quads' rules (stopped wt st) r e h = (h .0, left-from w₁ w w' q q' f f' quads quads' rules st r e (h .1))
+run-from : (w₁ w w' : List ℕ) (q q' f f' : List Float) (quads quads' tr tr' : List ℕ) (rules : Rules) (pr : Progress) (r : Run) → length w₁ ≡ length w
+    → RunTo w₁ w' q q' f f' quads quads' tr tr' rules pr r → RunTo w w' q q' f f' quads quads' tr tr' rules pr r
+run-from w₁ w w' q q' f f' quads quads' tr tr' rules (stuck st) r e h = (h .0, left-from w₁ w w' q q' f f' quads quads' tr tr' rules st r e (h .1))
+run-from w₁ w w' q q' f f' quads quads' tr tr' rules (progressed st) r e h = (h .0, left-from w₁ w w' q q' f f' quads quads' tr tr' rules st r e (h .1))
+run-from w₁ w w' q q' f f' quads quads' tr tr' rules (limited st) r e h = (h .0, left-from w₁ w w' q q' f f' quads quads' tr tr' rules st r e (h .1))
+run-from w₁ w w' q q' f f' quads quads' tr tr' rules (stopped wt st) r e h = (h .0, left-from w₁ w w' q q' f f' quads quads' tr tr' rules st r e (h .1))
 
-module _ (q : List Float) (ts js qs w : List ℕ) (f : List Float) (most : ℕ) (a : Asked) (l : Lent) (h : CanMesh q ts js qs w f most a l) where
+module _ (q : List Float) (ts js qs w : List ℕ) (f : List Float) (tr : List ℕ) (most : ℕ) (a : Asked) (l : Lent) (h : CanMesh q ts js qs w f tr most a l) where
   pub mesh-build : CanBuild w (a .slots) (a .capacity) ts (a .count) (a .given)
   mesh-build =
       subst (λ (z : List ℕ). CanBuild z (a .slots) (a .capacity) ts (a .count) (a .given)) (h .work)
-      (subst (λ (z : List ℕ). CanBuild (l .work) (a .slots) (a .capacity) z (a .count) (a .given)) (h .triangles) (can-build most a l (h .passed)))
+      (subst (λ (z : List ℕ). CanBuild (l .work) (a .slots) (a .capacity) z (a .count) (a .given)) (h .triangles) (can-build most (length (l .trace)) a l (h .passed)))
 
   -- the table of the joints has room, and it locks what is listed
   pub mesh-few : a .joints ≤ 256
@@ -157,29 +158,33 @@ module _ (q : List Float) (ts js qs w : List ℕ) (f : List Float) (most : ℕ) 
   unfolding given-locks given-joints
   mesh-locks j k = locks-of j _ (subst (λ (z : List ℕ). Kept j (table (joint-at z) (below (a .joints)))) (sym (h .joints)) k)
 
-  module _ (rules : Rules) (e : rules ≡ rules-of most a) where
+  module _ (rules : Rules) (e : rules ≡ rules-of most (length tr) a) where
     pub mesh-run : (w' : List ℕ) (c : Counters) → Builds w w' (a .slots) (a .capacity) ts (a .count) (a .given)
         → (c .live ≡ a .count) × (c .used ≡ a .count) × (c .points ≡ a .given) × (c .attempts ≡ 0)
-        → CanRun w' q f qs rules c (given-locks a l) (given-tris a l) (given-points a l)
+        → CanRun w' q f qs tr rules c (given-locks a l) (given-tris a l) (given-points a l)
     mesh-run w' c k n =
-        let can : (q f : List Float) (qs : List ℕ) (z : Rules) → Type 0 =
-        λ q f qs z. CanRun w' q f qs z c (given-locks a l) (given-tris a l) (given-points a l) in
-        let new : IsNew (first-mesh most a l (h .passed)) ts (a .count) (a .given) =
-        subst (λ (z : List ℕ). IsNew (first-mesh most a l (h .passed)) z (a .count) (a .given)) (h .triangles) (is-new most a l (h .passed)) in
-        subst (λ (z : Rules). can q f qs z) (sym e)
-        (subst (λ (z : List ℕ). can q f z (rules-of most a)) (h .quads)
-        (subst (λ (z : List Float). can q z (l .quads) (rules-of most a)) (h .floats)
-        (subst (λ (z : List Float). can z (l .float-work) (l .quads) (rules-of most a)) (h .points)
-        (can-run most a l (h .passed) (h .usual) w' c (k .rep (first-mesh most a l (h .passed)) new) n))))
+        let can : (q f : List Float) (qs t : List ℕ) (z : Rules) → Type 0 =
+        λ q f qs t z. CanRun w' q f qs t z c (given-locks a l) (given-tris a l) (given-points a l) in
+        let room = length (l .trace) in
+        let new : IsNew (first-mesh most room a l (h .passed)) ts (a .count) (a .given) =
+        subst (λ (z : List ℕ). IsNew (first-mesh most room a l (h .passed)) z (a .count) (a .given)) (h .triangles) (is-new most room a l (h .passed)) in
+        subst (λ (z : Rules). can q f qs tr z) (sym e)
+        (subst (λ (z : List ℕ). can q f qs z (rules-of most (length z) a)) (h .trace)
+        (subst (λ (z : List ℕ). can q f z (l .trace) (rules-of most room a)) (h .quads)
+        (subst (λ (z : List Float). can q z (l .quads) (l .trace) (rules-of most room a)) (h .floats)
+        (subst (λ (z : List Float). can z (l .float-work) (l .quads) (l .trace) (rules-of most room a)) (h .points)
+        (can-run most room a l (h .passed) (h .usual) (l .trace) refl w' c (k .rep (first-mesh most room a l (h .passed)) new) n)))))
 
     -- the memory in which the mesh was built is as long as that lent
-    pub mesh-ran : (w₁ w' : List ℕ) (q' f' : List Float) (quads' : List ℕ) (r : Run) → length w₁ ≡ length w
-        → RunTo w₁ w' q q' f f' qs quads' rules
+    pub mesh-ran : (w₁ w' : List ℕ) (q' f' : List Float) (quads' tr' : List ℕ) (r : Run) → length w₁ ≡ length w
+        → RunTo w₁ w' q q' f f' qs quads' tr tr' rules
         (front-loop (rules .attempts + 2) (settings-of rules) (length (given-tris a l))
         (start (settings-of rules) (given-locks a l) (given-tris a l) (given-points a l))) r
-        → RunTo w w' q q' f f' qs quads' (rules-of most a) (progress-of most a l) r
+        → RunTo w w' q q' f f' qs quads' tr tr' (rules-of most (length tr) a) (progress-of most a l) r
     unfolding settings-within settings-of rounds-of
-    mesh-ran w₁ w' q' f' quads' r d k =
-        run-from w₁ w w' q q' f f' qs quads' (rules-of most a) (progress-of most a l) r d
-        (subst (λ (z : Rules). RunTo w₁ w' q q' f f' qs quads' z
-        (front-loop (z .attempts + 2) (settings-of z) (length (given-tris a l)) (start (settings-of z) (given-locks a l) (given-tris a l) (given-points a l))) r) e k)
+    mesh-ran w₁ w' q' f' quads' tr' r d k =
+        run-from w₁ w w' q q' f f' qs quads' tr tr' (rules-of most (length tr) a) (progress-of most a l) r d
+        (subst (λ (z : List ℕ). RunTo w₁ w' q q' f f' qs quads' tr tr' (rules-of most (length tr) a)
+        (rounds-of (settings-within most (length z) a) (given-locks a l) (given-tris a l) (given-points a l)) r) (sym (h .trace))
+        (subst (λ (z : Rules). RunTo w₁ w' q q' f f' qs quads' tr tr' z
+        (front-loop (z .attempts + 2) (settings-of z) (length (given-tris a l)) (start (settings-of z) (given-locks a l) (given-tris a l) (given-points a l))) r) e k))

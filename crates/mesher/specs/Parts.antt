@@ -31,34 +31,35 @@ use Rattle.mesher.specs.declared.run.Ran.{Ran}
 pub record Refused (k : ℕ) (r : Answer) : Type 0 where
   pub number : r .refusal ≡ k
   pub counts : counts-in r ≡ no-counts
-  pub lengths : lengths-in r ≡ record { quads = 0; triangles = 0; points = 0; components = 0 }
+  pub lengths : lengths-in r ≡ record { quads = 0; triangles = 0; points = 0; components = 0; words = 0 }
 
 -- the number of a run's end: 0 where it finished
 abbrev pub finish-number : Finish → ℕ
 finish-number finishes.Done = 0
 finish-number finishes.NoPoint = 8
 finish-number finishes.NoSlots = 9
+finish-number finishes.NoTrace = 11
 
 -- the bucket's side: the size, or 1.0 without one
 abbrev pub bucket-of : Float → Float
 bucket-of size = cond (tiny-size ≺ size) size 1·0
 
--- what the run of a call goes by, with at most so many attempts and this side of a bucket
-abbrev pub rules-with : ℕ → Asked → Float → Rules
-rules-with most a bucket = record { slots = a .slots; capacity = a .capacity; given = a .count; bucket = bucket; size = a .size; even = eqb (a .stop) 1; attempts = most; quality = quality-in (a .quality) }
+-- what the run of a call goes by, with at most so many attempts, so many words of trace and this side of a bucket
+abbrev pub rules-with : ℕ → ℕ → Asked → Float → Rules
+rules-with most room a bucket = record { slots = a .slots; capacity = a .capacity; given = a .count; bucket = bucket; size = a .size; even = eqb (a .stop) 1; attempts = most; room = room; quality = quality-in (a .quality) }
 
 -- and with its own
-abbrev pub rules-of : ℕ → Asked → Rules
-rules-of most a = rules-with most a (bucket-of (a .size))
+abbrev pub rules-of : ℕ → ℕ → Asked → Rules
+rules-of most room a = rules-with most room a (bucket-of (a .size))
 
 -- ---- the run
 
 -- how the run of a call ends
 abbrev pub progress-of : ℕ → Asked → Lent → Progress
-progress-of most a l = rounds-of (settings-within most a) (given-locks a l) (given-tris a l) (given-points a l)
+progress-of most a l = rounds-of (settings-within most (length (l .trace)) a) (given-locks a l) (given-tris a l) (given-points a l)
 
 -- a call that is not refused before its run, with at most its usual attempts, and the slices that its run reads and writes
-pub record CanMesh (q : List Float) (ts js qs w : List ℕ) (f : List Float) (most : ℕ) (a : Asked) (l : Lent) : Type 0 where
+pub record CanMesh (q : List Float) (ts js qs w : List ℕ) (f : List Float) (t : List ℕ) (most : ℕ) (a : Asked) (l : Lent) : Type 0 where
   pub passed : first-refusal a l ≡ 0
   pub usual : most ≤ max-attempts (a .count)
   pub points : l .points ≡ q
@@ -67,6 +68,7 @@ pub record CanMesh (q : List Float) (ts js qs w : List ℕ) (f : List Float) (mo
   pub quads : l .quads ≡ qs
   pub work : l .work ≡ w
   pub floats : l .float-work ≡ f
+  pub trace : l .trace ≡ t
 
 -- ---- the lists of a finished run
 
@@ -87,6 +89,7 @@ pub record FinishTo (o o' k k' : List ℕ) (g : Standing) (m : Mesh) (r : Answer
   pub left : r .triangles ≡ length (triangles m)
   pub points : r .points ≡ g .counters .points
   pub sizes : r .components ≡ length (component-sizes (triangles m))
+  pub words : r .words ≡ g .words
 
 -- ---- the run
 

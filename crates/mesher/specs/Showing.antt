@@ -26,9 +26,9 @@ use Rattle.mesher.specs.declared.preview.Shown.the-variants as shows
 abbrev pub first-of : Asked → Lent → Mesh
 first-of a l = new-mesh (settings a) (given-locks a l) (given-tris a l) (given-points a l)
 
--- what a run goes by, with its usual limit
+-- what a run goes by, with its usual limit and no trace
 abbrev pub usual-rules : Asked → Rules
-usual-rules a = rules-of (max-attempts (a .count)) a
+usual-rules a = rules-of (max-attempts (a .count)) 0 a
 
 -- a call that is not refused, and the slices that its preview reads and writes
 pub record CanShow (q : List Float) (ts js w : List ℕ) (a : Asked) (l : Lent) : Type 0 where
@@ -60,6 +60,7 @@ shown-by ends.Region t u v = shows.Refused kinds.Region (cost-by t)
 shown-by ends.OddRegion t u v = shows.Refused kinds.OddRegion (cost-by t)
 shown-by ends.NoPoint t u v = shows.Refusal 8
 shown-by ends.NoSlots t u v = shows.Refusal 9
+shown-by ends.NoTrace t u v = shows.Refusal 11
 
 -- ---- the points
 

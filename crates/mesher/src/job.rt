@@ -119,31 +119,32 @@ pub fn run_mesh(
     components: &mut [u32],
     work: &mut [u32],
     float_work: &mut [f64],
+    trace: &mut [u32],
     state: Job,
     stated: Stated,
 ) -> Mesh
     ensures { λ r. ⌜ Job-returns
         (job (job-of state)
         (asked stated)
-        (lent-of (now (points .entry)) (now (triangles .entry)) (now (joints .entry)) (now (quads .entry)) (now («triangles_out» .entry)) (now (components .entry)) (now (work .entry)) (now («float_work» .entry))))
+        (lent-of (now (points .entry)) (now (triangles .entry)) (now (joints .entry)) (now (quads .entry)) (now («triangles_out» .entry)) (now (components .entry)) (now (work .entry)) (now («float_work» .entry)) (now (trace .entry))))
         r
-        (lent-of (now (points .exit)) (now (triangles .entry)) (now (joints .entry)) (now (quads .exit)) (now («triangles_out» .exit)) (now (components .exit)) (now (work .exit)) (now («float_work» .exit))) ⌝ }
+        (lent-of (now (points .exit)) (now (triangles .entry)) (now (joints .entry)) (now (quads .exit)) (now («triangles_out» .exit)) (now (components .exit)) (now (work .exit)) (now («float_work» .exit)) (now (trace .exit))) ⌝ }
     ensures { λ r. ⌜ Kept-account-within
         (job-limit (job-of state) (asked stated))
         (asked stated)
-        (lent-of (now (points .entry)) (now (triangles .entry)) (now (joints .entry)) (now (quads .entry)) (now («triangles_out» .entry)) (now (components .entry)) (now (work .entry)) (now («float_work» .entry)))
+        (lent-of (now (points .entry)) (now (triangles .entry)) (now (joints .entry)) (now (quads .entry)) (now («triangles_out» .entry)) (now (components .entry)) (now (work .entry)) (now («float_work» .entry)) (now (trace .entry)))
         (r .answer)
-        (lent-of (now (points .exit)) (now (triangles .entry)) (now (joints .entry)) (now (quads .exit)) (now («triangles_out» .exit)) (now (components .exit)) (now (work .exit)) (now («float_work» .exit))) ⌝ }
+        (lent-of (now (points .exit)) (now (triangles .entry)) (now (joints .entry)) (now (quads .exit)) (now («triangles_out» .exit)) (now (components .exit)) (now (work .exit)) (now («float_work» .exit)) (now (trace .exit))) ⌝ }
     ensures { λ r. ⌜ Kept-joints
         (asked stated)
-        (lent-of (now (points .entry)) (now (triangles .entry)) (now (joints .entry)) (now (quads .entry)) (now («triangles_out» .entry)) (now (components .entry)) (now (work .entry)) (now («float_work» .entry)))
+        (lent-of (now (points .entry)) (now (triangles .entry)) (now (joints .entry)) (now (quads .entry)) (now («triangles_out» .entry)) (now (components .entry)) (now (work .entry)) (now («float_work» .entry)) (now (trace .entry)))
         (r .answer)
-        (lent-of (now (points .exit)) (now (triangles .entry)) (now (joints .entry)) (now (quads .exit)) (now («triangles_out» .exit)) (now (components .exit)) (now (work .exit)) (now («float_work» .exit))) ⌝ }
+        (lent-of (now (points .exit)) (now (triangles .entry)) (now (joints .entry)) (now (quads .exit)) (now («triangles_out» .exit)) (now (components .exit)) (now (work .exit)) (now («float_work» .exit)) (now (trace .exit))) ⌝ }
     ensures { λ r. ⌜ Kept-area
         (asked stated)
-        (lent-of (now (points .entry)) (now (triangles .entry)) (now (joints .entry)) (now (quads .entry)) (now («triangles_out» .entry)) (now (components .entry)) (now (work .entry)) (now («float_work» .entry)))
+        (lent-of (now (points .entry)) (now (triangles .entry)) (now (joints .entry)) (now (quads .entry)) (now («triangles_out» .entry)) (now (components .entry)) (now (work .entry)) (now («float_work» .entry)) (now (trace .entry)))
         (r .answer)
-        (lent-of (now (points .exit)) (now (triangles .entry)) (now (joints .entry)) (now (quads .exit)) (now («triangles_out» .exit)) (now (components .exit)) (now (work .exit)) (now («float_work» .exit))) ⌝ }
+        (lent-of (now (points .exit)) (now (triangles .entry)) (now (joints .entry)) (now (quads .exit)) (now («triangles_out» .exit)) (now (components .exit)) (now (work .exit)) (now («float_work» .exit)) (now (trace .exit))) ⌝ }
 {
     if bad_job(state) {
         return Mesh {
@@ -177,6 +178,7 @@ pub fn run_mesh(
         components,
         work,
         float_work,
+        trace,
         stated,
         most,
     );

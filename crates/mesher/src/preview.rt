@@ -13,8 +13,10 @@ use outcomes::Tried;
 use refusals::Room;
 use refusals::Stated;
 use refusals::refusal;
+use traces::Log;
 use try_quad::tried::try_quad;
 ghost use mathlib.Core.Path.{_≡_};
+ghost use mathlib.Core.List.{[]};
 ghost use Prim.Native.Nat.{_+_, _≤_, _<_};
 ghost use lib.ListN.{length};
 ghost use Rattle.definition.specs.Cells.{key};
@@ -120,10 +122,11 @@ fn shown_by(t: Tried, u: usize, v: usize) -> Shown
         End::OddRegion => Shown::Refused(Kind::OddRegion, cost),
         End::NoPoint => Shown::Refusal(8),
         End::NoSlots => Shown::Refusal(9),
+        End::NoTrace => Shown::Refusal(11),
     }
 }
 
-// The attempt on the edge u-v of the mesh that was built.
+// The attempt on the edge u-v of the mesh that was built, with no trace.
 fn attempted(
     points: &mut [f64],
     joints: &[u32],
@@ -136,11 +139,13 @@ fn attempted(
     ensures { λ r. ⌜ ((l : Lent) → CanTry (now (points .entry)) (now (joints .entry)) (now (work .entry)) (asked stated) l u v → ((c : Counters) × AttemptTo (now (work .exit)) (now (points .entry)) (now (points .exit)) (usual-rules (asked stated)) c (try-quad (settings (asked stated)) (first-of (asked stated) l) (u, v)) r)) ⌝ }
 {
     let usual = ATTEMPTS_EACH * stated.count + ATTEMPTS_MORE;
-    let rules = rules_of(stated, usual);
+    let rules = rules_of(stated, usual, 0);
     let counters = Counters::new(stated.count, stated.given);
     let mut table = [0u32; 1537];
     put_joints(&mut table, joints, stated.joints);
-    try_quad(work, points, &table, rules, counters, u, v)
+    let mut none = [0u32; 0];
+    let log = Log { at: 0, round: 1 };
+    try_quad(work, points, &table, &mut none, rules, counters, log, u, v)
 }
 
 // The same, and then the points are as they were.
@@ -236,10 +241,10 @@ pub fn preview(
     ensures { λ r. ⌜ Previews
         (preview
         (asked stated)
-        (lent-of (now (points .entry)) (now (triangles .entry)) (now (joints .entry)) (now (quads .entry)) (now («triangles_out» .entry)) (now (components .entry)) (now (work .entry)) (now («float_work» .entry)))
+        (lent-of (now (points .entry)) (now (triangles .entry)) (now (joints .entry)) (now (quads .entry)) (now («triangles_out» .entry)) (now (components .entry)) (now (work .entry)) (now («float_work» .entry)) [])
         u v)
         r
-        (lent-of (now (points .exit)) (now (triangles .entry)) (now (joints .entry)) (now (quads .entry)) (now («triangles_out» .entry)) (now (components .entry)) (now (work .exit)) (now («float_work» .exit))) ⌝ }
+        (lent-of (now (points .exit)) (now (triangles .entry)) (now (joints .entry)) (now (quads .entry)) (now («triangles_out» .entry)) (now (components .entry)) (now (work .exit)) (now («float_work» .exit)) []) ⌝ }
 {
     let room = Room {
         quads: quads.len(),

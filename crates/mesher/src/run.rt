@@ -16,6 +16,7 @@ use settling::standing::Standing;
 ghost use mathlib.Core.Path.{_≡_};
 ghost use Rattle.definition.specs.Cells.{Mesh};
 ghost use Prim.Native.Nat.{_≤_};
+ghost use lib.ListN.{length};
 ghost use Rattle.definition.specs.Numbers.{max-attempts};
 ghost use Rattle.definition.specs.Call.{Lent};
 ghost use Rattle.refusals.specs.Refusals.{first-refusal};
@@ -50,6 +51,7 @@ pub fn refused(number: usize) -> Answer
         points: 0,
         components: 0,
         trials: 0,
+        words: 0,
     }
 }
 
@@ -61,6 +63,7 @@ fn number_of(finish: Finish) -> usize
         Finish::Done => 0,
         Finish::NoPoint => 8,
         Finish::NoSlots => 9,
+        Finish::NoTrace => 11,
     }
 }
 
@@ -72,11 +75,12 @@ fn mesh(
     quads: &mut [u32],
     work: &mut [u32],
     float_work: &mut [f64],
+    trace: &mut [u32],
     stated: Stated,
     attempts: usize,
 ) -> Run
-    requires { ⌜ ((l : Lent) × CanMesh (now points) (now triangles) (now joints) (now quads) (now work) (now «float_work») attempts (asked stated) l) ⌝ }
-    ensures { λ r. ⌜ ((l : Lent) → CanMesh (now (points .entry)) (now (triangles .entry)) (now (joints .entry)) (now (quads .entry)) (now (work .entry)) (now («float_work» .entry)) attempts (asked stated) l → RunTo (now (work .entry)) (now (work .exit)) (now (points .entry)) (now (points .exit)) (now («float_work» .entry)) (now («float_work» .exit)) (now (quads .entry)) (now (quads .exit)) (rules-of attempts (asked stated)) (progress-of attempts (asked stated) l) r) ⌝ }
+    requires { ⌜ ((l : Lent) × CanMesh (now points) (now triangles) (now joints) (now quads) (now work) (now «float_work») (now trace) attempts (asked stated) l) ⌝ }
+    ensures { λ r. ⌜ ((l : Lent) → CanMesh (now (points .entry)) (now (triangles .entry)) (now (joints .entry)) (now (quads .entry)) (now (work .entry)) (now («float_work» .entry)) (now (trace .entry)) attempts (asked stated) l → RunTo (now (work .entry)) (now (work .exit)) (now (points .entry)) (now (points .exit)) (now («float_work» .entry)) (now («float_work» .exit)) (now (quads .entry)) (now (quads .exit)) (now (trace .entry)) (now (trace .exit)) (rules-of attempts (length (now (trace .entry))) (asked stated)) (progress-of attempts (asked stated) l) r) ⌝ }
 {
     build(
         work,
@@ -86,11 +90,11 @@ fn mesh(
         stated.count,
         stated.given,
     );
-    let counters = Counters::new(stated.count, stated.given);
-    let rules = rules_of(stated, attempts);
+    let c = Counters::new(stated.count, stated.given);
+    let rules = rules_of(stated, attempts, trace.len());
     let mut table = [0u32; 1537];
     put_joints(&mut table, joints, stated.joints);
-    front_loop(work, points, float_work, quads, &table, rules, counters)
+    front_loop(work, points, float_work, quads, trace, &table, rules, c)
 }
 
 // The triangles that are left and the sizes of their components come to the front of their slices; the answer of the finished run.
@@ -125,6 +129,7 @@ fn finish(
         points: c.points,
         components: sizes,
         trials: t.trials,
+        words: g.words,
     }
 }
 
@@ -138,15 +143,16 @@ pub fn run(
     components: &mut [u32],
     work: &mut [u32],
     float_work: &mut [f64],
+    trace: &mut [u32],
     stated: Stated,
     attempts: usize,
 ) -> Ran
-    requires { ⌜ first-refusal (asked stated) (lent-of (now points) (now triangles) (now joints) (now quads) (now «triangles_out») (now components) (now work) (now «float_work»)) ≡ 0 ⌝ }
+    requires { ⌜ first-refusal (asked stated) (lent-of (now points) (now triangles) (now joints) (now quads) (now «triangles_out») (now components) (now work) (now «float_work») (now trace)) ≡ 0 ⌝ }
     requires { ⌜ attempts ≤ max-attempts (asked stated .count) ⌝ }
     ensures { λ r. ⌜ RanTo attempts (asked stated)
-        (lent-of (now (points .entry)) (now (triangles .entry)) (now (joints .entry)) (now (quads .entry)) (now («triangles_out» .entry)) (now (components .entry)) (now (work .entry)) (now («float_work» .entry)))
+        (lent-of (now (points .entry)) (now (triangles .entry)) (now (joints .entry)) (now (quads .entry)) (now («triangles_out» .entry)) (now (components .entry)) (now (work .entry)) (now («float_work» .entry)) (now (trace .entry)))
         r
-        (lent-of (now (points .exit)) (now (triangles .entry)) (now (joints .entry)) (now (quads .exit)) (now («triangles_out» .exit)) (now (components .exit)) (now (work .exit)) (now («float_work» .exit))) ⌝ }
+        (lent-of (now (points .exit)) (now (triangles .entry)) (now (joints .entry)) (now (quads .exit)) (now («triangles_out» .exit)) (now (components .exit)) (now (work .exit)) (now («float_work» .exit)) (now (trace .exit))) ⌝ }
 {
     let end = mesh(
         points,
@@ -155,6 +161,7 @@ pub fn run(
         quads,
         work,
         float_work,
+        trace,
         stated,
         attempts,
     );

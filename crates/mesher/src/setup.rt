@@ -24,9 +24,9 @@ fn bucket_of(size: f64) -> f64
     NO_SIZE
 }
 
-// With at most so many attempts.
-pub fn rules_of(stated: Stated, attempts: usize) -> Rules
-    ensures { λ r. ⌜ r ≡ rules-of attempts (asked stated) ⌝ }
+// With at most so many attempts, and so many words of trace.
+pub fn rules_of(stated: Stated, attempts: usize, room: usize) -> Rules
+    ensures { λ r. ⌜ r ≡ rules-of attempts room (asked stated) ⌝ }
 {
     let bucket = bucket_of(stated.size);
     let even = stated.stop == EVEN;
@@ -39,6 +39,7 @@ pub fn rules_of(stated: Stated, attempts: usize) -> Rules
         size: stated.size,
         even,
         attempts,
+        room,
         quality,
     }
 }

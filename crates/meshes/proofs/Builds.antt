@@ -78,7 +78,7 @@ live-snoc n xs =
 
 -- some mesh of the first n triangles over g points
 abbrev pub sample : List ℕ → ℕ → ℕ → Mesh
-sample xs n g = record { points = first-points g []; used = n; live = in-slots 0 (first-tris n xs); bucket = 0·0; locked = λ e. false }
+sample xs n g = record { points = first-points g []; used = n; live = in-slots 0 (first-tris n xs); bucket = 0·0; locked = λ e. false; room = 0; history = [] }
 
 pub sample-new : (xs : List ℕ) (n g : ℕ) → IsNew (sample xs n g) xs n g
 sample-new xs n g = record { points = points-length g []; used = refl; live = refl }

@@ -4,7 +4,7 @@ use mathlib.Core.List.{List}
 use Prim.Native.Nat.{ℕ, _≤_}
 use lib.Ieee.{Float}
 use lib.ListN.{length}
-use Rattle.definition.specs.Counts.{Spent, Refusal, Placement, Shape, Recovery, Region, OddRegion, Want, of-points, of-slots}
+use Rattle.definition.specs.Counts.{Spent, Refusal, Placement, Shape, Recovery, Region, OddRegion, Want, of-points, of-slots, of-trace}
 use Rattle.definition.specs.Cells.{Quad, Mesh, new-quad, born}
 use Rattle.definition.specs.Attempt.{Attempt, placed, refused, ended}
 use Rattle.rules.specs.declared.Rules.{Rules}
@@ -22,10 +22,11 @@ spent n k f = record { insertions = n; trials = k; flips = f }
 abbrev pub only-inserted : ℕ → Spent
 only-inserted n = spent n 0 0
 
--- the end, the counters, the insertions, the trials and the flips as handed in
-pub record Plain (e : End) (c : Counters) (n k f : ℕ) (r : Tried) : Type 0 where
+-- the end, the counters, the words of the trace, the insertions, the trials and the flips as handed in
+pub record Plain (e : End) (c : Counters) (t n k f : ℕ) (r : Tried) : Type 0 where
   pub end : r .end ≡ e
   pub counters : r .counters ≡ c
+  pub at : r .at ≡ t
   pub inserted : r .inserted ≡ n
   pub trials : r .trials ≡ k
   pub flips : r .flips ≡ f
@@ -42,6 +43,7 @@ end-of OddRegion = ends.OddRegion
 unfoldable pub end-for : Want → End
 end-for of-points = ends.NoPoint
 end-for of-slots = ends.NoSlots
+end-for of-trace = ends.NoTrace
 
 -- the quad that was placed, in that round
 abbrev pub quad-of : ℕ → Tried → Quad
@@ -68,3 +70,9 @@ abbrev pub AttemptTo : List ℕ → List Float → List Float → Rules → Coun
 AttemptTo w' q q' rules c (placed n m k) r = (r .end ≡ ends.Placed) × Grew k r × Left w' q q' rules c n m r
 AttemptTo w' q q' rules c (refused why n m) r = (r .end ≡ end-of why) × Left w' q q' rules c n m r
 AttemptTo w' q q' rules c (ended wt n m) r = (r .end ≡ end-for wt) × Left w' q q' rules c n m r
+
+-- the mesh that the attempt leaves
+abbrev pub attempt-mesh : Attempt → Mesh
+attempt-mesh (placed n m k) = m
+attempt-mesh (refused why n m) = m
+attempt-mesh (ended wt n m) = m

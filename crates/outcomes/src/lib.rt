@@ -3,7 +3,7 @@ use cells::counters::Counters;
 ghost use mathlib.Core.Path.{_≡_};
 ghost use Rattle.outcomes.specs.Ends.{Plain};
 
-// How an attempt ends: a quad is placed; it is refused under one of five names; or no point, or too few slots, are left and the run ends.
+// How an attempt ends: a quad is placed; it is refused under one of five names; or no point, too few slots, or too little of the trace is left and the run ends.
 pub enum End {
     Placed,
     Placement,
@@ -13,12 +13,14 @@ pub enum End {
     OddRegion,
     NoPoint,
     NoSlots,
+    NoTrace,
 }
 
-// The end of an attempt, the counters after it, the insertions that it made, the pairs that it tried and the flips that it made, and where a quad is placed its nodes and how many triangles it replaced.
+// The end of an attempt, the counters after it, the words used of the trace, the insertions that it made, the pairs that it tried and the flips that it made, and where a quad is placed its nodes and how many triangles it replaced.
 pub struct Tried {
     pub end: End,
     pub counters: Counters,
+    pub at: usize,
     pub inserted: usize,
     pub trials: usize,
     pub flips: usize,
@@ -33,15 +35,17 @@ pub struct Tried {
 pub fn without_quad(
     end: End,
     counters: Counters,
+    at: usize,
     inserted: usize,
     trials: usize,
     flips: usize,
 ) -> Tried
-    ensures { λ r. ⌜ Plain end counters inserted trials flips r ⌝ }
+    ensures { λ r. ⌜ Plain end counters at inserted trials flips r ⌝ }
 {
     Tried {
         end,
         counters,
+        at,
         inserted,
         trials,
         flips,

@@ -8,6 +8,7 @@ use Prim.{absurd}
 use Prim.Native.Nat.{ℕ, _≤_, _<_}
 use native.Mathlib.Omega.{arith}
 use lib.Ieee.{Float}
+use lib.ListN.{length}
 use Rattle.definition.specs.Lists.{find}
 use Rattle.definition.specs.Front.{run-front}
 use Rattle.definition.specs.Call.{Asked, Lent, over-limit, bad-size, bad-stop, bad-quality, too-short, unknown-node, repeated-node, far-point, bad-grid, bad-joints, conditions, given-points, given-tris, given-joints, given-locks, settings-within, untouched, after-run, call-within}
@@ -102,7 +103,7 @@ module _ (a : Asked) (l : Lent) (zero-is : first-refusal a l ≡ 0) where
   none-holds = rw (clear .c1, clear .c2, clear .c3, clear .c14, clear .c4, clear .c5, clear .c6, clear .c7, clear .c15, clear .c13)
 
   -- and the call runs
-  pub call-runs : (most : ℕ) → call-within most a l ≡ after-run l (run-front (settings-within most a) (given-locks a l) (given-tris a l) (given-points a l))
+  pub call-runs : (most : ℕ) → call-within most a l ≡ after-run l (run-front (settings-within most (length (l .trace)) a) (given-locks a l) (given-tris a l) (given-points a l))
   unfolding call-within
   call-runs most = rw (none-holds, call-within)
 

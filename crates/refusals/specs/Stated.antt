@@ -1,7 +1,7 @@
 -- The code's arguments in the definition's words.
 use mathlib.Core.Path.{_≡_, refl}
 use mathlib.Core.Bool.{Bool}
-use mathlib.Core.List.{List}
+use mathlib.Core.List.{List, []}
 use Prim.Native.Nat.{ℕ}
 use lib.ListN.{length, replicate, length-replicate}
 use lib.Ieee.{Float}
@@ -49,6 +49,7 @@ blank ps ts js n =
       components = replicate (n .components) 0;
       work = replicate (n .work) 0;
       float-work = replicate (n .floats) 0·0;
+      trace = [];
     }
 
 pub blank-lends : (ps : List Float) (ts js : List ℕ) (n : Room) → Lends (blank ps ts js n) ps ts js n

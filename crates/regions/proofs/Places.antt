@@ -1,20 +1,22 @@
 -- The listed cells removed one after the other: what `remove-cells` removes at once.
 use mathlib.Core.Path.{_≡_, refl, ap, sym, _∙_, subst}
 use mathlib.Core.Bool.{Bool, true, false, not, cond, _||_}
-use mathlib.Core.List.{List, [], _∷_}
+use mathlib.Core.List.{List, [], _∷_, map}
 use Prim.Native.Nat.{ℕ, _+_, _≤_, _<_}
 use native.Mathlib.Omega.{arith}
 use lib.Dec.{eqb}
 use lib.ListN.{getD, drop}
 use Rattle.definition.specs.Lists.{filter, any}
 use Rattle.definition.specs.Plane.{Edge}
-use Rattle.definition.specs.Cells.{quad, Live, Mesh, with-live, in-slot, among, without, without-all, remove-cell, remove-cells, push-cell, new-live}
+use Rattle.definition.specs.Cells.{quad, Live, Event, was-placed, Mesh, with-live, noting, in-slot, among, without, without-all, remove-cell, remove-cells, push-cell, new-live}
 use Rattle.definition.specs.Attempt.{replaced}
 use Rattle.laws.specs.Numbers.{eqb-swap}
 use Rattle.laws.specs.Cells.{none-gone}
 use Rattle.laws.specs.Frames.{Keeps, keeps-trans}
 use Rattle.cells.specs.Layout.{mesh-end, list-at}
 use Rattle.cells.specs.Rep.{Rep}
+use Rattle.cells.proofs.Frames.{rep-as}
+use Rattle.cells.proofs.Notes.{grown-same}
 use Rattle.meshes.specs.Changes.{Turns, Anything, CanPush, quad-of-nodes, born-of-nodes}
 use Rattle.regions.specs.Listing.{Listed}
 use Rattle.regions.specs.Fill.{Gone, Replaced}
@@ -81,13 +83,21 @@ module _ (w₀ w : List ℕ) (s p n i : ℕ) (m : Mesh) (xs : List Live) (h : Li
 
 -- ---- the quad
 
+-- an event that is noted changes nothing that the memory stands for
+rep-noting : (v : Event) (m : Mesh) (w : List ℕ) (s p : ℕ) → Rep w s p m → Rep w s p (noting v m)
+unfolding noting
+rep-noting v m w s p r = rep-as w s p m (noting v m) r (omega arith) (r .used) (grown-same m (noting v m) refl) (r .points) refl
+
 module _ (w w1 w2 : List ℕ) (s p i n a b c d : ℕ) (g : Gone w w1 s p n remove-cells)
     (t : (e : Edge) (round gone : ℕ) → Turns w1 w2 s p (λ m. CanPush m s i (quad-of-nodes a b c d)) (λ m. push-cell m (quad (born-of-nodes e round gone a b c d)))) where
   pub replacing : Replaced w w2 s p i n a b c d
   unfolding replaced remove-cells with-live
   replacing =
       record {
-        rep = λ m xs e round gone h k. t e round gone .rep (remove-cells m xs) (g .rep m xs h) (record { next = k .next; free = k .free; shape = k .shape });
+        rep = λ m xs e round gone h k.
+            let q = born-of-nodes e round gone a b c d in
+            rep-noting (was-placed q (map (λ x. x .slot) xs)) (push-cell (remove-cells m xs) (quad q)) w2 s p
+            (t e round gone .rep (remove-cells m xs) (g .rep m xs h) (record { next = k .next; free = k .free; shape = k .shape }));
         keeps = keeps-trans w w1 w2 (mesh-end s p) (g .keeps) (t (0, 0) 0 0 .keeps);
       }
 

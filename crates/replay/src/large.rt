@@ -151,6 +151,7 @@ fn answer_hash(size: f64, stop: u32) -> u64 {
     put_points(&mut points);
     put_triangles(&mut triangles);
     let none = [0u32; 0];
+    let mut no_trace = [0u32; 0];
     let a = run_front(
         &mut points,
         &triangles,
@@ -160,6 +161,7 @@ fn answer_hash(size: f64, stop: u32) -> u64 {
         &mut components,
         &mut work,
         &mut floats,
+        &mut no_trace,
         standard(NODES, CAPACITY, 2 * SQUARES, SLOTS, size, stop),
     );
     let given = mixed_words(mixed_counts(a), &quads, 8 * within(a.quads));

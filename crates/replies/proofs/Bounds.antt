@@ -5,10 +5,11 @@ use mathlib.Core.Logic.{inl, inr}
 use Prim.{absurd}
 use Prim.Native.Nat.{ℕ, _+_, _≤_, _<_}
 use native.Mathlib.Omega.{arith}
+use lib.ListN.{length}
 use lib.Ieee.{binary64, fits}
 use Rattle.definition.specs.Lists.{find}
 use Rattle.definition.specs.Numbers.{max-attempts}
-use Rattle.definition.specs.Counts.{Counts, tally, no-counts, Want, of-points, of-slots, number}
+use Rattle.definition.specs.Counts.{Counts, tally, no-counts, Want, of-points, of-slots, of-trace, number}
 use Rattle.definition.specs.Front.{Outcome, ran, wanting, run-front}
 use Rattle.definition.specs.Call.{Asked, Lent, Lengths, finished, refusal, given-points, given-tris, given-locks, settings-within, conditions, untouched, after-run, call-within, call}
 use Rattle.definition.specs.Call as call
@@ -46,16 +47,17 @@ module _ (a : Asked) (l : Lent) (k : ℕ) where
   unfolding number
   of-want of-points = (omega arith, omega arith)
   of-want of-slots = (omega arith, omega arith)
+  of-want of-trace = (omega arith, omega arith)
 
   of-outcome : (o : Outcome) → after-run l o .answer ≡ refusal k → (0 < k) × (k ≤ 16)
   unfolding after-run
   of-outcome (ran r) e = absurd (let z : _≡_ {A = ℕ} 0 1 = cc in omega arith)
-  of-outcome (wanting w ps qs) e = let f : number w ≡ k = cc in let b = of-want w in (omega arith, omega arith)
+  of-outcome (wanting w ps qs ws) e = let f : number w ≡ k = cc in let b = of-want w in (omega arith, omega arith)
 
   within : (most : ℕ) → call-within most a l .answer ≡ refusal k → (0 < k) × (k ≤ 16)
   unfolding call-within untouched
   within most h = elim (known (find (λ c. c .1) (conditions a l))) [
-    | inl f ↦ of-outcome (run-front (settings-within most a) (given-locks a l) (given-tris a l) (given-points a l)) (rw (f, call-within) at h)
+    | inl f ↦ of-outcome (run-front (settings-within most (length (l .trace)) a) (given-locks a l) (given-tris a l) (given-points a l)) (rw (f, call-within) at h)
     | inr f ↦
         let g : refusal (f .0 .0) ≡ refusal k = rw (f .1, call-within) at h in
         let e : f .0 .0 ≡ k = cc in
@@ -93,9 +95,9 @@ module _ (a : Asked) (l : Lent) (double : fits binary64 (a .quality .largest-cos
       let f = answer-fits most a l c n e in
       let exit = call a l .lent in
       record {
-        front-empty = subst (λ z. z .front-empty ≤ 1) (sym (b .counts-are)) (front-empty-bound (settings-within most a) (given-locks a l) (given-tris a l) (given-points a l) (b .run) (b .ended));
+        front-empty = subst (λ z. z .front-empty ≤ 1) (sym (b .counts-are)) (front-empty-bound (settings-within most (length (l .trace)) a) (given-locks a l) (given-tris a l) (given-points a l) (b .run) (b .ended));
         attempts =
-            let h = attempts-bound (settings-within most a) (given-locks a l) (given-tris a l) (given-points a l) (b .run) (b .ended) in
+            let h = attempts-bound (settings-within most (length (l .trace)) a) (given-locks a l) (given-tris a l) (given-points a l) (b .run) (b .ended) in
             let g : b .run .counts .attempts ≤ 22801 = omega arith in
             subst (λ z. z .attempts ≤ 22801) (sym (b .counts-are)) g;
         adds-up = let s = k .attempts-sum in omega arith;

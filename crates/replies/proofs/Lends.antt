@@ -23,7 +23,7 @@ asks h = asked-for (h .points) 96 (h .triangles) 160 0 (f64 (h .size)) (h .stop)
 
 -- what it lends, with these points and triangles
 abbrev pub lending : List Float → List ℕ → Lent
-lending ps ts = lent-of ps ts [] (replicate 1280 0) (replicate 480 0) (replicate 160 0) (replicate 11008 0) (replicate 640 0·0)
+lending ps ts = lent-of ps ts [] (replicate 1280 0) (replicate 480 0) (replicate 160 0) (replicate 11008 0) (replicate 640 0·0) []
 
 -- for the header and the two slices that were read
 abbrev pub lends : Header → List ℕ → List ℕ → Lent

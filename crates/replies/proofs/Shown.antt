@@ -14,6 +14,10 @@ use Rattle.mesher.specs.declared.Answer.{Answer}
 use Rattle.mesher.specs.Promise.{number-of, counts-in, lengths-in}
 use Rattle.replies.specs.Tells.{Left}
 
+-- the lengths of a run without a trace
+abbrev pub untraced : call.Lengths → call.Lengths
+untraced n = record { quads = n .quads; triangles = n .triangles; points = n .points; components = n .components; words = 0 }
+
 module _ {x : Returned} {a : Answer} {points : List Float} {quads triangles components : List ℕ} (given : List (List ℕ)) (h : Left x a points quads triangles components) where
   by-number : (w : call.Answer) → x .answer ≡ w → 0 < a .refusal → show-refusal (a .refusal) ≡ show-answer given (x .lent) w
   unfolding show-answer number-of
@@ -37,11 +41,17 @@ module _ {x : Returned} {a : Answer} {points : List Float} {quads triangles comp
       ∙ sym (only-shown given c n (x .lent))
   by-lists (refusal k) e p = absurd (let z : a .refusal ≡ k = h .answer .number ∙ ap number-of e in let q = h .named k e in omega arith)
 
+  -- the words of a trace are never looked at
+  words-unseen : (c : def.Counts) (n : call.Lengths) (l : call.Lent) → show-lists given c (untraced n) l ≡ show-lists given c n l
+  unfolding show-lists
+  words-unseen c n l = refl
+
   -- a finished run
-  pub finished-shown : (c : def.Counts) (n : call.Lengths) → a .refusal ≤ 0 → c ≡ counts-in a → n ≡ lengths-in a
+  pub finished-shown : (c : def.Counts) (n : call.Lengths) → a .refusal ≤ 0 → c ≡ counts-in a → n ≡ untraced (lengths-in a)
       → show-lists given c n (shown points quads triangles components) ≡ show-returned given x
   unfolding show-returned
   finished-shown c n p e f =
       ap (λ z. show-lists given z n (shown points quads triangles components)) e
       ∙ ap (λ z. show-lists given (counts-in a) z (shown points quads triangles components)) f
+      ∙ words-unseen (counts-in a) (lengths-in a) (shown points quads triangles components)
       ∙ by-lists (x .answer) refl p

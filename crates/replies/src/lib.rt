@@ -92,6 +92,7 @@ fn meshed(h: Header, tris: &[u32], bits: &[u64], out: &mut [u8]) -> usize
     let mut float_work = [0.0f64; 640];
     let end = 3 * count;
     let none = [0u32; 0];
+    let mut no_trace = [0u32; 0];
     let stated = refusals::standard(given, POINTS, count, SLOTS, size, h.stop);
     let a = mesher::run_front(
         &mut points,
@@ -102,6 +103,7 @@ fn meshed(h: Header, tris: &[u32], bits: &[u64], out: &mut [u8]) -> usize
         &mut components,
         &mut work,
         &mut float_work,
+        &mut no_trace,
         stated,
     );
     told(

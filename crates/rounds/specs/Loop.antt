@@ -7,7 +7,7 @@ use lib.ListN.{length}
 use lib.Ieee.{Float}
 use Rattle.definition.specs.Lists.{flat-map}
 use Rattle.definition.specs.Numbers.{max-attempts}
-use Rattle.definition.specs.Counts.{Want, of-points, of-slots}
+use Rattle.definition.specs.Counts.{Want, of-points, of-slots, of-trace}
 use Rattle.definition.specs.Plane.{Node, Edge}
 use Rattle.definition.specs.Cells.{Tri}
 use Rattle.definition.specs.Front.{State, Progress, stuck, progressed, limited, stopped, start}
@@ -17,6 +17,7 @@ use Rattle.rules.specs.declared.Rules.{Rules}
 use Rattle.rules.specs.Settings.{settings-of}
 use Rattle.account.specs.Start.{Proper}
 use Rattle.exact.specs.Theorems.{Within}
+use Rattle.traces.specs.Log.{Logged}
 use Rattle.cells.specs.declared.counters.Counters.{Counters}
 use Rattle.outcomes.specs.Ready.{Ready, Behind}
 use Rattle.settling.specs.declared.standing.Standing.{Standing}
@@ -37,6 +38,7 @@ is-progressed goings.Progressed = true
 is-progressed goings.Limited = false
 is-progressed goings.NoPoint = false
 is-progressed goings.NoSlots = false
+is-progressed goings.NoTrace = false
 
 -- how a run ends whose last step ended so
 abbrev pub finish-of : Going → Finish
@@ -45,18 +47,20 @@ finish-of goings.Progressed = finishes.Done
 finish-of goings.Limited = finishes.Done
 finish-of goings.NoPoint = finishes.NoPoint
 finish-of goings.NoSlots = finishes.NoSlots
+finish-of goings.NoTrace = finishes.NoTrace
 
 -- for want of lent memory
 abbrev pub want-finish : Want → Finish
 want-finish of-points = finishes.NoPoint
 want-finish of-slots = finishes.NoSlots
+want-finish of-trace = finishes.NoTrace
 
 -- the memory stands for the last state, by cases
-abbrev pub Finished : List ℕ → List Float → List ℕ → Setup → Progress → Run → Type 0
-Finished w q quads x (stuck st) r = (r .finish ≡ finishes.Done) × Leaves w q quads x (r .standing) st
-Finished w q quads x (progressed st) r = (r .finish ≡ finishes.Done) × Leaves w q quads x (r .standing) st
-Finished w q quads x (limited st) r = (r .finish ≡ finishes.Done) × Leaves w q quads x (r .standing) st
-Finished w q quads x (stopped wt st) r = (r .finish ≡ want-finish wt) × Leaves w q quads x (r .standing) st
+abbrev pub Finished : List ℕ → List Float → List ℕ → List ℕ → Setup → Progress → Run → Type 0
+Finished w q quads t x (stuck st) r = (r .finish ≡ finishes.Done) × Leaves w q quads t x (r .standing) st
+Finished w q quads t x (progressed st) r = (r .finish ≡ finishes.Done) × Leaves w q quads t x (r .standing) st
+Finished w q quads t x (limited st) r = (r .finish ≡ finishes.Done) × Leaves w q quads t x (r .standing) st
+Finished w q quads t x (stopped wt st) r = (r .finish ≡ want-finish wt) × Leaves w q quads t x (r .standing) st
 
 -- ---- the start
 
@@ -74,9 +78,10 @@ pub record Begins (c : Counters) (g : Standing) : Type 0 where
   pub trials : g .tally .trials ≡ 0
   pub quads : g .quads ≡ 0
   pub records : g .records ≡ 0
+  pub words : g .words ≡ 0
 
 -- the slices stand for the given triangles ts and points ps, with the locked edges lk, and have the room that document 01 says; refusals 1 to 7 were tested
-pub record CanRun (w : List ℕ) (q f : List Float) (quads : List ℕ) (rules : Rules) (c : Counters) (lk : Edge → Bool) (ts : List Tri) (ps : List Node) : Type 0 where
+pub record CanRun (w : List ℕ) (q f : List Float) (quads t : List ℕ) (rules : Rules) (c : Counters) (lk : Edge → Bool) (ts : List Tri) (ps : List Node) : Type 0 where
   pub ready : Ready w q rules c (start (settings-of rules) lk ts ps .mesh)
   pub proper : Proper ps ts
   pub is-given : rules .given ≡ length ts
@@ -89,11 +94,12 @@ pub record CanRun (w : List ℕ) (q f : List Float) (quads : List ℕ) (rules : 
   pub sized : Sized (rules .size)
   pub floats : 3 * rules .slots ≤ length f
   pub room : 8 * rules .slots ≤ length quads
+  pub trace : rules .room ≡ length t
 
 -- ---- the end
 
--- the slices, the counters and the tally stand for the last state
-pub record LeftRun (w w' : List ℕ) (q q' f f' : List Float) (quads quads' : List ℕ) (rules : Rules) (st : State) (r : Run) : Type 0 where
+-- the slices, the counters and the tally stand for the last state, and the trace for what happened to its mesh
+pub record LeftRun (w w' : List ℕ) (q q' f f' : List Float) (quads quads' t t' : List ℕ) (rules : Rules) (st : State) (r : Run) : Type 0 where
   pub ready : Ready w' q' rules (r .standing .counters) (st .mesh)
   pub counts : counts-of (r .standing) ≡ st .counts
   pub number : r .standing .quads ≡ length (st .quads)
@@ -101,10 +107,11 @@ pub record LeftRun (w w' : List ℕ) (q q' f f' : List Float) (quads quads' : Li
   pub behind : Behind q q' (length (st .mesh .points))
   pub words : length w' ≡ length w
   pub reals : length f' ≡ length f
+  pub log : Logged t t' (r .standing .words) (st .mesh)
 
 -- by cases
-abbrev pub RunTo : List ℕ → List ℕ → List Float → List Float → List Float → List Float → List ℕ → List ℕ → Rules → Progress → Run → Type 0
-RunTo w w' q q' f f' quads quads' rules (stuck st) r = (r .finish ≡ finishes.Done) × LeftRun w w' q q' f f' quads quads' rules st r
-RunTo w w' q q' f f' quads quads' rules (progressed st) r = (r .finish ≡ finishes.Done) × LeftRun w w' q q' f f' quads quads' rules st r
-RunTo w w' q q' f f' quads quads' rules (limited st) r = (r .finish ≡ finishes.Done) × LeftRun w w' q q' f f' quads quads' rules st r
-RunTo w w' q q' f f' quads quads' rules (stopped wt st) r = (r .finish ≡ want-finish wt) × LeftRun w w' q q' f f' quads quads' rules st r
+abbrev pub RunTo : List ℕ → List ℕ → List Float → List Float → List Float → List Float → List ℕ → List ℕ → List ℕ → List ℕ → Rules → Progress → Run → Type 0
+RunTo w w' q q' f f' quads quads' t t' rules (stuck st) r = (r .finish ≡ finishes.Done) × LeftRun w w' q q' f f' quads quads' t t' rules st r
+RunTo w w' q q' f f' quads quads' t t' rules (progressed st) r = (r .finish ≡ finishes.Done) × LeftRun w w' q q' f f' quads quads' t t' rules st r
+RunTo w w' q q' f f' quads quads' t t' rules (limited st) r = (r .finish ≡ finishes.Done) × LeftRun w w' q q' f f' quads quads' t t' rules st r
+RunTo w w' q q' f f' quads quads' t t' rules (stopped wt st) r = (r .finish ≡ want-finish wt) × LeftRun w w' q q' f f' quads quads' t t' rules st r

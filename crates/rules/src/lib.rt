@@ -35,5 +35,7 @@ pub struct Rules {
     pub even: bool,
     // The most attempts.
     pub attempts: usize,
+    // Words of the lent trace, 0 where none is lent.
+    pub room: usize,
     pub quality: Quality,
 }

@@ -23,6 +23,7 @@ lent capacity slots points triangles quads d f =
       components = replicate slots 7;
       work = replicate (64 * slots + 8 * capacity) d;
       float-work = replicate (4 * slots) f;
+      trace = [];
     }
 
 asked-graded-0018 : Asked

@@ -4,7 +4,7 @@ use mathlib.Core.List.{List, _∷_}
 use Prim.{⊥, absurd}
 use Prim.Native.Nat.{ℕ, _+_, _*_, _≤_}
 use native.Mathlib.Omega.{arith}
-use Rattle.definition.specs.Counts.{_⊞_, spending, Refusal, Placement, Shape, Recovery, Region, OddRegion, refused-by, Want, of-points, of-slots}
+use Rattle.definition.specs.Counts.{_⊞_, spending, Refusal, Placement, Shape, Recovery, Region, OddRegion, refused-by, Want, of-points, of-slots, of-trace}
 use Rattle.definition.specs.Plane.{Edge}
 use Rattle.definition.specs.Cells.{Quad}
 use Rattle.laws.specs.Frames.{only-refl}
@@ -31,6 +31,7 @@ sort-placed ends.Region h = absurd (omega arith)
 sort-placed ends.OddRegion h = absurd (omega arith)
 sort-placed ends.NoPoint h = absurd (omega arith)
 sort-placed ends.NoSlots h = absurd (omega arith)
+sort-placed ends.NoTrace h = absurd (omega arith)
 
 pub sort-refused : (e : End) → sort-of e ≡ 1 → (why : Refusal) × (e ≡ end-of why)
 unfolding end-of
@@ -42,6 +43,7 @@ sort-refused ends.Region h = (Region, refl)
 sort-refused ends.OddRegion h = (OddRegion, refl)
 sort-refused ends.NoPoint h = absurd (omega arith)
 sort-refused ends.NoSlots h = absurd (omega arith)
+sort-refused ends.NoTrace h = absurd (omega arith)
 
 pub sort-of-refusal : (e : End) (why : Refusal) → e ≡ end-of why → sort-of e ≡ 1
 unfolding end-of
@@ -51,17 +53,19 @@ sort-of-refusal e Recovery h = ap sort-of h
 sort-of-refusal e Region h = ap sort-of h
 sort-of-refusal e OddRegion h = ap sort-of h
 
--- 2 for points, 3 for slots
+-- 2 for points, 3 for slots, 4 for the trace
 abbrev pub want-sort : Want → ℕ
 want-sort of-points = 2
 want-sort of-slots = 3
+want-sort of-trace = 4
 
 pub sort-of-want : (e : End) (wt : Want) → e ≡ end-for wt → sort-of e ≡ want-sort wt
 unfolding end-for
 sort-of-want e of-points h = ap sort-of h
 sort-of-want e of-slots h = ap sort-of h
+sort-of-want e of-trace h = ap sort-of h
 
-sort-few : (e : End) → sort-of e ≤ 3
+sort-few : (e : End) → sort-of e ≤ 4
 sort-few ends.Placed = omega arith
 sort-few ends.Placement = omega arith
 sort-few ends.Shape = omega arith
@@ -70,15 +74,16 @@ sort-few ends.Region = omega arith
 sort-few ends.OddRegion = omega arith
 sort-few ends.NoPoint = omega arith
 sort-few ends.NoSlots = omega arith
+sort-few ends.NoTrace = omega arith
 
 module _ (w quads : List ℕ) (s p : ℕ) (g : Standing) (t : Tried) (u v : ℕ) (ever bl : List Edge) (qs : List Quad) (old : List ℕ) (can : CanSettle w quads s p g t u v ever bl qs old)
-    (h : Standing) (tm : TriedMore g (t .counters) (t .inserted) (t .trials) h) where
+    (h : Standing) (tm : TriedMore g (t .counters) (t .at) (t .inserted) (t .trials) h) where
   -- the standing after the attempt keeps its place
   so-far : Kept-so-far w quads s p h ever bl qs old
   so-far = record { blocks = can .so-far .blocks; records = tm .records ∙ can .so-far .records; number = tm .quads ∙ can .so-far .number; text = can .so-far .text }
 
   counted : Counted-on g t (counts-of g ⊞ spending (spent-of t)) h
-  counted = record { counters = tm .counters; counts = λ a. tm .counts a (t .flips) }
+  counted = record { counters = tm .counters; counts = λ a. tm .counts a (t .flips); words = tm .words }
 
   -- ---- a quad
 
@@ -92,7 +97,7 @@ module _ (w quads : List ℕ) (s p : ℕ) (g : Standing) (t : Tried) (u v : ℕ)
         kept = to .kept;
         placed = λ f. record {
           kind = to .kind;
-          counted = record { counters = to .standing .counters ∙ tm .counters; counts = λ a. to .standing .counts ∙ tm .counts a (t .flips) };
+          counted = record { counters = to .standing .counters ∙ tm .counters; counts = λ a. to .standing .counts ∙ tm .counts a (t .flips); words = to .standing .words ∙ tm .words };
           so-far = to .so-far;
         };
         refused = λ why f. absurd (omega (arith, e, sort-of-refusal (t .end) why f));
@@ -102,6 +107,7 @@ module _ (w quads : List ℕ) (s p : ℕ) (g : Standing) (t : Tried) (u v : ℕ)
       no-want : (wt : Want) → sort-of (t .end) ≡ want-sort wt → ⊥
       no-want of-points f = omega (arith, e, f)
       no-want of-slots f = omega (arith, e, f)
+      no-want of-trace f = omega (arith, e, f)
 
   -- ---- a refusal
 
@@ -133,7 +139,7 @@ module _ (w quads : List ℕ) (s p : ℕ) (g : Standing) (t : Tried) (u v : ℕ)
               let number = m .quads ∙ tm .quads ∙ can .so-far .number in
               record {
                 kind = to .kind;
-                counted = record { counters = to .standing .counters ∙ m .counters ∙ tm .counters; counts = λ a. to .standing .counts ∙ m .counts ∙ ap (λ z. z ⊞ refused-by why) (tm .counts a (t .flips)) };
+                counted = record { counters = to .standing .counters ∙ m .counters ∙ tm .counters; counts = λ a. to .standing .counts ∙ m .counts ∙ ap (λ z. z ⊞ refused-by why) (tm .counts a (t .flips)); words = to .standing .words ∙ m .words ∙ tm .words };
                 so-far = record {
                   blocks = subst (λ (z : ℕ). Blocks w' (refused-at s p) (3 * s) p z (with-edge (u, v) ever) ((u, v) ∷ bl)) number (to .blocks);
                   records = to .standing .records;
@@ -147,6 +153,7 @@ module _ (w quads : List ℕ) (s p : ℕ) (g : Standing) (t : Tried) (u v : ℕ)
         no-want : (wt : Want) → sort-of (t .end) ≡ want-sort wt → ⊥
         no-want of-points f = omega (arith, e, f)
         no-want of-slots f = omega (arith, e, f)
+        no-want of-trace f = omega (arith, e, f)
 
   -- ---- the end
 
@@ -154,34 +161,37 @@ module _ (w quads : List ℕ) (s p : ℕ) (g : Standing) (t : Tried) (u v : ℕ)
   ends-as wt r k f =
       record {
         kind = k;
-        counted = record { counters = ap (λ z. z .counters) f ∙ tm .counters; counts = λ a. ap counts-of f ∙ tm .counts a (t .flips) };
+        counted = record { counters = ap (λ z. z .counters) f ∙ tm .counters; counts = λ a. ap counts-of f ∙ tm .counts a (t .flips); words = ap (λ z. z .words) f ∙ tm .words };
         so-far = record { blocks = can .so-far .blocks; records = ap (λ z. z .records) f ∙ so-far .records; number = ap (λ z. z .quads) f ∙ so-far .number; text = can .so-far .text };
       }
 
+  -- an end has one sort
+  same-want : (wt wu : Want) → want-sort wt ≡ want-sort wu → wt ≡ wu
+  same-want of-points of-points e = refl
+  same-want of-points of-slots e = absurd (omega arith)
+  same-want of-points of-trace e = absurd (omega arith)
+  same-want of-slots of-points e = absurd (omega arith)
+  same-want of-slots of-slots e = refl
+  same-want of-slots of-trace e = absurd (omega arith)
+  same-want of-trace of-points e = absurd (omega arith)
+  same-want of-trace of-slots e = absurd (omega arith)
+  same-want of-trace of-trace e = refl
+
+  -- which is neither that of a quad nor of a refusal
+  want-late : (wt : Want) → 2 ≤ want-sort wt
+  want-late of-points = omega arith
+  want-late of-slots = omega arith
+  want-late of-trace = omega arith
+
   pub end-settles : (wt : Want) (r : Step) → sort-of (t .end) ≡ want-sort wt → r .kind ≡ want-kind wt → r .standing ≡ h → SettleTo w w quads s p g t u v ever bl qs old r
-  end-settles of-points r e k f =
+  end-settles wt r e k f =
       record {
         kept = only-refl w (refused-at s p) ((refused-at s p) + (size (3 * s) p));
-        placed = λ z. absurd (omega (arith, e, ap sort-of z));
-        refused = λ why z. absurd (omega (arith, e, sort-of-refusal (t .end) why z));
-        ended = λ wt z. of wt (sort-of-want (t .end) wt z);
+        placed = λ z. absurd (omega (arith, e, want-late wt, ap sort-of z));
+        refused = λ why z. absurd (omega (arith, e, want-late wt, sort-of-refusal (t .end) why z));
+        ended = λ wu z. subst (λ (x : Want). Ending w quads s p g t x ever bl qs old r) (same-want wt wu (sym e ∙ sort-of-want (t .end) wu z)) (ends-as wt r k f);
       }
-    where
-      of : (wt : Want) → sort-of (t .end) ≡ want-sort wt → Ending w quads s p g t wt ever bl qs old r
-      of of-points z = ends-as of-points r k f
-      of of-slots z = absurd (omega (arith, e, z))
-  end-settles of-slots r e k f =
-      record {
-        kept = only-refl w (refused-at s p) ((refused-at s p) + (size (3 * s) p));
-        placed = λ z. absurd (omega (arith, e, ap sort-of z));
-        refused = λ why z. absurd (omega (arith, e, sort-of-refusal (t .end) why z));
-        ended = λ wt z. of wt (sort-of-want (t .end) wt z);
-      }
-    where
-      of : (wt : Want) → sort-of (t .end) ≡ want-sort wt → Ending w quads s p g t wt ever bl qs old r
-      of of-points z = absurd (omega (arith, e, z))
-      of of-slots z = ends-as of-slots r k f
 
 -- the last of the sorts
-pub sort-last : (e : End) → (sort-of e ≡ 0 → ⊥) → (sort-of e ≡ 1 → ⊥) → (sort-of e ≡ 2 → ⊥) → sort-of e ≡ 3
-sort-last e a b c = omega (arith, sort-few e)
+pub sort-last : (e : End) → (sort-of e ≡ 0 → ⊥) → (sort-of e ≡ 1 → ⊥) → (sort-of e ≡ 2 → ⊥) → (sort-of e ≡ 3 → ⊥) → sort-of e ≡ 4
+sort-last e a b c d = omega (arith, sort-few e)

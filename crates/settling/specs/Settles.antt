@@ -4,7 +4,7 @@ use mathlib.Core.List.{List, [], _∷_, _++_}
 use Prim.Native.Nat.{ℕ, suc, _+_, _*_, _^_, _<_, _≤_}
 use lib.ListN.{length}
 use Rattle.definition.specs.Lists.{flat-map}
-use Rattle.definition.specs.Counts.{Counts, _⊞_, spending, Refusal, refused-by, Want, of-points, of-slots}
+use Rattle.definition.specs.Counts.{Counts, _⊞_, spending, Refusal, refused-by, Want, of-points, of-slots, of-trace}
 use Rattle.definition.specs.Plane.{Edge}
 use Rattle.definition.specs.Cells.{Quad, key}
 use Rattle.definition.specs.Front.{freed}
@@ -97,10 +97,11 @@ pub record CanSettle (w quads : List ℕ) (s p : ℕ) (g : Standing) (t : Tried)
   pub placed : t .end ≡ ends.Placed → QuadFits quads s p (length qs) t u v
   pub refused : (why : Refusal) → t .end ≡ end-of why → length (with-edge (u, v) ever) ≤ 3 * s
 
--- the counters of the attempt, and so much more counted
+-- the counters and the words of the attempt, and so much more counted
 pub record Counted-on (g : Standing) (t : Tried) (c : Counts) (r : Standing) : Type 0 where
   pub counters : r .counters ≡ t .counters
   pub counts : t .counters .attempts ≡ g .counters .attempts → counts-of r ≡ c
+  pub words : r .words ≡ t .at
 
 -- the quad stands behind the others, and frees edges
 pub record Placing (w' quads' : List ℕ) (s p : ℕ) (g : Standing) (t : Tried) (ever bl : List Edge) (qs : List Quad) (old : List ℕ) (r : Step) : Type 0 where
@@ -118,6 +119,7 @@ pub record Refusing (w' quads' : List ℕ) (s p : ℕ) (g : Standing) (t : Tried
 abbrev pub want-kind : Want → Going
 want-kind of-points = goings.NoPoint
 want-kind of-slots = goings.NoSlots
+want-kind of-trace = goings.NoTrace
 
 -- the run ends
 pub record Ending (w' quads' : List ℕ) (s p : ℕ) (g : Standing) (t : Tried) (wt : Want) (ever bl : List Edge) (qs : List Quad) (old : List ℕ) (r : Step) : Type 0 where

@@ -29,7 +29,7 @@ counts-of g =
       trials = g .tally .trials;
     }
 
--- 0: a quad was placed; 1: refused; 2: no point is left; 3: too few slots are
+-- 0: a quad was placed; 1: refused; 2: no point is left; 3: too few slots are; 4: too little of the trace is
 abbrev pub sort-of : End → ℕ
 sort-of ends.Placed = 0
 sort-of ends.Placement = 1
@@ -39,6 +39,7 @@ sort-of ends.Region = 1
 sort-of ends.OddRegion = 1
 sort-of ends.NoPoint = 2
 sort-of ends.NoSlots = 3
+sort-of ends.NoTrace = 4
 
 -- the step ended without a quad, and the run goes on
 abbrev pub is-stuck : Going → Bool
@@ -47,6 +48,7 @@ is-stuck goings.Progressed = false
 is-stuck goings.Limited = false
 is-stuck goings.NoPoint = false
 is-stuck goings.NoSlots = false
+is-stuck goings.NoTrace = false
 
 -- every count is far from its type's end
 pub record FewTally (t : Tally) : Type 0 where
@@ -74,6 +76,7 @@ tally-refused ends.Region t = record { «front_empty» = t .«front_empty»; pla
 tally-refused ends.OddRegion t = record { «front_empty» = t .«front_empty»; placement = t .placement; «invalid_quad» = t .«invalid_quad»; recovery = t .recovery; region = t .region; «odd_region» = t .«odd_region» + 1; «mismatch_insertions» = t .«mismatch_insertions»; limit = t .limit; trials = t .trials }
 tally-refused ends.NoPoint t = t
 tally-refused ends.NoSlots t = t
+tally-refused ends.NoTrace t = t
 
 -- an attempt more is counted
 pub record CountedOne (g r : Standing) : Type 0 where
@@ -81,6 +84,7 @@ pub record CountedOne (g r : Standing) : Type 0 where
   pub counts : counts-of r ≡ counts-of g ⊞ one-attempt
   pub quads : r .quads ≡ g .quads
   pub records : r .records ≡ g .records
+  pub words : r .words ≡ g .words
 
 -- so much more is counted
 pub record CountsMore (g : Standing) (c : Counts) (r : Standing) : Type 0 where
@@ -88,14 +92,16 @@ pub record CountsMore (g : Standing) (c : Counts) (r : Standing) : Type 0 where
   pub counts : counts-of r ≡ counts-of g ⊞ c
   pub quads : r .quads ≡ g .quads
   pub records : r .records ≡ g .records
+  pub words : r .words ≡ g .words
 
--- n insertions and k trials more, and the counters are c; attempts stay where c has those of g
-pub record TriedMore (g : Standing) (c : Counters) (n k : ℕ) (r : Standing) : Type 0 where
+-- n insertions and k trials more, the counters are c, and `at` words of the trace are used; attempts stay where c has those of g
+pub record TriedMore (g : Standing) (c : Counters) (at n k : ℕ) (r : Standing) : Type 0 where
   pub counters : r .counters ≡ c
   pub counts : c .attempts ≡ g .counters .attempts → (f : ℕ) → counts-of r ≡ counts-of g ⊞ spending (spent n k f)
   pub few : FewTally (r .tally)
   pub quads : r .quads ≡ g .quads
   pub records : r .records ≡ g .records
+  pub words : r .words ≡ at
 
 -- a quad more
 pub record Quadded (g r : Standing) : Type 0 where
@@ -103,6 +109,7 @@ pub record Quadded (g r : Standing) : Type 0 where
   pub counts : counts-of r ≡ counts-of g
   pub quads : r .quads ≡ g .quads + 1
   pub records : r .records ≡ g .records
+  pub words : r .words ≡ g .words
 
 -- n edges have a record
 pub record Recorded (g : Standing) (n : ℕ) (r : Standing) : Type 0 where
@@ -110,3 +117,4 @@ pub record Recorded (g : Standing) (n : ℕ) (r : Standing) : Type 0 where
   pub counts : counts-of r ≡ counts-of g
   pub quads : r .quads ≡ g .quads
   pub records : r .records ≡ n
+  pub words : r .words ≡ g .words

@@ -95,7 +95,7 @@ pub fn settle(
 {
     let c = t.counters;
     let end = t.end;
-    let h = tried(g, c, t.inserted, t.trials);
+    let h = tried(g, c, t.at, t.inserted, t.trials);
     let sort = sort_of(end);
     if sort == 0 {
         return put_quad(w, quads, s, p, h, t, u, v);
@@ -110,8 +110,14 @@ pub fn settle(
             standing: h,
         };
     }
+    if sort == 3 {
+        return Step {
+            kind: Going::NoSlots,
+            standing: h,
+        };
+    }
     Step {
-        kind: Going::NoSlots,
+        kind: Going::NoTrace,
         standing: h,
     }
 }

@@ -21,21 +21,23 @@ pub struct Tally {
     pub trials: usize,
 }
 
-// The state of a run beside the lent slices: counters, tally, quads placed, edges that have a record of refusal.
+// The state of a run beside the lent slices: counters, tally, quads placed, edges that have a record of refusal, words used of the trace.
 pub struct Standing {
     pub counters: Counters,
     pub tally: Tally,
     pub quads: usize,
     pub records: usize,
+    pub words: usize,
 }
 
-// How a step ends: no quad; a quad placed; a limit ended the run; no point, or too few slots, are left and the run ends.
+// How a step ends: no quad; a quad placed; a limit ended the run; no point, too few slots, or too little of the trace is left and the run ends.
 pub enum Going {
     Stuck,
     Progressed,
     Limited,
     NoPoint,
     NoSlots,
+    NoTrace,
 }
 
 // A step's end and the standing after it.
@@ -49,6 +51,7 @@ pub enum Finish {
     Done,
     NoPoint,
     NoSlots,
+    NoTrace,
 }
 
 // A run's end and the standing after it.
@@ -57,7 +60,7 @@ pub struct Run {
     pub standing: Standing,
 }
 
-// 0: a quad was placed; 1: refused; 2: no point is left; 3: too few slots are.
+// 0: a quad was placed; 1: refused; 2: no point is left; 3: too few slots are; 4: too little of the trace is.
 pub fn sort_of(end: End) -> usize
     ensures { λ r. ⌜ r ≡ sort-of end ⌝ }
 {
@@ -70,6 +73,7 @@ pub fn sort_of(end: End) -> usize
         End::OddRegion => 1,
         End::NoPoint => 2,
         End::NoSlots => 3,
+        End::NoTrace => 4,
     }
 }
 
@@ -83,6 +87,7 @@ pub fn is_stuck(kind: Going) -> bool
         Going::Limited => false,
         Going::NoPoint => false,
         Going::NoSlots => false,
+        Going::NoTrace => false,
     }
 }
 
@@ -98,6 +103,7 @@ pub fn counted(g: Standing) -> Standing
         tally: t,
         quads: g.quads,
         records: g.records,
+        words: g.words,
     }
 }
 
@@ -114,6 +120,7 @@ pub fn limited(g: Standing) -> Standing
         tally: t,
         quads: g.quads,
         records: g.records,
+        words: g.words,
     }
 }
 
@@ -130,15 +137,16 @@ pub fn emptied(g: Standing) -> Standing
         tally: t,
         quads: g.quads,
         records: g.records,
+        words: g.words,
     }
 }
 
-// An attempt made n insertions, tried k pairs and left the counters c.
-pub fn tried(g: Standing, c: Counters, n: usize, k: usize) -> Standing
+// An attempt made n insertions, tried k pairs and left the counters c and `at` words of the trace.
+pub fn tried(g: Standing, c: Counters, at: usize, n: usize, k: usize) -> Standing
     requires { ⌜ FewCounts g ⌝ }
     requires { ⌜ g .tally .«mismatch_insertions» + n < 2 ^ 32 ⌝ }
     requires { ⌜ g .tally .trials + k < 2 ^ 32 ⌝ }
-    ensures { λ r. ⌜ TriedMore g c n k r ⌝ }
+    ensures { λ r. ⌜ TriedMore g c at n k r ⌝ }
 {
     let mut t = g.tally;
     t.mismatch_insertions += n;
@@ -148,6 +156,7 @@ pub fn tried(g: Standing, c: Counters, n: usize, k: usize) -> Standing
         tally: t,
         quads: g.quads,
         records: g.records,
+        words: at,
     }
 }
 
@@ -163,6 +172,7 @@ pub fn quadded(g: Standing) -> Standing
         tally: t,
         quads: g.quads + 1,
         records: g.records,
+        words: g.words,
     }
 }
 
@@ -177,6 +187,7 @@ pub fn recorded(g: Standing, n: usize) -> Standing
         tally: t,
         quads: g.quads,
         records: n,
+        words: g.words,
     }
 }
 
@@ -210,6 +221,7 @@ fn with_refusal(tally: Tally, end: End) -> Tally
         End::Placed => t,
         End::NoPoint => t,
         End::NoSlots => t,
+        End::NoTrace => t,
     }
 }
 
@@ -225,5 +237,6 @@ pub fn refused(g: Standing, end: End) -> Standing
         tally: with_refusal(t, end),
         quads: g.quads,
         records: g.records,
+        words: g.words,
     }
 }

@@ -6,6 +6,8 @@ use insertion::insert::insert_along;
 use plane::vectors::Vec;
 use rules::Rules;
 ghost use mathlib.Core.Path.{_≡_};
+ghost use mathlib.Core.List.{List};
+ghost use Prim.Native.Nat.{ℕ};
 ghost use Rattle.definition.specs.Cells.{Mesh, node-at};
 ghost use Rattle.definition.specs.Insertion.{insert-along};
 ghost use Rattle.definition.specs.Attempt as attempt;
@@ -14,6 +16,7 @@ ghost use Rattle.plane.specs.Vectors.{vec};
 ghost use Rattle.edge_candidates.specs.Wanted.{turn};
 ghost use Rattle.rules.specs.Settings.{settings-of};
 ghost use Rattle.outcomes.specs.Ends.{only-inserted};
+ghost use Rattle.traces.specs.Log.{Logged};
 ghost use Rattle.side_nodes.specs.Sides.{CanSeek, GoesBy, SidesTo};
 
 // What an attempt goes by at both ends: the seed's slot, the edge's inward normal, the target, and whether the edge's length is off it.
@@ -24,31 +27,34 @@ pub struct Stance {
     pub mismatch: bool,
 }
 
-// Side nodes at an end: some are found; none; or no point, or too few slots, are left and the run ends.
+// Side nodes at an end: some are found; none; or no point, too few slots or no room in the trace are left and the run ends.
 pub enum Found {
     Found,
     Missing,
     NoPoint,
     NoSlots,
+    NoTrace,
 }
 
-// What was found, how many nodes, the insertions so far, and the counters then.
+// What was found, how many nodes, the insertions so far, the counters then, and where the trace's next entry goes.
 pub struct Side {
     pub found: Found,
     pub count: usize,
     pub inserted: usize,
     pub counters: Counters,
+    pub at: usize,
 }
 
 // Without a side node.
-fn no_node(found: Found, inserted: usize, counters: Counters) -> Side
-    ensures { λ r. ⌜ (r .found ≡ found) × (r .inserted ≡ inserted) × (r .counters ≡ counters) ⌝ }
+fn no_node(found: Found, inserted: usize, counters: Counters, at: usize) -> Side
+    ensures { λ r. ⌜ (r .found ≡ found) × (r .inserted ≡ inserted) × (r .counters ≡ counters) × (r .at ≡ at) ⌝ }
 {
     Side {
         found,
         count: 0,
         inserted,
         counters,
+        at,
     }
 }
 
@@ -56,16 +62,18 @@ fn no_node(found: Found, inserted: usize, counters: Counters) -> Side
 fn by_insertion(
     w: &mut [u32],
     q: &mut [f64],
+    t: &mut [u32],
     rules: Rules,
     c: Counters,
-    stance: Stance,
     at: usize,
+    stance: Stance,
+    near: usize,
     a: usize,
     other: usize,
     inserted: usize,
 ) -> Side
-    requires { ⌜ ((m : Mesh) × CanSeek (now w) (now q) rules c at a other (stance .seed) inserted m) ⌝ }
-    ensures { λ r. ⌜ ((m : Mesh) → CanSeek (now (w .entry)) (now (q .entry)) rules c at a other (stance .seed) inserted m → SidesTo (now (w .entry)) (now (w .exit)) (now (q .entry)) (now (q .exit)) rules at c (sides-by (only-inserted inserted) m (insert-along (settings-of rules) m (stance .seed) (node-at m a) (vec (stance .normal)) (stance .target))) r) ⌝ }
+    requires { ⌜ ((base : List ℕ) × (m : Mesh) × CanSeek (now w) (now q) rules c near a other (stance .seed) inserted m × Logged base (now t) at m) ⌝ }
+    ensures { λ r. ⌜ ((base : List ℕ) (m : Mesh) → CanSeek (now (w .entry)) (now (q .entry)) rules c near a other (stance .seed) inserted m → Logged base (now (t .entry)) at m → SidesTo (now (w .entry)) (now (w .exit)) (now (q .entry)) (now (q .exit)) base (now (t .exit)) rules near c (sides-by (only-inserted inserted) m (insert-along (settings-of rules) m (stance .seed) (node-at m a) (vec (stance .normal)) (stance .target))) r) ⌝ }
 {
     let n = c.points;
     let used = c.used;
@@ -73,47 +81,53 @@ fn by_insertion(
     let place = insert_along(
         w,
         q,
+        t,
         rules.slots,
         rules.capacity,
         used,
         n,
         rules.bucket,
+        at,
         stance.seed,
         a,
         normal,
         stance.target,
     );
     match place {
-        Place::Nowhere => no_node(Found::Missing, inserted, c),
-        Place::NoPoint => no_node(Found::NoPoint, inserted, c),
-        Place::NoSlots => no_node(Found::NoSlots, inserted, c),
-        Place::Inserted => {
-            w[at] = n as u32;
+        Place::Nowhere => no_node(Found::Missing, inserted, c, at),
+        Place::NoPoint => no_node(Found::NoPoint, inserted, c, at),
+        Place::NoSlots => no_node(Found::NoSlots, inserted, c, at),
+        Place::NoTrace => no_node(Found::NoTrace, inserted, c, at),
+        Place::Inserted(next) => {
+            w[near] = n as u32;
             Side {
                 found: Found::Found,
                 count: 1,
                 inserted: inserted + 1,
                 counters: c.split(),
+                at: next,
             }
         }
     }
 }
 
-// The side nodes at the end a of the edge from a to other come to `at`: the candidates, or where there is none and the edge's length is off the target a node inserted.
+// The side nodes at the end a of the edge from a to other come to `near`: the candidates, or where there is none and the edge's length is off the target a node inserted.
 pub fn side_nodes(
     w: &mut [u32],
     q: &mut [f64],
+    t: &mut [u32],
     rules: Rules,
     c: Counters,
-    stance: Stance,
     at: usize,
+    stance: Stance,
+    near: usize,
     left: bool,
     a: usize,
     other: usize,
     inserted: usize,
 ) -> Side
-    requires { ⌜ ((m : Mesh) × CanSeek (now w) (now q) rules c at a other (stance .seed) inserted m) ⌝ }
-    ensures { λ r. ⌜ ((m : Mesh) (f : attempt.Stance) → CanSeek (now (w .entry)) (now (q .entry)) rules c at a other (stance .seed) inserted m → GoesBy f stance → SidesTo (now (w .entry)) (now (w .exit)) (now (q .entry)) (now (q .exit)) rules at c (side-nodes (settings-of rules) (turn left) f (only-inserted inserted) m a other) r) ⌝ }
+    requires { ⌜ ((base : List ℕ) × (m : Mesh) × CanSeek (now w) (now q) rules c near a other (stance .seed) inserted m × Logged base (now t) at m) ⌝ }
+    ensures { λ r. ⌜ ((base : List ℕ) (m : Mesh) (f : attempt.Stance) → CanSeek (now (w .entry)) (now (q .entry)) rules c near a other (stance .seed) inserted m → Logged base (now (t .entry)) at m → GoesBy f stance → SidesTo (now (w .entry)) (now (w .exit)) (now (q .entry)) (now (q .exit)) base (now (t .exit)) rules near c (side-nodes (settings-of rules) (turn left) f (only-inserted inserted) m a other) r) ⌝ }
 {
     let n = c.points;
     let used = c.used;
@@ -125,7 +139,7 @@ pub fn side_nodes(
         rules.capacity,
         used,
         n,
-        at,
+        near,
         left,
         a,
         other,
@@ -140,11 +154,12 @@ pub fn side_nodes(
             count: k,
             inserted,
             counters: c,
+            at,
         };
     }
     let mismatch = stance.mismatch;
     if !mismatch {
-        return no_node(Found::Missing, inserted, c);
+        return no_node(Found::Missing, inserted, c, at);
     }
-    by_insertion(w, q, rules, c, stance, at, a, other, inserted)
+    by_insertion(w, q, t, rules, c, at, stance, near, a, other, inserted)
 }

@@ -8,35 +8,38 @@ use native.Mathlib.Omega.{arith}
 use lib.ListN.{length, getD, drop}
 use lib.Seq.{drop-drop}
 use lib.Ieee.{Float}
-use Rattle.definition.specs.Counts.{Spent, Placement, of-points, of-slots, Want}
+use Rattle.definition.specs.Counts.{Spent, Placement, of-points, of-slots, of-trace, Want}
 use Rattle.definition.specs.Numbers.{Settings, second-turn}
-use Rattle.definition.specs.Cells.{Mesh}
+use Rattle.definition.specs.Cells.{Mesh, this-round}
 use Rattle.definition.specs.Call.{first-points}
 use Rattle.definition.specs.Trials.{Trial, trials}
 use Rattle.definition.specs.Attempt.{Attempt, placed, refused, ended, Stance, Sides, found, missing, overfull, side-nodes, try-trials, try-both, try-first}
 use Rattle.laws.specs.Numbers.{clash}
-use Rattle.laws.specs.Frames.{stays-trans}
+use Rattle.laws.specs.Frames.{stays-refl, stays-trans}
 use Rattle.joints.specs.Table.{Locks}
+use Rattle.traces.specs.Log.{Logged}
 use Rattle.rules.specs.declared.Rules.{Rules}
 use Rattle.rules.specs.Settings.{quality-of, settings-of}
 use Rattle.cells.specs.Layout.{Sizes, near-at, far-at, refused-at}
 use Rattle.cells.specs.declared.counters.Counters.{Counters}
+use Rattle.account.specs.Valid.{Valid}
 use Rattle.cells.proofs.Slots.{sizes}
+use Rattle.flips.proofs.Evens.{valid}
 use Rattle.edge_candidates.specs.Wanted.{turn}
 use Rattle.trials.specs.Kept.{Stands as StandsAt, Keeps as KeepsTrials}
 use Rattle.trials.specs.Ranked.{part, length-part, part-at, Named}
 use Rattle.trials.specs.Nodes.{Sound, names-of, sound}
 use Rattle.outcomes.specs.Ready.{Ready, Behind}
-use Rattle.outcomes.specs.Ends.{only-inserted, Plain, Left, AttemptTo, end-of, end-for}
+use Rattle.outcomes.specs.Ends.{only-inserted, Plain, Left, AttemptTo, attempt-mesh, end-of, end-for}
 use Rattle.outcomes.specs.declared.End.{End}
 use Rattle.outcomes.specs.declared.End.the-variants as ends
 use Rattle.outcomes.specs.declared.Tried.{Tried}
-use Rattle.side_nodes.specs.Sides.{CanSeek, ListedAt, LeftAt, SidesAre, SidesTo}
+use Rattle.side_nodes.specs.Sides.{CanSeek, ListedAt, LeftAt, SidesAre, SidesTo, sides-mesh}
 use Rattle.side_nodes.specs.declared.side.Found.the-variants as founds
 use Rattle.side_nodes.specs.declared.side.Side.{Side}
 use Rattle.pairs.specs.Pair.{CanPair, PairsTo}
 use Rattle.pairs.proofs.Orders.{spent-is}
-use Rattle.try_quad.specs.Tries.{TriedTo, Ends, Both, First, LocksIn}
+use Rattle.try_quad.specs.Tries.{TriedTo, Ends, Both, First, LocksIn, LogsIn}
 use Rattle.try_quad.proofs.Points.{AttemptOn, trials-on}
 
 -- ---- lists
@@ -86,8 +89,9 @@ module _ (w : List ℕ) (q q' : List Float) (rules : Rules) (at : ℕ) (c : Coun
   at-found (missing n m) h e = clash (let a = h .0 in cc)
   at-found (overfull of-points n m) h e = clash (let a = h .0 in cc)
   at-found (overfull of-slots n m) h e = clash (let a = h .0 in cc)
+  at-found (overfull of-trace n m) h e = clash (let a = h .0 in cc)
 
-  left-plain : (n : Spent) (m : Mesh) (e : End) (t : Tried) → LeftAt w q q' rules c n m r → Plain e (r .counters) (r .inserted) 0 0 t → Left w q q' rules c n m t
+  left-plain : (n : Spent) (m : Mesh) (e : End) (t : Tried) → LeftAt w q q' rules c n m r → Plain e (r .counters) (r .at) (r .inserted) 0 0 t → Left w q q' rules c n m t
   left-plain n m e t l h =
       record {
         ready = subst (λ (d : Counters). Ready w q' rules d m) (sym (h .counters)) (l .ready);
@@ -97,27 +101,48 @@ module _ (w : List ℕ) (q q' : List Float) (rules : Rules) (at : ℕ) (c : Coun
       }
 
   -- an attempt that goes on only where side nodes are found
-  module _ (A : Sides → Attempt) (am : (n : Spent) (m : Mesh) → A (missing n m) ≡ refused Placement n m) (ao : (o : Want) (n : Spent) (m : Mesh) → A (overfull o n m) ≡ ended o n m) (t : Tried) where
-    pub if-missing : (x : Sides) → SidesAre w q q' rules at c x r → r .found ≡ founds.Missing → Plain ends.Placement (r .counters) (r .inserted) 0 0 t → AttemptTo w q q' rules c (A x) t
+  module _ (A : Sides → Attempt) (am : (n : Spent) (m : Mesh) → A (missing n m) ≡ refused Placement n m) (ao : (o : Want) (n : Spent) (m : Mesh) → A (overfull o n m) ≡ ended o n m) (base tr : List ℕ) (t : Tried) where
+    -- nothing more is done
+    at-once : (x : Sides) (y : Attempt) (e : End) → A x ≡ y → sides-mesh x ≡ attempt-mesh y → Logged base tr (r .at) (sides-mesh x) → Plain e (r .counters) (r .at) (r .inserted) 0 0 t → AttemptTo w q q' rules c y t
+        → TriedTo w w q q' base tr rules c (A x) t
+    at-once x y e i same l k z =
+        subst (λ (o : Attempt). TriedTo w w q q' base tr rules c o t) (sym i) (record {
+          is = z;
+          beyond = stays-refl w (refused-at (rules .slots) (rules .capacity)) (near-at (rules .slots) (rules .capacity));
+          log = subst (λ (m : Mesh). Logged base tr (t .at) m) same (subst (λ (n : ℕ). Logged base tr n (sides-mesh x)) (sym (k .at)) l);
+        })
+
+    pub if-missing : (x : Sides) → SidesAre w q q' rules at c x r → Logged base tr (r .at) (sides-mesh x) → r .found ≡ founds.Missing → Plain ends.Placement (r .counters) (r .at) (r .inserted) 0 0 t → TriedTo w w q q' base tr rules c (A x) t
     unfolding end-of
-    if-missing (found cs n m) h e k = clash (let a = h .0 in cc)
-    if-missing (missing n m) h e k = subst (λ (y : Attempt). AttemptTo w q q' rules c y t) (sym (am n m)) (k .end, left-plain n m ends.Placement t (h .1) k)
-    if-missing (overfull of-points n m) h e k = clash (let a = h .0 in cc)
-    if-missing (overfull of-slots n m) h e k = clash (let a = h .0 in cc)
+    if-missing (found cs n m) h l e k = clash (let a = h .0 in cc)
+    if-missing (missing n m) h l e k = at-once (missing n m) (refused Placement n m) ends.Placement (am n m) refl l k (k .end, left-plain n m ends.Placement t (h .1) k)
+    if-missing (overfull of-points n m) h l e k = clash (let a = h .0 in cc)
+    if-missing (overfull of-slots n m) h l e k = clash (let a = h .0 in cc)
+    if-missing (overfull of-trace n m) h l e k = clash (let a = h .0 in cc)
 
-    pub if-no-point : (x : Sides) → SidesAre w q q' rules at c x r → r .found ≡ founds.NoPoint → Plain ends.NoPoint (r .counters) (r .inserted) 0 0 t → AttemptTo w q q' rules c (A x) t
+    pub if-no-point : (x : Sides) → SidesAre w q q' rules at c x r → Logged base tr (r .at) (sides-mesh x) → r .found ≡ founds.NoPoint → Plain ends.NoPoint (r .counters) (r .at) (r .inserted) 0 0 t → TriedTo w w q q' base tr rules c (A x) t
     unfolding end-for
-    if-no-point (found cs n m) h e k = clash (let a = h .0 in cc)
-    if-no-point (missing n m) h e k = clash (let a = h .0 in cc)
-    if-no-point (overfull of-points n m) h e k = subst (λ (y : Attempt). AttemptTo w q q' rules c y t) (sym (ao of-points n m)) (k .end, left-plain n m ends.NoPoint t (h .1) k)
-    if-no-point (overfull of-slots n m) h e k = clash (let a = h .0 in cc)
+    if-no-point (found cs n m) h l e k = clash (let a = h .0 in cc)
+    if-no-point (missing n m) h l e k = clash (let a = h .0 in cc)
+    if-no-point (overfull of-points n m) h l e k = at-once (overfull of-points n m) (ended of-points n m) ends.NoPoint (ao of-points n m) refl l k (k .end, left-plain n m ends.NoPoint t (h .1) k)
+    if-no-point (overfull of-slots n m) h l e k = clash (let a = h .0 in cc)
+    if-no-point (overfull of-trace n m) h l e k = clash (let a = h .0 in cc)
 
-    pub if-no-slots : (x : Sides) → SidesAre w q q' rules at c x r → r .found ≡ founds.NoSlots → Plain ends.NoSlots (r .counters) (r .inserted) 0 0 t → AttemptTo w q q' rules c (A x) t
+    pub if-no-slots : (x : Sides) → SidesAre w q q' rules at c x r → Logged base tr (r .at) (sides-mesh x) → r .found ≡ founds.NoSlots → Plain ends.NoSlots (r .counters) (r .at) (r .inserted) 0 0 t → TriedTo w w q q' base tr rules c (A x) t
     unfolding end-for
-    if-no-slots (found cs n m) h e k = clash (let a = h .0 in cc)
-    if-no-slots (missing n m) h e k = clash (let a = h .0 in cc)
-    if-no-slots (overfull of-points n m) h e k = clash (let a = h .0 in cc)
-    if-no-slots (overfull of-slots n m) h e k = subst (λ (y : Attempt). AttemptTo w q q' rules c y t) (sym (ao of-slots n m)) (k .end, left-plain n m ends.NoSlots t (h .1) k)
+    if-no-slots (found cs n m) h l e k = clash (let a = h .0 in cc)
+    if-no-slots (missing n m) h l e k = clash (let a = h .0 in cc)
+    if-no-slots (overfull of-points n m) h l e k = clash (let a = h .0 in cc)
+    if-no-slots (overfull of-slots n m) h l e k = at-once (overfull of-slots n m) (ended of-slots n m) ends.NoSlots (ao of-slots n m) refl l k (k .end, left-plain n m ends.NoSlots t (h .1) k)
+    if-no-slots (overfull of-trace n m) h l e k = clash (let a = h .0 in cc)
+
+    pub if-no-trace : (x : Sides) → SidesAre w q q' rules at c x r → Logged base tr (r .at) (sides-mesh x) → r .found ≡ founds.NoTrace → Plain ends.NoTrace (r .counters) (r .at) (r .inserted) 0 0 t → TriedTo w w q q' base tr rules c (A x) t
+    unfolding end-for
+    if-no-trace (found cs n m) h l e k = clash (let a = h .0 in cc)
+    if-no-trace (missing n m) h l e k = clash (let a = h .0 in cc)
+    if-no-trace (overfull of-points n m) h l e k = clash (let a = h .0 in cc)
+    if-no-trace (overfull of-slots n m) h l e k = clash (let a = h .0 in cc)
+    if-no-trace (overfull of-trace n m) h l e k = at-once (overfull of-trace n m) (ended of-trace n m) ends.NoTrace (ao of-trace n m) refl l k (k .end, left-plain n m ends.NoTrace t (h .1) k)
 
 module _ (g : Settings) (f : Stance) where
   pub both-missing : (cs : List ℕ) (n : Spent) (m : Mesh) → try-both g f cs (missing n m) ≡ refused Placement n m
@@ -156,6 +181,12 @@ module _ {w : List ℕ} {q₀ q : List Float} {rules : Rules} {c₀ : Counters} 
 
   pub both-lock : {j : List ℕ} → LocksIn j x → Locks j (both-found .m .locked)
   both-lock l = rw (both-found .is) at l
+
+  pub both-log : {base tr : List ℕ} {at round : ℕ} → LogsIn base tr at round x → Logged base tr at (both-found .m)
+  both-log {base} {tr} {at} l = subst (λ y. Logged base tr at (sides-mesh y)) (both-found .is) (l .log)
+
+  pub both-round : {base tr : List ℕ} {at round : ℕ} → LogsIn base tr at round x → round ≡ this-round (both-found .m)
+  both-round l = l .in-round ∙ ap (λ y. this-round (sides-mesh y)) (both-found .is)
 
   pub both-sizes : Sizes (rules .slots) (rules .capacity)
   both-sizes = sizes w (rules .slots) (rules .capacity) (both-found .left .ready .rep .room)
@@ -231,25 +262,35 @@ module _ {w : List ℕ} {q₀ q : List Float} {rules : Rules} {c₀ : Counters} 
         ap (try-both (settings-of rules) f cs) (both-found .is)
         ∙ both-eq rules f cs (both-found .cs) (both-found .n) (only-inserted (far .inserted)) (both-found .m) u v a b ee ea eb (both-found .left .spent)
 
-    pub both-to : (w' : List ℕ) (t : Tried)
-        → PairsTo w w' q rules (far .counters) (try-trials (settings-of rules) (only-inserted (far .inserted)) (both-found .m) (u, v) (trials (quality-of (rules .quality)) (both-found .m) a b cs (both-found .cs))) t
-        → TriedTo w w' q₀ q rules c₀ (try-both (settings-of rules) f cs x) t
-    both-to w' t z =
+    pub both-to : (w' base t' : List ℕ) (t : Tried)
+        → PairsTo w w' q base t' rules (far .counters) (try-trials (settings-of rules) (only-inserted (far .inserted)) (both-found .m) (u, v) (trials (quality-of (rules .quality)) (both-found .m) a b cs (both-found .cs))) t
+        → TriedTo w w' q₀ q base t' rules c₀ (try-both (settings-of rules) f cs x) t
+    both-to w' base t' t z =
         record {
           is = subst (λ (y : Attempt). AttemptTo w' q₀ q rules c₀ y t) (sym both-is)
               (attempt-after w' (try-trials (settings-of rules) (only-inserted (far .inserted)) (both-found .m) (u, v) (trials (quality-of (rules .quality)) (both-found .m) a b cs (both-found .cs))) t (trials-on (settings-of rules) (only-inserted (far .inserted)) (both-found .m) (u, v) (trials (quality-of (rules .quality)) (both-found .m) a b cs (both-found .cs))) (z .is));
           beyond = record { len = z .keeps .len; same = λ i l _. z .keeps .high i l };
+          log = subst (λ (y : Attempt). Logged base t' (t .at) (attempt-mesh y)) (sym both-is) (z .log);
         }
 
 -- ---- with the side nodes at the first end
 
-module _ (w : List ℕ) (q₀ q : List Float) (rules : Rules) (c₀ : Counters) (u v a b seed : ℕ) (near : Side) (x : Sides)
+module _ {w : List ℕ} {q₀ q : List Float} {rules : Rules} {c₀ : Counters} {u v a b seed : ℕ} {near : Side} {x : Sides}
     (h : First w q₀ q rules c₀ u v a b seed near x) (e : near .found ≡ founds.Found) where
   abbrev pub first-found : IsFound w q₀ q rules (near-at (rules .slots) (rules .capacity)) c₀ near x
   first-found = at-found w q₀ q rules (near-at (rules .slots) (rules .capacity)) c₀ near x (h .is) e
 
   pub first-lock : {j : List ℕ} → LocksIn j x → Locks j (first-found .m .locked)
   first-lock l = rw (first-found .is) at l
+
+  pub first-log : {base tr : List ℕ} {at round : ℕ} → LogsIn base tr at round x → Logged base tr at (first-found .m)
+  first-log {base} {tr} {at} l = subst (λ y. Logged base tr at (sides-mesh y)) (first-found .is) (l .log)
+
+  pub first-round : {base tr : List ℕ} {at round : ℕ} → LogsIn base tr at round x → round ≡ this-round (first-found .m)
+  first-round l = l .in-round ∙ ap (λ y. this-round (sides-mesh y)) (first-found .is)
+
+  pub first-valid : Valid (first-found .m)
+  first-valid = valid w (rules .slots) (rules .capacity) (first-found .m) (first-found .left .ready .rep)
 
   pub first-sizes : Sizes (rules .slots) (rules .capacity)
   first-sizes = sizes w (rules .slots) (rules .capacity) (first-found .left .ready .rep .room)
@@ -259,10 +300,11 @@ module _ (w : List ℕ) (q₀ q : List Float) (rules : Rules) (c₀ : Counters) 
       let k = h .ends in
       record { up = k .up; known = omega (arith, l, k .known); first = omega (arith, l, k .first); second = omega (arith, l, k .second); apart = k .apart }
 
-  pub seek-far : CanSeek w q rules (near .counters) (far-at (rules .slots) (rules .capacity)) b a seed (near .inserted) (first-found .m)
-  seek-far =
+  -- with the offset that was computed
+  pub seek-far : {fa : ℕ} → fa ≡ far-at (rules .slots) (rules .capacity) → CanSeek w q rules (near .counters) fa b a seed (near .inserted) (first-found .m)
+  seek-far ef =
       let k = ends-on (near .counters .points) (first-found .left .more) in
-      record {
+      subst (λ (z : ℕ). CanSeek w q rules (near .counters) z b a seed (near .inserted) (first-found .m)) (sym ef) (record {
         ready = first-found .left .ready;
         first = k .second;
         second = k .first;
@@ -271,7 +313,7 @@ module _ (w : List ℕ) (q₀ q : List Float) (rules : Rules) (c₀ : Counters) 
         from = omega arith;
         to = omega arith;
         few = omega (arith, h .few);
-      }
+      })
 
   left-both : (w' : List ℕ) (q' : List Float) (n : Spent) (m : Mesh) (r : Side) → LeftAt w' q q' rules (near .counters) n m r → LeftAt w' q₀ q' rules c₀ n m r
   left-both w' q' n m r l =
@@ -290,14 +332,19 @@ module _ (w : List ℕ) (q₀ q : List Float) (rules : Rules) (c₀ : Counters) 
   sides-both w' q' at (missing n m) r z = (z .0, left-both w' q' n m r (z .1))
   sides-both w' q' at (overfull of-points n m) r z = (z .0, left-both w' q' n m r (z .1))
   sides-both w' q' at (overfull of-slots n m) r z = (z .0, left-both w' q' n m r (z .1))
+  sides-both w' q' at (overfull of-trace n m) r z = (z .0, left-both w' q' n m r (z .1))
 
   sides-more : (w' : List ℕ) (q' : List Float) (at : ℕ) (y : Sides) (r : Side) → SidesAre w' q q' rules at (near .counters) y r → near .counters .points ≤ r .counters .points
   sides-more w' q' at (found ds n m) r z = z .2 .more
   sides-more w' q' at (missing n m) r z = z .1 .more
   sides-more w' q' at (overfull of-points n m) r z = z .1 .more
   sides-more w' q' at (overfull of-slots n m) r z = z .1 .more
+  sides-more w' q' at (overfull of-trace n m) r z = z .1 .more
 
-  module _ (w' : List ℕ) (q' : List Float) (y : Sides) (far : Side) (z : SidesTo w w' q q' rules (far-at (rules .slots) (rules .capacity)) (near .counters) y far) where
+  module _ {fa : ℕ} {w' : List ℕ} {q' : List Float} {base t' : List ℕ} {y : Sides} {far : Side} (ef : fa ≡ far-at (rules .slots) (rules .capacity)) (z₀ : SidesTo w w' q q' base t' rules fa (near .counters) y far) where
+    z : SidesTo w w' q q' base t' rules (far-at (rules .slots) (rules .capacity)) (near .counters) y far
+    z = subst (λ (n : ℕ). SidesTo w w' q q' base t' rules n (near .counters) y far) ef z₀
+
     near-in : near-at (rules .slots) (rules .capacity) + near .count ≤ far-at (rules .slots) (rules .capacity)
     near-in = let k = first-found .left .ready in omega (arith, first-found .listed .few, k .counted .points, k .rep .points)
 
@@ -330,11 +377,13 @@ module _ (w : List ℕ) (q₀ q : List Float) (rules : Rules) (c₀ : Counters) 
           ap (try-first (settings-of rules) f) (first-found .is)
           ∙ first-eq rules f (first-found .cs) (first-found .n) (only-inserted (near .inserted)) (first-found .m) a b ea eb (first-found .left .spent)
 
-      pub first-to : y ≡ side-nodes (settings-of rules) (turn false) f (only-inserted (near .inserted)) (first-found .m) b a → (w2 : List ℕ) (t : Tried)
-          → TriedTo w' w2 q₀ q' rules c₀ (try-both (settings-of rules) f (first-found .cs) y) t
-          → TriedTo w w2 q₀ q' rules c₀ (try-first (settings-of rules) f x) t
-      first-to ey w2 t k =
+      pub first-to : y ≡ side-nodes (settings-of rules) (turn false) f (only-inserted (near .inserted)) (first-found .m) b a → (w2 t2 : List ℕ) (t : Tried)
+          → TriedTo w' w2 q₀ q' base t2 rules c₀ (try-both (settings-of rules) f (first-found .cs) y) t
+          → TriedTo w w2 q₀ q' base t2 rules c₀ (try-first (settings-of rules) f x) t
+      first-to ey w2 t2 t k =
+          let same = sym (first-is ∙ ap (try-both (settings-of rules) f (first-found .cs)) (sym ey)) in
           record {
-            is = subst (λ (o : Attempt). AttemptTo w2 q₀ q' rules c₀ o t) (sym (first-is ∙ ap (try-both (settings-of rules) f (first-found .cs)) (sym ey))) (k .is);
+            is = subst (λ (o : Attempt). AttemptTo w2 q₀ q' rules c₀ o t) same (k .is);
             beyond = stays-trans w w' w2 (refused-at (rules .slots) (rules .capacity)) (near-at (rules .slots) (rules .capacity)) (record { len = z .len; same = λ i l o. z .before i l (omega (arith, o)) }) (k .beyond);
+            log = subst (λ (o : Attempt). Logged base t2 (t .at) (attempt-mesh o)) same (k .log);
           }

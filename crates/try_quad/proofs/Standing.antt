@@ -5,11 +5,11 @@ use mathlib.Core.List.{List, [], _∷_}
 use Prim.Native.Nat.{ℕ, suc, _<_, _≤_}
 use native.Mathlib.Omega.{arith}
 use lib.Ieee.{Float}
-use Rattle.definition.specs.Counts.{Spent, nothing-spent, inserting, Placement, of-points, of-slots}
+use Rattle.definition.specs.Counts.{Spent, nothing-spent, inserting, Placement, of-points, of-slots, of-trace}
 use Rattle.definition.specs.Floats.{_≼_}
 use Rattle.definition.specs.Numbers.{Settings, Turn, first-turn, tiny-length}
 use Rattle.definition.specs.Plane.{Vec, from-to, norm, dist, edge-length, size-mismatch}
-use Rattle.definition.specs.Cells.{Mesh, node-at}
+use Rattle.definition.specs.Cells.{Mesh, node-at, this-round}
 use Rattle.definition.specs.Call.{point-at, first-points}
 use Rattle.definition.specs.Candidates.{candidates}
 use Rattle.definition.specs.Insertion.{Inserted, nowhere, inserted, full, insert-along}
@@ -21,14 +21,17 @@ use Rattle.cells.specs.Layout.{near-at, refused-at}
 use Rattle.cells.specs.declared.counters.Counters.{Counters}
 use Rattle.plane.specs.Points.{Within, node-of, edge-length-of}
 use Rattle.edge_candidates.specs.Wanted.{turn}
+use Rattle.traces.specs.Log.{Logged}
 use Rattle.outcomes.specs.Ready.{Ready}
-use Rattle.outcomes.specs.Ends.{only-inserted, Plain, AttemptTo, end-of}
+use Rattle.outcomes.specs.Ends.{only-inserted, Plain, AttemptTo, attempt-mesh, end-of}
 use Rattle.outcomes.specs.declared.End.the-variants as ends
 use Rattle.outcomes.specs.declared.Tried.{Tried}
 use Rattle.side_nodes.specs.Sides.{CanSeek, SidesAre, SidesTo}
 use Rattle.side_nodes.specs.declared.side.Side.{Side}
+use Rattle.flips.proofs.Evens.{valid}
 use Rattle.pairs.proofs.Orders.{spent-is}
-use Rattle.try_quad.specs.Tries.{CanAttempt, TriedTo, Ends, Stands, First}
+use Rattle.try_quad.specs.Tries.{CanAttempt, TriedTo, Ends, Stands, First, LogsIn}
+use Rattle.try_quad.proofs.Locked.{sides-log}
 
 -- ---- the insertions
 
@@ -62,15 +65,17 @@ counted-by w q q' rules at c (found cs n m) r h = ap (λ z. z .insertions) (h .2
 counted-by w q q' rules at c (missing n m) r h = ap (λ z. z .insertions) (h .1 .spent)
 counted-by w q q' rules at c (overfull of-points n m) r h = ap (λ z. z .insertions) (h .1 .spent)
 counted-by w q q' rules at c (overfull of-slots n m) r h = ap (λ z. z .insertions) (h .1 .spent)
+counted-by w q q' rules at c (overfull of-trace n m) r h = ap (λ z. z .insertions) (h .1 .spent)
 
 -- ---- an attempt that ends before anything is done
 
-pub refused-at-once : (w : List ℕ) (q : List Float) (rules : Rules) (c : Counters) (m : Mesh) → Ready w q rules c m → (t : Tried) → Plain ends.Placement c 0 0 0 t
-    → (x : Attempt) → x ≡ refused Placement nothing-spent m → TriedTo w w q q rules c x t
+pub refused-at-once : (w : List ℕ) (q : List Float) (base tr : List ℕ) (at : ℕ) (rules : Rules) (c : Counters) (m : Mesh) → Ready w q rules c m → Logged base tr at m
+    → (t : Tried) → Plain ends.Placement c at 0 0 0 t
+    → (x : Attempt) → x ≡ refused Placement nothing-spent m → TriedTo w w q q base tr rules c x t
 unfolding end-of nothing-spent
-refused-at-once w q rules c m y t k x e =
-    record {
-      is = subst (λ (z : Attempt). AttemptTo w q q rules c z t) (sym e) (
+refused-at-once w q base tr at rules c m y l t k x e =
+    subst (λ (z : Attempt). TriedTo w w q q base tr rules c z t) (sym e) (record {
+      is = (
         k .end,
         record {
           ready = subst (λ (d : Counters). Ready w q rules d m) (sym (k .counters)) y;
@@ -80,7 +85,8 @@ refused-at-once w q rules c m y t k x e =
         },
       );
       beyond = stays-refl w (refused-at (rules .slots) (rules .capacity)) (near-at (rules .slots) (rules .capacity));
-    }
+      log = subst (λ (z : ℕ). Logged base tr z m) (sym (k .at)) l;
+    })
 
 -- ---- what the target goes by
 
@@ -98,8 +104,11 @@ module _ (w : List ℕ) (q : List Float) (rules : Rules) (c : Counters) (u v : �
   known-within x l = let y = h .ready in omega (arith, l, y .counted .points, y .pts .few, y .pts .fits)
 
   module _ (a b seed : ℕ) (d : Ends (c .points) u v a b) (hs : seed < rules .slots) where
-    pub seek-near : CanSeek w q rules c (near-at (rules .slots) (rules .capacity)) a b seed 0 m
-    seek-near = record { ready = h .ready; first = d .first; second = d .second; apart = d .apart; seeded = hs; from = omega arith; to = omega arith; few = omega arith }
+    -- with the offset that was computed
+    pub seek-near : {na : ℕ} → na ≡ near-at (rules .slots) (rules .capacity) → CanSeek w q rules c na a b seed 0 m
+    seek-near en =
+        subst (λ (z : ℕ). CanSeek w q rules c z a b seed 0 m) (sym en)
+        (record { ready = h .ready; first = d .first; second = d .second; apart = d .apart; seeded = hs; from = omega arith; to = omega arith; few = omega arith })
 
     module _ (span : Float) (es : span ≡ dist (point-at q b) (point-at q a)) (tangent : Vec) (et : tangent ≡ from-to (point-at q a) (point-at q b))
         (long : Float) (el : long ≡ norm tangent) (target : Float) (eg : target ≡ target-of (settings-of rules) span) where
@@ -149,7 +158,11 @@ module _ (w : List ℕ) (q : List Float) (rules : Rules) (c : Counters) (u v : �
           rw (ef, z, long-is, y)
 
     -- the first end's side nodes
-    module _ (f : Stance) (w' : List ℕ) (q' : List Float) (near : Side) (z : SidesTo w w' q q' rules (near-at (rules .slots) (rules .capacity)) c (side-nodes (settings-of rules) (turn true) f (only-inserted 0) m a b) near) where
+    module _ (f : Stance) {na : ℕ} {w' : List ℕ} {q' : List Float} {base t' : List ℕ} {near : Side} (en : na ≡ near-at (rules .slots) (rules .capacity))
+        (z₀ : SidesTo w w' q q' base t' rules na c (side-nodes (settings-of rules) (turn true) f (only-inserted 0) m a b) near) where
+      z : SidesTo w w' q q' base t' rules (near-at (rules .slots) (rules .capacity)) c (side-nodes (settings-of rules) (turn true) f (only-inserted 0) m a b) near
+      z = subst (λ (n : ℕ). SidesTo w w' q q' base t' rules n c (side-nodes (settings-of rules) (turn true) f (only-inserted 0) m a b) near) en z₀
+
       pub first-of : First w' q q' rules c u v a b seed near (side-nodes (settings-of rules) (turn true) f (only-inserted 0) m a b)
       first-of =
           record {
@@ -160,9 +173,13 @@ module _ (w : List ℕ) (q : List Float) (rules : Rules) (c : Counters) (u v : �
             pairs = h .pairs;
           }
 
-      pub along-to : (w2 : List ℕ) (q2 : List Float) (t : Tried) (x y : Attempt) → x ≡ y → TriedTo w' w2 q q2 rules c y t → TriedTo w w2 q q2 rules c x t
-      along-to w2 q2 t x y e k =
+      pub first-log : {round : ℕ} → round ≡ this-round m → LogsIn base t' (near .at) round (side-nodes (settings-of rules) (turn true) f (only-inserted 0) m a b)
+      first-log e = sides-log (settings-of rules) m (valid w (rules .slots) (rules .capacity) m (h .ready .rep)) (turn true) f (only-inserted 0) a b (z .log) e
+
+      pub along-to : {w2 : List ℕ} {q2 : List Float} {t2 : List ℕ} {t : Tried} {x y : Attempt} → x ≡ y → TriedTo w' w2 q q2 base t2 rules c y t → TriedTo w w2 q q2 base t2 rules c x t
+      along-to {w2} {q2} {t2} {t} e k =
           record {
             is = subst (λ (o : Attempt). AttemptTo w2 q q2 rules c o t) (sym e) (k .is);
             beyond = stays-trans w w' w2 (refused-at (rules .slots) (rules .capacity)) (near-at (rules .slots) (rules .capacity)) (record { len = z .len; same = z .before }) (k .beyond);
+            log = subst (λ (o : Attempt). Logged base t2 (t .at) (attempt-mesh o)) (sym e) (k .log);
           }

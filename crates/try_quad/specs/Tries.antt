@@ -5,17 +5,18 @@ use mathlib.Core.List.{List}
 use Prim.Native.Nat.{ℕ, _≤_, _<_}
 use lib.Ieee.{Float}
 use Rattle.definition.specs.Plane.{Vec}
-use Rattle.definition.specs.Cells.{Mesh}
+use Rattle.definition.specs.Cells.{Mesh, this-round}
 use Rattle.definition.specs.Attempt.{Attempt, Stance, Sides, found, missing, overfull}
 use Rattle.joints.specs.Table.{Locks}
+use Rattle.traces.specs.Log.{Logged}
 use Rattle.rules.specs.declared.Rules.{Rules}
 use Rattle.cells.specs.Layout.{near-at, far-at}
 use Rattle.cells.specs.declared.counters.Counters.{Counters}
-use Rattle.side_nodes.specs.Sides.{Goes, ListedAt, SidesAre}
+use Rattle.side_nodes.specs.Sides.{Goes, ListedAt, SidesAre, sides-mesh}
 use Rattle.side_nodes.specs.declared.side.Side.{Side}
 use Rattle.trials.specs.Kept.{room}
 use Rattle.outcomes.specs.Ready.{Ready, Beyond}
-use Rattle.outcomes.specs.Ends.{AttemptTo}
+use Rattle.outcomes.specs.Ends.{AttemptTo, attempt-mesh}
 use Rattle.outcomes.specs.declared.Tried.{Tried}
 
 -- the slices and counters stand for the mesh; u-v is an edge of its nodes, the smaller first; no more pairs are asked for than there is room for
@@ -25,10 +26,11 @@ pub record CanAttempt (w : List ℕ) (q : List Float) (rules : Rules) (c : Count
   pub known : v < c .points
   pub pairs : rules .quality .pairs ≤ room
 
--- the attempt ended as the definition says; refused edges and the front's areas are as they were
-pub record TriedTo (w w' : List ℕ) (q q' : List Float) (rules : Rules) (c : Counters) (x : Attempt) (r : Tried) : Type 0 where
+-- the attempt ended as the definition says; refused edges and the front's areas are as they were; what happened to the mesh is in the trace
+pub record TriedTo (w w' : List ℕ) (q q' : List Float) (base t' : List ℕ) (rules : Rules) (c : Counters) (x : Attempt) (r : Tried) : Type 0 where
   pub is : AttemptTo w' q q' rules c x r
   pub beyond : Beyond w w' (rules .slots) (rules .capacity)
+  pub log : Logged base t' (r .at) (attempt-mesh x)
 
 -- the edge u-v and its ends a and b, two nodes below n
 pub record Ends (n u v a b : ℕ) : Type 0 where
@@ -65,3 +67,8 @@ abbrev pub LocksIn : List ℕ → Sides → Type 0
 LocksIn j (found cs n m) = Locks j (m .locked)
 LocksIn j (missing n m) = Locks j (m .locked)
 LocksIn j (overfull w n m) = Locks j (m .locked)
+
+-- the trace is that of the mesh that the side nodes leave, and a quad would be placed in that round
+pub record LogsIn (base t : List ℕ) (at round : ℕ) (x : Sides) : Type 0 where
+  pub log : Logged base t at (sides-mesh x)
+  pub in-round : round ≡ this-round (sides-mesh x)

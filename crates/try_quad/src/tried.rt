@@ -21,6 +21,7 @@ use side_nodes::side::Found;
 use side_nodes::side::Side;
 use side_nodes::side::Stance;
 use side_nodes::side::side_nodes;
+use traces::Log;
 use trials::kept::NODES;
 use trials::kept::ROOM;
 use trials::ranked::best;
@@ -28,21 +29,24 @@ ghost use mathlib.Core.Path.{_≡_};
 ghost use mathlib.Core.List.{List};
 ghost use Prim.Native.Nat.{ℕ, _<_};
 ghost use lib.Ieee.{Float};
-ghost use Rattle.definition.specs.Cells.{Mesh};
+ghost use Rattle.definition.specs.Cells.{Mesh, this-round};
 ghost use Rattle.definition.specs.Attempt as attempt;
 ghost use Rattle.definition.specs.Attempt.{Sides, try-both, try-first, try-along, try-quad};
 ghost use Rattle.cells.specs.declared.counters.Counters.{Counters};
 ghost use Rattle.joints.specs.Table.{Locks};
+ghost use Rattle.traces.specs.Log.{Logged};
 ghost use Rattle.plane.specs.Vectors.{vec};
 ghost use Rattle.rules.specs.Settings.{settings-of};
-ghost use Rattle.try_quad.specs.Tries.{CanAttempt, TriedTo, Ends, Stands, Both, First, LocksIn};
+ghost use Rattle.try_quad.specs.Tries.{CanAttempt, TriedTo, Ends, Stands, Both, First, LocksIn, LogsIn};
 
-// With the side nodes at a and what was found at b: the pairs.
+// With the side nodes at a and what was found at b: the pairs, in this round.
 fn with_both(
     w: &mut [u32],
     q: &[f64],
     j: &[u32],
+    t: &mut [u32],
     rules: Rules,
+    round: usize,
     u: usize,
     v: usize,
     a: usize,
@@ -50,16 +54,18 @@ fn with_both(
     nears: usize,
     far: Side,
 ) -> Tried
-    requires { ⌜ ((q₀ : List Float) × (c₀ : Counters) × (cs : List ℕ) × (x : Sides) × Both (now w) q₀ (now q) rules c₀ u v a b nears far cs x × LocksIn (now j) x) ⌝ }
-    ensures { λ r. ⌜ ((q₀ : List Float) (c₀ : Counters) (cs : List ℕ) (x : Sides) (f : attempt.Stance) → Both (now (w .entry)) q₀ (now (q .entry)) rules c₀ u v a b nears far cs x → LocksIn (now (j .entry)) x → f .edge ≡ (u, v) → f .a ≡ a → f .b ≡ b → TriedTo (now (w .entry)) (now (w .exit)) q₀ (now (q .entry)) rules c₀ (try-both (settings-of rules) f cs x) r) ⌝ }
+    requires { ⌜ ((base : List ℕ) × (q₀ : List Float) × (c₀ : Counters) × (cs : List ℕ) × (x : Sides) × Both (now w) q₀ (now q) rules c₀ u v a b nears far cs x × LocksIn (now j) x × LogsIn base (now t) (far .at) round x) ⌝ }
+    ensures { λ r. ⌜ ((base : List ℕ) (q₀ : List Float) (c₀ : Counters) (cs : List ℕ) (x : Sides) (f : attempt.Stance) → Both (now (w .entry)) q₀ (now (q .entry)) rules c₀ u v a b nears far cs x → LocksIn (now (j .entry)) x → LogsIn base (now (t .entry)) (far .at) round x → f .edge ≡ (u, v) → f .a ≡ a → f .b ≡ b → TriedTo (now (w .entry)) (now (w .exit)) q₀ (now (q .entry)) base (now (t .exit)) rules c₀ (try-both (settings-of rules) f cs x) r) ⌝ }
 {
     let found = far.found;
     let c = far.counters;
+    let at = far.at;
     let inserted = far.inserted;
     match found {
-        Found::Missing => without_quad(End::Placement, c, inserted, 0, 0),
-        Found::NoPoint => without_quad(End::NoPoint, c, inserted, 0, 0),
-        Found::NoSlots => without_quad(End::NoSlots, c, inserted, 0, 0),
+        Found::Missing => without_quad(End::Placement, c, at, inserted, 0, 0),
+        Found::NoPoint => without_quad(End::NoPoint, c, at, inserted, 0, 0),
+        Found::NoSlots => without_quad(End::NoSlots, c, at, inserted, 0, 0),
+        Found::NoTrace => without_quad(End::NoTrace, c, at, inserted, 0, 0),
         Found::Found => {
             let mut scores = [0.0; ROOM];
             let mut nodes = [0; NODES];
@@ -76,7 +82,8 @@ fn with_both(
                 a,
                 b,
             );
-            try_pairs(w, q, j, rules, c, inserted, u, v, &nodes, count)
+            let log = Log { at, round };
+            try_pairs(w, q, j, t, rules, c, log, inserted, u, v, &nodes, count)
         }
     }
 }
@@ -86,7 +93,9 @@ fn with_first(
     w: &mut [u32],
     q: &mut [f64],
     j: &[u32],
+    t: &mut [u32],
     rules: Rules,
+    round: usize,
     stance: Stance,
     u: usize,
     v: usize,
@@ -94,22 +103,26 @@ fn with_first(
     b: usize,
     near: Side,
 ) -> Tried
-    requires { ⌜ ((q₀ : List Float) × (c₀ : Counters) × (x : Sides) × First (now w) q₀ (now q) rules c₀ u v a b (stance .seed) near x × LocksIn (now j) x) ⌝ }
-    ensures { λ r. ⌜ ((q₀ : List Float) (c₀ : Counters) (x : Sides) (f : attempt.Stance) → First (now (w .entry)) q₀ (now (q .entry)) rules c₀ u v a b (stance .seed) near x → LocksIn (now (j .entry)) x → Stands f u v a b (stance .seed) (vec (stance .normal)) (stance .target) (stance .mismatch) → TriedTo (now (w .entry)) (now (w .exit)) q₀ (now (q .exit)) rules c₀ (try-first (settings-of rules) f x) r) ⌝ }
+    requires { ⌜ ((base : List ℕ) × (q₀ : List Float) × (c₀ : Counters) × (x : Sides) × First (now w) q₀ (now q) rules c₀ u v a b (stance .seed) near x × LocksIn (now j) x × LogsIn base (now t) (near .at) round x) ⌝ }
+    ensures { λ r. ⌜ ((base : List ℕ) (q₀ : List Float) (c₀ : Counters) (x : Sides) (f : attempt.Stance) → First (now (w .entry)) q₀ (now (q .entry)) rules c₀ u v a b (stance .seed) near x → LocksIn (now (j .entry)) x → LogsIn base (now (t .entry)) (near .at) round x → Stands f u v a b (stance .seed) (vec (stance .normal)) (stance .target) (stance .mismatch) → TriedTo (now (w .entry)) (now (w .exit)) q₀ (now (q .exit)) base (now (t .exit)) rules c₀ (try-first (settings-of rules) f x) r) ⌝ }
 {
     let found = near.found;
     let c = near.counters;
+    let at = near.at;
     let inserted = near.inserted;
     match found {
-        Found::Missing => without_quad(End::Placement, c, inserted, 0, 0),
-        Found::NoPoint => without_quad(End::NoPoint, c, inserted, 0, 0),
-        Found::NoSlots => without_quad(End::NoSlots, c, inserted, 0, 0),
+        Found::Missing => without_quad(End::Placement, c, at, inserted, 0, 0),
+        Found::NoPoint => without_quad(End::NoPoint, c, at, inserted, 0, 0),
+        Found::NoSlots => without_quad(End::NoSlots, c, at, inserted, 0, 0),
+        Found::NoTrace => without_quad(End::NoTrace, c, at, inserted, 0, 0),
         Found::Found => {
             let far = side_nodes(
                 w,
                 q,
+                t,
                 rules,
                 c,
+                at,
                 stance,
                 far_at(rules.slots, rules.capacity),
                 false,
@@ -117,7 +130,7 @@ fn with_first(
                 a,
                 inserted,
             );
-            with_both(w, q, j, rules, u, v, a, b, near.count, far)
+            with_both(w, q, j, t, rules, round, u, v, a, b, near.count, far)
         }
     }
 }
@@ -127,27 +140,29 @@ fn try_along(
     w: &mut [u32],
     q: &mut [f64],
     j: &[u32],
+    t: &mut [u32],
     rules: Rules,
     c: Counters,
+    log: Log,
     u: usize,
     v: usize,
     seed: usize,
     a: usize,
     b: usize,
 ) -> Tried
-    requires { ⌜ ((m : Mesh) × CanAttempt (now w) (now q) rules c u v m × Locks (now j) (m .locked)) ⌝ }
+    requires { ⌜ ((base : List ℕ) × (m : Mesh) × CanAttempt (now w) (now q) rules c u v m × Locks (now j) (m .locked) × Logged base (now t) (log .at) m × (log .round ≡ this-round m)) ⌝ }
     requires { ⌜ Ends (c .points) u v a b × (seed < rules .slots) ⌝ }
-    ensures { λ r. ⌜ ((m : Mesh) → CanAttempt (now (w .entry)) (now (q .entry)) rules c u v m → Locks (now (j .entry)) (m .locked) → TriedTo (now (w .entry)) (now (w .exit)) (now (q .entry)) (now (q .exit)) rules c (try-along (settings-of rules) m (u, v) seed a b) r) ⌝ }
+    ensures { λ r. ⌜ ((base : List ℕ) (m : Mesh) → CanAttempt (now (w .entry)) (now (q .entry)) rules c u v m → Locks (now (j .entry)) (m .locked) → Logged base (now (t .entry)) (log .at) m → log .round ≡ this-round m → TriedTo (now (w .entry)) (now (w .exit)) (now (q .entry)) (now (q .exit)) base (now (t .exit)) rules c (try-along (settings-of rules) m (u, v) seed a b) r) ⌝ }
 {
     let span = length(q, a, b);
     let tangent = from_to(q, a, b);
     let long = norm(tangent);
     let target = target_of(rules.size, span);
     if target <= TINY_LENGTH {
-        return without_quad(End::Placement, c, 0, 0, 0);
+        return without_quad(End::Placement, c, log.at, 0, 0, 0);
     }
     if long <= TINY_LENGTH {
-        return without_quad(End::Placement, c, 0, 0, 0);
+        return without_quad(End::Placement, c, log.at, 0, 0, 0);
     }
     let normal = inward_normal(tangent, long);
     let mismatch = size_mismatch(span, target);
@@ -160,8 +175,10 @@ fn try_along(
     let near = side_nodes(
         w,
         q,
+        t,
         rules,
         c,
+        log.at,
         stance,
         near_at(rules.slots, rules.capacity),
         true,
@@ -169,29 +186,31 @@ fn try_along(
         b,
         0,
     );
-    with_first(w, q, j, rules, stance, u, v, a, b, near)
+    with_first(w, q, j, t, rules, log.round, stance, u, v, a, b, near)
 }
 
-// An attempt on the edge u-v: its seed is the first triangle that owns it.
+// An attempt on the edge u-v: its seed is the first triangle that owns it. What happens to the mesh is noted in the lent trace.
 pub fn try_quad(
     w: &mut [u32],
     q: &mut [f64],
     j: &[u32],
+    t: &mut [u32],
     rules: Rules,
     c: Counters,
+    log: Log,
     u: usize,
     v: usize,
 ) -> Tried
-    requires { ⌜ ((m : Mesh) × CanAttempt (now w) (now q) rules c u v m × Locks (now j) (m .locked)) ⌝ }
-    ensures { λ r. ⌜ ((m : Mesh) → CanAttempt (now (w .entry)) (now (q .entry)) rules c u v m → Locks (now (j .entry)) (m .locked) → TriedTo (now (w .entry)) (now (w .exit)) (now (q .entry)) (now (q .exit)) rules c (try-quad (settings-of rules) m (u, v)) r) ⌝ }
+    requires { ⌜ ((base : List ℕ) × (m : Mesh) × CanAttempt (now w) (now q) rules c u v m × Locks (now j) (m .locked) × Logged base (now t) (log .at) m × (log .round ≡ this-round m)) ⌝ }
+    ensures { λ r. ⌜ ((base : List ℕ) (m : Mesh) → CanAttempt (now (w .entry)) (now (q .entry)) rules c u v m → Locks (now (j .entry)) (m .locked) → Logged base (now (t .entry)) (log .at) m → log .round ≡ this-round m → TriedTo (now (w .entry)) (now (w .exit)) (now (q .entry)) (now (q .exit)) base (now (t .exit)) rules c (try-quad (settings-of rules) m (u, v)) r) ⌝ }
 {
     let seed = tri_owner(w, rules.slots, rules.capacity, u, v);
     if seed >= rules.slots {
-        return without_quad(End::Placement, c, 0, 0, 0);
+        return without_quad(End::Placement, c, log.at, 0, 0, 0);
     }
     let apex = third(w, rules.slots, seed, u, v);
     if cross(q, u, v, apex) > 0.0 {
-        return try_along(w, q, j, rules, c, u, v, seed, u, v);
+        return try_along(w, q, j, t, rules, c, log, u, v, seed, u, v);
     }
-    try_along(w, q, j, rules, c, u, v, seed, v, u)
+    try_along(w, q, j, t, rules, c, log, u, v, seed, v, u)
 }

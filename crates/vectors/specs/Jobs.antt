@@ -29,12 +29,13 @@ lent left sizes =
       components = sizes;
       work = replicate 88 0;
       float-work = replicate 4 0·0;
+      trace = [];
     }
 
 -- 21 attempts for two meshes: ten each. Three are made, and seven are handed on.
 one-of-two : job (state 2 21 0 0) asked (lent (replicate 3 7) (7 ∷ []))
     ≡ record {
-      returned = record { answer = finished (tally 0 3 0 3 0 0 0 0 0 0) (record { quads = 0; triangles = 1; points = 3; components = 1 }); lent = lent (0 ∷ 1 ∷ 2 ∷ []) (1 ∷ []) };
+      returned = record { answer = finished (tally 0 3 0 3 0 0 0 0 0 0) (record { quads = 0; triangles = 1; points = 3; components = 1; words = 0 }); lent = lent (0 ∷ 1 ∷ 2 ∷ []) (1 ∷ []) };
       charged = 3;
       next = state 2 21 1 7;
     }
@@ -44,7 +45,7 @@ one-of-two = refl
 -- two attempts each: the third is counted and not made, so the mesh reports its limit and one more, and nothing is left
 stopped-third : job (state 2 5 0 0) asked (lent (replicate 3 7) (7 ∷ []))
     ≡ record {
-      returned = record { answer = finished (tally 0 3 0 2 0 0 0 0 1 0) (record { quads = 0; triangles = 1; points = 3; components = 1 }); lent = lent (0 ∷ 1 ∷ 2 ∷ []) (1 ∷ []) };
+      returned = record { answer = finished (tally 0 3 0 2 0 0 0 0 1 0) (record { quads = 0; triangles = 1; points = 3; components = 1; words = 0 }); lent = lent (0 ∷ 1 ∷ 2 ∷ []) (1 ∷ []) };
       charged = 2;
       next = state 2 5 1 0;
     }

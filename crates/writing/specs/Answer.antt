@@ -16,9 +16,9 @@ unfoldable pub columns : Counts → List ℕ
 columns c =
     c .«front_empty» ∷ c .attempts ∷ c .placement ∷ c .«invalid_quad» ∷ c .recovery ∷ c .region ∷ c .«odd_region» ∷ c .«mismatch_insertions» ∷ c .limit ∷ []
 
--- the definition's lengths
+-- the definition's lengths; the program lends no trace
 unfoldable pub lengths-of : Lengths → call.Lengths
-lengths-of n = record { quads = n .quads; triangles = n .triangles; points = n .points; components = n .components }
+lengths-of n = record { quads = n .quads; triangles = n .triangles; points = n .points; components = n .components; words = 0 }
 
 -- in the order of their names
 unfoldable pub lengths-listed : call.Lengths → List ℕ
@@ -27,7 +27,7 @@ lengths-listed n = n .quads ∷ n .triangles ∷ n .points ∷ n .components ∷
 -- the slices that are shown
 unfoldable pub shown : List Float → List ℕ → List ℕ → List ℕ → Lent
 shown points quads triangles components =
-    record { points = points; triangles = []; joints = []; quads = quads; triangles-out = triangles; components = components; work = []; float-work = [] }
+    record { points = points; triangles = []; joints = []; quads = quads; triangles-out = triangles; components = components; work = []; float-work = []; trace = [] }
 
 -- the others are never looked at
 pub only-shown : (given : List (List ℕ)) (c : def.Counts) (n : call.Lengths) (l : Lent)

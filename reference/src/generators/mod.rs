@@ -9,6 +9,7 @@ pub mod sets;
 pub mod shape;
 mod soups;
 mod strips;
+pub mod traces;
 
 use std::io::{Error, Result};
 

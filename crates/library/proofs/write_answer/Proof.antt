@@ -1,4 +1,4 @@
--- Fourteen stores within the slice.
+-- Fifteen stores within the slice.
 use native.Mathlib.Omega.{arith}
 use lib.ListN.{length-set}
 use borrow.Author.Needs.{needs}
@@ -17,4 +17,5 @@ write-answer-spec =
     (λ c. simp length-set (omega (arith, c .pre))) (λ c. simp length-set (omega (arith, c .pre))) (λ c. simp length-set (omega (arith, c .pre)))
     (λ c. simp length-set (omega (arith, c .pre))) (λ c. simp length-set (omega (arith, c .pre))) (λ c. simp length-set (omega (arith, c .pre)))
     (λ c. simp length-set (omega (arith, c .pre))) (λ c. simp length-set (omega (arith, c .pre))) (λ c. simp length-set (omega (arith, c .pre)))
-    (λ c. simp length-set (omega (arith, c .pre))) (λ c. simp length-set (omega (arith, c .pre))) (λ c. search needs) returns)
+    (λ c. simp length-set (omega (arith, c .pre))) (λ c. simp length-set (omega (arith, c .pre))) (λ c. simp length-set (omega (arith, c .pre)))
+    (λ c. search needs) returns)

@@ -34,7 +34,7 @@ off-grid-requires c κs =
     let g = c .before .before .before in
     let t = g .before .before in
     let ps = t .args .points .now in
-    let l : Lent = record { points = ps; triangles = []; joints = []; quads = []; triangles-out = []; components = []; work = []; float-work = [] } in
+    let l : Lent = record { points = ps; triangles = []; joints = []; quads = []; triangles-out = []; components = []; work = []; float-work = []; trace = [] } in
     ap outside (read-point ps (g .loop .i) (omega arith)) ∙ near-each (asked (t .args .a)) l (t .pre .1 l refl) (g .loop .i) (omega arith)
 
 returns : tie.Need-returns Inv-loop μ-loop

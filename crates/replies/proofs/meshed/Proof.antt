@@ -25,19 +25,19 @@ unfolding base 0·90630778703665 f64 ofBits fits
 base-double = refl
 
 -- the call that was made is the definition's
-ran : (c : tie.After-run-front) → let a = c .before .before .before .before .before .before .before .before .before .before .before .before .before .before .before .before .before .args in let l = c .run-front .last in
+ran : (c : tie.After-run-front) → let a = c .before .before .before .before .before .before .before .before .before .before .before .before .before .before .before .before .before .before .args in let l = c .run-front .last in
     Returns (call (asks (a .h)) (lends (a .h) (now (a .tris)) (now (a .bits)))) (c .run-front .result)
-    (lent-of (l .0) (take (3 * a .h .triangles) (now (a .tris))) [] (l .1 .1 .1 .0) (l .1 .1 .1 .1 .0) (l .1 .1 .1 .1 .1 .0) (l .1 .1 .1 .1 .1 .1 .0) (l .1 .1 .1 .1 .1 .1 .1 .0))
+    (lent-of (l .0) (take (3 * a .h .triangles) (now (a .tris))) [] (l .1 .1 .1 .0) (l .1 .1 .1 .1 .0) (l .1 .1 .1 .1 .1 .0) (l .1 .1 .1 .1 .1 .1 .0) (l .1 .1 .1 .1 .1 .1 .1 .0) (l .1 .1 .1 .1 .1 .1 .1 .1 .0))
 unfolding 0·0 f64
 ran c =
-    let start = c .before .before .before .before .before .before .before .before .before .before .before .before .before .before .before .before .before in
+    let start = c .before .before .before .before .before .before .before .before .before .before .before .before .before .before .before .before .before .before in
     let a = start .args in
     let l = c .run-front .last in
-    let after = lent-of (l .0) (take (3 * a .h .triangles) (now (a .tris))) [] (l .1 .1 .1 .0) (l .1 .1 .1 .1 .0) (l .1 .1 .1 .1 .1 .0) (l .1 .1 .1 .1 .1 .1 .0) (l .1 .1 .1 .1 .1 .1 .1 .0) in
-    let f = c .before .before .before .before .before .before .before .before .before .before .before .before .fill in
-    let g = c .before .before .before .before .before .before .before .before .before .before .float-of in
+    let after = lent-of (l .0) (take (3 * a .h .triangles) (now (a .tris))) [] (l .1 .1 .1 .0) (l .1 .1 .1 .1 .0) (l .1 .1 .1 .1 .1 .0) (l .1 .1 .1 .1 .1 .1 .0) (l .1 .1 .1 .1 .1 .1 .1 .0) (l .1 .1 .1 .1 .1 .1 .1 .1 .0) in
+    let f = c .before .before .before .before .before .before .before .before .before .before .before .before .before .fill in
+    let g = c .before .before .before .before .before .before .before .before .before .before .before .float-of in
     let made : Returns (call (asked-for (a .h .points) 96 (a .h .triangles) 160 0 (g .result) (a .h .stop) base false) (lending (f .last .1 .1 .0) (take (3 * a .h .triangles) (now (a .tris))))) (c .run-front .result) after =
-    subst (λ x. Returns (call x (lending (f .last .1 .1 .0) (take (3 * a .h .triangles) (now (a .tris))))) (c .run-front .result) after) (c .before .before .before .before .before .before .before .before .before .standard .ensures) (c .run-front .ensures .0) in
+    subst (λ x. Returns (call x (lending (f .last .1 .1 .0) (take (3 * a .h .triangles) (now (a .tris))))) (c .run-front .result) after) (c .before .before .before .before .before .before .before .before .before .before .standard .ensures) (c .run-front .ensures .0) in
     subst (λ ps. Returns (call (asks (a .h)) (lending ps (take (3 * a .h .triangles) (now (a .tris))))) (c .run-front .result) after) (f .ensures)
     (subst (λ x. Returns (call (asked-for (a .h .points) 96 (a .h .triangles) 160 0 x (a .h .stop) base false) (lending (f .last .1 .1 .0) (take (3 * a .h .triangles) (now (a .tris))))) (c .run-front .result) after) (g .ensures) made)
 
@@ -46,12 +46,12 @@ slice-aggregate-run-front-2 c = let w = c .before .before .before .before .befor
 
 told-requires : tie.Need-told-requires
 told-requires c κs =
-    let at = c .before .before .before .before .before .before .before .before .before .before .before in
-    let start = at .before .before .before .before .before .before .before .before .before .before .before .before .before .before .before .before .before in
+    let at = c .before .before .before .before .before .before .before .before .before .before .before .before in
+    let start = at .before .before .before .before .before .before .before .before .before .before .before .before .before .before .before .before .before .before in
     let a = start .args in
     let w = start .pre .0 in
     let k = at .run-front .kept in
-    let f = at .before .before .before .before .before .before .before .before .before .before .before .before .fill in (
+    let f = at .before .before .before .before .before .before .before .before .before .before .before .before .before .fill in (
       call-writable (asks (a .h)) (lends (a .h) (now (a .tris)) (now (a .bits))) base-double (w .few-triangles) refl refl (ran at),
       record {
         bits-long = omega (arith, w);
@@ -65,8 +65,8 @@ told-requires c κs =
 
 returns : tie.Need-returns
 returns c =
-    let at = c .before .before .before .before .before .before .before .before .before .before .before .before .before .before in
-    let a = at .before .before .before .before .before .before .before .before .before .before .before .before .before .before .before .before .before .args in
+    let at = c .before .before .before .before .before .before .before .before .before .before .before .before .before .before .before in
+    let a = at .before .before .before .before .before .before .before .before .before .before .before .before .before .before .before .before .before .before .args in
     let t = c .before .before .told in
     let l = at .run-front .last in
     let m = lends (a .h) (now (a .tris)) (now (a .bits)) in
@@ -85,6 +85,7 @@ pub meshed-spec : {M : Type 1} → statement M
 meshed-spec =
     tie.close
     (tie.spec
-    (λ c. search needs) (λ c. search needs) (λ c κs. search needs) (λ c κs. search needs) (λ c. search needs) (λ c κs. search needs) (λ c. search needs)
-    slice-aggregate-run-front-2 (λ c. search needs) (λ c. search needs) (λ c. search needs) (λ c. search needs) (λ c. search needs) (λ c. search needs) (λ c κs. search needs)
-    (λ c. search needs) (λ c. search needs) (λ c. search needs) (λ c. search needs) told-requires (λ c. search needs) returns)
+    (λ c. search needs) (λ c. search needs) (λ c κs. search needs) (λ c κs. search needs) (λ c. search needs) (λ c κs. search needs)
+    (λ c. search needs) slice-aggregate-run-front-2 (λ c. search needs) (λ c. search needs) (λ c. search needs) (λ c. search needs)
+    (λ c. search needs) (λ c. search needs) (λ c. search needs) (λ c κs. search needs) (λ c. search needs) (λ c. search needs) (λ c. search needs)
+    (λ c. search needs) told-requires (λ c. search needs) returns)

@@ -11,8 +11,8 @@ returns : tie.Need-returns
 unfolding asked capacity slots size lent unused plus round ofBits
 returns c =
     let answered = c .before .before .before .before .before in
-    let called = answered .before .before .before .before .before .before .before in
-    let stated = called .before .before .before .before .before .before .before .before .before in
+    let called = answered .before .before .before .before .before .before .before .before in
+    let stated = called .before .before .before .before .before .before .before .before .before .before in
     let placed = stated .before .before in
     let a = placed .before .args in
     as-returned (a .start) (answered .mixed-answer .result) (c .mixed-slices .result) (returned (a .given) (a .list .count) (a .list .nodes) (a .s)) (called .run-front .result) _
@@ -28,6 +28,7 @@ mixed-run-spec =
     (λ c. search needs) (λ c. search needs) (λ c. search needs) (λ c. search needs) (λ c. search needs) (λ c. search needs) (λ c. search needs)
     (λ c κs. search needs)
     (λ c. search needs) (λ c. search needs) (λ c. search needs) (λ c. search needs) (λ c. search needs) (λ c. search needs) (λ c. search needs) (λ c. search needs)
+    (λ c. search needs)
     (λ c κs. search needs) (λ c κs. search needs)
     (λ c. search needs) (λ c. search needs) (λ c. search needs) (λ c. search needs)
     (λ c κs. search needs)

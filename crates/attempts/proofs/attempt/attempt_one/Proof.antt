@@ -11,10 +11,10 @@ limited-requires c κs =
     let at-past-limit = at-if1 .before in
     let at-c = at-past-limit .before in
     let at-counted = at-c .before in
-    let t = at-counted .before .before .before .before .before in
+    let t = at-counted .before .before .before .before .before .before in
     let a = t .args in
     let m = t .pre in
-    few-now (setup (a .rules) (t .pre .0)) (a .w .now) (a .q .now) (a .quads .now) (a .before) (m .1) (a .u, a .v) (m .2) (m .3) (at-counted .counted .result) (at-counted .counted .ensures)
+    few-now (setup (a .rules) (t .pre .0)) (a .w .now) (a .q .now) (a .quads .now) (a .t .now) (a .before) (m .1) (a .u, a .v) (m .2) (m .3) (at-counted .counted .result) (at-counted .counted .ensures)
 
 returns : tie.Need-returns
 returns c =
@@ -23,46 +23,46 @@ returns c =
     let at-past-limit = at-if1 .before in
     let at-c = at-past-limit .before in
     let at-counted = at-c .before in
-    let t = at-counted .before .before .before .before .before in
+    let t = at-counted .before .before .before .before .before .before in
     let a = t .args in
-    λ k st es m l. limited-step (setup (a .rules) k) (a .w .now) (a .q .now) (a .quads .now) (a .before) st (a .u, a .v) es m (at-counted .counted .result) (at-counted .counted .ensures)
-    (past-is (setup (a .rules) k) (a .w .now) (a .q .now) (a .quads .now) (a .before) st (a .u, a .v) es m (at-counted .counted .result) (at-counted .counted .ensures) (at-past-limit .past-limit .result) (at-past-limit .past-limit .ensures) ∙ at-if1 .if1 .taken) (at-limited .limited .result) (at-limited .limited .ensures)
+    λ k st es m l. limited-step (setup (a .rules) k) (a .w .now) (a .q .now) (a .quads .now) (a .t .now) (a .before) st (a .u, a .v) es m (at-counted .counted .result) (at-counted .counted .ensures)
+    (past-is (setup (a .rules) k) (a .w .now) (a .q .now) (a .quads .now) (a .t .now) (a .before) st (a .u, a .v) es m (at-counted .counted .result) (at-counted .counted .ensures) (at-past-limit .past-limit .result) (at-past-limit .past-limit .ensures) ∙ at-if1 .if1 .taken) (at-limited .limited .result) (at-limited .limited .ensures)
 
 make-attempt-requires : tie.Need-make-attempt-requires
 make-attempt-requires c κs =
-    let at-if1 = c .before .before .before in
+    let at-if1 = c .before .before .before .before in
     let at-past-limit = at-if1 .before in
     let at-c = at-past-limit .before in
     let at-counted = at-c .before in
-    let t = at-counted .before .before .before .before .before in
+    let t = at-counted .before .before .before .before .before .before in
     let a = t .args in
     let m = t .pre in (
       m .0,
       m .1,
       m .2,
-      makes (setup (a .rules) (t .pre .0)) (a .w .now) (a .q .now) (a .quads .now) (a .before) (m .1) (a .u, a .v) (m .2) (m .3) (at-counted .counted .result) (at-counted .counted .ensures)
-          (past-is (setup (a .rules) (t .pre .0)) (a .w .now) (a .q .now) (a .quads .now) (a .before) (m .1) (a .u, a .v) (m .2) (m .3) (at-counted .counted .result) (at-counted .counted .ensures) (at-past-limit .past-limit .result) (at-past-limit .past-limit .ensures) ∙ at-if1 .if1 .left),
+      makes (setup (a .rules) (t .pre .0)) (a .w .now) (a .q .now) (a .quads .now) (a .t .now) (a .before) (m .1) (a .u, a .v) (m .2) (m .3) (at-counted .counted .result) (at-counted .counted .ensures)
+          (past-is (setup (a .rules) (t .pre .0)) (a .w .now) (a .q .now) (a .quads .now) (a .t .now) (a .before) (m .1) (a .u, a .v) (m .2) (m .3) (at-counted .counted .result) (at-counted .counted .ensures) (at-past-limit .past-limit .result) (at-past-limit .past-limit .ensures) ∙ at-if1 .if1 .left),
       m .4,
     )
 
 returns-2 : tie.Need-returns-2
 returns-2 c =
-    let at-quads = c .before in
+    let at-quads = c .before .before .before in
     let at-q = at-quads .before .before in
     let at-w = at-q .before .before in
     let at-make-attempt = at-w .before in
-    let at-if1 = at-make-attempt .before .before .before .before in
+    let at-if1 = at-make-attempt .before .before .before .before .before in
     let at-past-limit = at-if1 .before in
     let at-c = at-past-limit .before in
     let at-counted = at-c .before in
-    let t = at-counted .before .before .before .before .before in
+    let t = at-counted .before .before .before .before .before .before in
     let a = t .args in
-    λ k st es m l. at-make-attempt .make-attempt .ensures k st es (makes (setup (a .rules) k) (a .w .now) (a .q .now) (a .quads .now) (a .before) st (a .u, a .v) es m (at-counted .counted .result) (at-counted .counted .ensures)
-    (past-is (setup (a .rules) k) (a .w .now) (a .q .now) (a .quads .now) (a .before) st (a .u, a .v) es m (at-counted .counted .result) (at-counted .counted .ensures) (at-past-limit .past-limit .result) (at-past-limit .past-limit .ensures) ∙ at-if1 .if1 .left)) l
+    λ k st es m l. at-make-attempt .make-attempt .ensures k st es (makes (setup (a .rules) k) (a .w .now) (a .q .now) (a .quads .now) (a .t .now) (a .before) st (a .u, a .v) es m (at-counted .counted .result) (at-counted .counted .ensures)
+    (past-is (setup (a .rules) k) (a .w .now) (a .q .now) (a .quads .now) (a .t .now) (a .before) st (a .u, a .v) es m (at-counted .counted .result) (at-counted .counted .ensures) (at-past-limit .past-limit .result) (at-past-limit .past-limit .ensures) ∙ at-if1 .if1 .left)) l
 
 pub attempt-one-spec : {M : Type 1} → statement M
 attempt-one-spec =
     tie.close
     (tie.spec
     (λ c κs. search needs) (λ c κs. search needs) limited-requires returns make-attempt-requires (λ c. search needs) (λ c. search needs)
-    (λ c. search needs) returns-2)
+    (λ c. search needs) (λ c. search needs) returns-2)

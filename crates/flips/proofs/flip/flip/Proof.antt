@@ -15,7 +15,7 @@ use Rattle.joints.specs.Table.{Locks}
 use Rattle.flips.specs.Nodes.{tri-read}
 use Rattle.flips.specs.Flip.{TwinsAt, IsFlip}
 use Rattle.flips.specs.Twins.{IsTwins}
-use Rattle.flips.proofs.Flips.{Third, Twin, twin1, twin2, flip-flat, flip-turned, lock-is, flip-locked, flip-none, flip-some, can-turn, convex-apart, within, four}
+use Rattle.flips.proofs.Flips.{Third, Twin, twin1, twin2, flip-flat, flip-turned, lock-is, flip-locked, flip-none, flip-short, flip-some, can-turn, convex-apart, within, four}
 use borrow.Author.Needs.{needs}
 use Rattle.flips.proofs.flip.flip.Statement.{statement}
 use Rattle.flips.proofs.flip.flip.Tie as tie
@@ -115,7 +115,7 @@ returns c =
     let a = s .args in
     record {
       is = λ m r q l.
-          flip-none (a .w .now) (a .s) (a .p) m (a .u) (a .v)
+          flip-none (a .w .now) (a .s) (a .p) m (a .u) (a .v) (a .room)
           (flip-locked m (key (a .u) (a .v)) (lock-is m (a .u) (a .v) (t .locked .result) (s .pre .1 .up) (t .locked .ensures (m .locked) l) ∙ c .if1 .taken)) r;
       keeps = keeps-refl (a .w .now) (mesh-end (a .s) (a .p));
     }
@@ -125,7 +125,7 @@ returns-2 c =
     let k = c .before .before in
     let a = k .before .before .before .before .before .before .before .args in
     record {
-      is = λ m r q l. flip-none (a .w .now) (a .s) (a .p) m (a .u) (a .v) (subst (λ x. IsTwins m (a .u) (a .v) x) (c .enum-told .given .1) (k .two-tris .ensures m r)) r;
+      is = λ m r q l. flip-none (a .w .now) (a .s) (a .p) m (a .u) (a .v) (a .room) (subst (λ x. IsTwins m (a .u) (a .v) x) (c .enum-told .given .1) (k .two-tris .ensures m r)) r;
       keeps = keeps-refl (a .w .now) (mesh-end (a .s) (a .p));
     }
 
@@ -166,23 +166,15 @@ returns-3 c =
     let a = top k .args in
     record {
       is = λ m r q l.
-          flip-none (a .w .now) (a .s) (a .p) m (a .u) (a .v)
+          flip-none (a .w .now) (a .s) (a .p) m (a .u) (a .v) (a .room)
           (flip-flat m (a .u) (a .v) (slot1 k) (slot2 k) (top k .pre .1 .up) (twins k m r) (node1 n) (node2 n) (is1 n m r) (is2 n m r)
           (v .convex-pair .result) (is-convex v m r q l) (not-true (v .convex-pair .result) (c .if2 .taken))) r;
       keeps = keeps-refl (a .w .now) (mesh-end (a .s) (a .p));
     }
 
-turn-evenly-requires : tie.Need-turn-evenly-requires
-turn-evenly-requires c κs =
-    let e = c .before in
-    let v = e .before in
-    let t = top (known (v .before)) in
-    (t .pre .0 .0, t .pre .0 .1, flips v (t .pre .0 .0) (t .pre .0 .1) (t .pre .0 .2) (t .pre .0 .3) (not-false (v .convex-pair .result) (e .if2 .left)))
-
 returns-4 : tie.Need-returns-4
 returns-4 c =
-    let s = c .before .before in
-    let e = s .before .before in
+    let e = c .before in
     let v = e .before in
     let n = v .before in
     let k = known n in
@@ -190,8 +182,33 @@ returns-4 c =
     record {
       is = λ m r q l.
           let h = flips v m r q l (not-false (v .convex-pair .result) (e .if2 .left)) in
-          flip-some (s .turn-evenly .last .0) (a .s) (a .p) m (flipped m (a .u, a .v) (slot1 k) (tri-read (a .w .now) (a .s) (slot1 k)) (slot2 k) (node1 n) (node2 n)) (a .u) (a .v)
-          (h .is) (s .turn-evenly .ensures .rep m r h);
+          flip-short (a .w .now) (a .s) (a .p) m (a .u) (a .v) (a .room) (flipped m (a .u, a .v) (slot1 k) (tri-read (a .w .now) (a .s) (slot1 k)) (slot2 k) (node1 n) (node2 n))
+          (h .is) (not-true (a .room) (c .if3 .taken)) r;
+      keeps = keeps-refl (a .w .now) (mesh-end (a .s) (a .p));
+    }
+
+turn-evenly-requires : tie.Need-turn-evenly-requires
+turn-evenly-requires c κs =
+    let e = c .before .before in
+    let v = e .before in
+    let t = top (known (v .before)) in
+    (t .pre .0 .0, t .pre .0 .1, flips v (t .pre .0 .0) (t .pre .0 .1) (t .pre .0 .2) (t .pre .0 .3) (not-false (v .convex-pair .result) (e .if2 .left)))
+
+returns-5 : tie.Need-returns-5
+returns-5 c =
+    let s = c .before .before in
+    let f = s .before .before in
+    let e = f .before in
+    let v = e .before in
+    let n = v .before in
+    let k = known n in
+    let a = top k .args in
+    record {
+      is = λ m r q l.
+          let h = flips v m r q l (not-false (v .convex-pair .result) (e .if2 .left)) in
+          flip-some (s .turn-evenly .last .0) (a .s) (a .p) m (a .u) (a .v) (a .room)
+          (flipped m (a .u, a .v) (slot1 k) (tri-read (a .w .now) (a .s) (slot1 k)) (slot2 k) (node1 n) (node2 n)) (h .is) (not-false (a .room) (f .if3 .left))
+          (s .turn-evenly .ensures .rep m r h);
       keeps = s .turn-evenly .ensures .keeps;
     }
 
@@ -200,4 +217,4 @@ flip-spec =
     tie.close
     (tie.spec
     locked-requires returns (λ c κs. search needs) (λ c. search needs) enum-told (λ c. search needs) returns-2 third-requires third-requires-2
-    convex-pair-requires (λ c. search needs) returns-3 turn-evenly-requires (λ c. search needs) returns-4)
+    convex-pair-requires (λ c. search needs) returns-3 (λ c. search needs) returns-4 turn-evenly-requires (λ c. search needs) returns-5)

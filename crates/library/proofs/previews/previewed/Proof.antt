@@ -1,5 +1,6 @@
 -- With room for the numbers the preview; without it the refusal that comes first, or 4.
 use mathlib.Core.Path.{refl}
+use mathlib.Core.List.{[]}
 use borrow.Author.Needs.{needs}
 use Rattle.definition.specs.Call.{Asked, Lent}
 use Rattle.refusals.specs.Stated.{asked}
@@ -15,7 +16,7 @@ stated t = asked (t .args .stated)
 abbrev held : tie.Start → Lent
 held t =
     lent-of (t .args .points .now) (t .args .triangles .now) (t .args .joints .now) (t .args .quads .now) (t .args .triangles-out .now) (t .args .components .now) (t .args .work .now)
-    (t .args .float-work .now)
+    (t .args .float-work .now) []
 
 abbrev start : tie.After-preview → tie.Start
 start x = x .before .before .before .before .before .before .before .before .before .before .before .before .before .before
@@ -25,7 +26,7 @@ abbrev left : tie.After-preview → Lent
 left x =
     let d = x .preview .last in
     let a = start x .args in
-    lent-of (d .0) (a .triangles .now) (a .joints .now) (a .quads .now) (a .triangles-out .now) (a .components .now) (d .1 .1 .1 .1 .1 .1 .0) (d .1 .1 .1 .1 .1 .1 .1 .0)
+    lent-of (d .0) (a .triangles .now) (a .joints .now) (a .quads .now) (a .triangles-out .now) (a .components .now) (d .1 .1 .1 .1 .1 .1 .0) (d .1 .1 .1 .1 .1 .1 .1 .0) []
 
 returns : tie.Need-returns
 returns c =

@@ -25,18 +25,18 @@ stated t = asked (t .args .stated)
 abbrev held : tie.Start → Lent
 held t =
     lent-of (t .args .points .now) (t .args .triangles .now) (t .args .joints .now) (t .args .quads .now) (t .args .triangles-out .now) (t .args .components .now)
-    (t .args .work .now) (t .args .float-work .now)
+    (t .args .work .now) (t .args .float-work .now) (t .args .trace .now)
 
 -- the state of the job
 abbrev state : tie.Start → defined.Job
 state t = job-of (t .args .state)
 
 abbrev start : tie.After-refusal → tie.Start
-start r = r .before .before .before .before .before .before .before .before .before .before .before .before
+start r = r .before .before .before .before .before .before .before .before .before .before .before .before .before
 
 -- the largest cosine is a double, as owning the stated numbers tells
 double : (t : tie.Start) → fits binary64 (stated t .quality .largest-cosine) ≡ true
-double t = let owned = t .good .1 .1 .1 .1 .1 .1 .1 .1 .1 .0 .1 .1 in let quality = owned .1 .1 .1 .1 .1 .1 .1 .0 .1 .1 in quality .1 .0 .1
+double t = let owned = t .good .1 .1 .1 .1 .1 .1 .1 .1 .1 .1 .0 .1 .1 in let quality = owned .1 .1 .1 .1 .1 .1 .1 .0 .1 .1 in quality .1 .0 .1
 
 number-is : (r : tie.After-refusal) → r .refusal .result ≡ first-refusal (stated (start r)) (held (start r))
 number-is r =
@@ -46,13 +46,13 @@ passed-all : (e : tie.Else2) → first-refusal (stated (start (e .before))) (hel
 passed-all e = sym (number-is (e .before)) ∙ e .if2 .left
 
 -- 16 does not refuse the state
-good-state : (e : tie.Else1) → bad-job (state (e .before .before .before .before .before .before .before .before .before .before)) ≡ false
+good-state : (e : tie.Else1) → bad-job (state (e .before .before .before .before .before .before .before .before .before .before .before)) ≡ false
 good-state e = sym (e .before .bad-job .ensures) ∙ e .if1 .left
 
 returns : tie.Need-returns
 returns c =
     let e = c .before in
-    let t = e .before .before .before .before .before .before .before .before .before .before in
+    let t = e .before .before .before .before .before .before .before .before .before .before .before in
     let bad = sym (e .before .bad-job .ensures) ∙ e .if1 .taken in
     let y = c .refused .ensures in
     let kept = none-kept (job-limit (state t) (stated t)) (stated t) (held t) (c .refused .result) (held t) (λ z. omega (arith, y .number, z)) in
@@ -79,36 +79,36 @@ limit-of-requires c κs =
 
 run-requires : tie.Need-run-requires
 run-requires c κs =
-    let o = c .before .before .before .before .before .before in
+    let o = c .before .before .before .before .before .before .before in
     let e = o .before in
     let t = start (e .before) in
     (passed-all e, omega (arith, o .limit-of .ensures, usual (state t) (stated t)))
 
 -- what the run left, by the job's limit
-ran-to : (x : tie.After-run) → let t = start (x .before .before .before .before .before .before .before .before .before) in let d = x .run .last in
-    RanTo (job-limit (state t) (stated t)) (stated t) (held t) (x .run .result) (lent-of (d .0) (t .args .triangles .now) (t .args .joints .now) (d .1 .1 .1 .0) (d .1 .1 .1 .1 .0) (d .1 .1 .1 .1 .1 .0) (d .1 .1 .1 .1 .1 .1 .0) (d .1 .1 .1 .1 .1 .1 .1 .0))
+ran-to : (x : tie.After-run) → let t = start (x .before .before .before .before .before .before .before .before .before .before) in let d = x .run .last in
+    RanTo (job-limit (state t) (stated t)) (stated t) (held t) (x .run .result) (lent-of (d .0) (t .args .triangles .now) (t .args .joints .now) (d .1 .1 .1 .0) (d .1 .1 .1 .1 .0) (d .1 .1 .1 .1 .1 .0) (d .1 .1 .1 .1 .1 .1 .0) (d .1 .1 .1 .1 .1 .1 .1 .0) (d .1 .1 .1 .1 .1 .1 .1 .1 .0))
 ran-to x =
-    let o = x .before .before .before .before .before .before .before in
+    let o = x .before .before .before .before .before .before .before .before in
     let t = start (o .before .before) in
     let d = x .run .last in
-    subst (λ (most : ℕ). RanTo most (stated t) (held t) (x .run .result) (lent-of (d .0) (t .args .triangles .now) (t .args .joints .now) (d .1 .1 .1 .0) (d .1 .1 .1 .1 .0) (d .1 .1 .1 .1 .1 .0) (d .1 .1 .1 .1 .1 .1 .0) (d .1 .1 .1 .1 .1 .1 .1 .0))) (o .limit-of .ensures) (x .run .ensures)
+    subst (λ (most : ℕ). RanTo most (stated t) (held t) (x .run .result) (lent-of (d .0) (t .args .triangles .now) (t .args .joints .now) (d .1 .1 .1 .0) (d .1 .1 .1 .1 .0) (d .1 .1 .1 .1 .1 .0) (d .1 .1 .1 .1 .1 .1 .0) (d .1 .1 .1 .1 .1 .1 .1 .0) (d .1 .1 .1 .1 .1 .1 .1 .1 .0))) (o .limit-of .ensures) (x .run .ensures)
 
 handed-on-requires-2 : tie.Need-handed-on-requires-2
 handed-on-requires-2 c κs =
-    let x = c .before .before .before .before .before .before .before .before .before .before .before .before .before in
-    let e = x .before .before .before .before .before .before .before .before in
+    let x = c .before .before .before .before .before .before .before .before .before .before .before .before .before .before .before in
+    let e = x .before .before .before .before .before .before .before .before .before in
     let g = e .before .before .before in
     let t = start (e .before) in
     (good-state g, omega (arith, ran-to x .charged, charged-within (state t) (stated t) (held t) (good-state g) (passed-all e)))
 
 returns-3 : tie.Need-returns-3
 returns-3 c =
-    let x = c .before .before .before .before .before .before .before .before .before .before .before .before .before .before in
-    let e = x .before .before .before .before .before .before .before .before in
+    let x = c .before .before .before .before .before .before .before .before .before .before .before .before .before .before .before .before in
+    let e = x .before .before .before .before .before .before .before .before .before in
     let g = e .before .before .before in
     let t = start (e .before) in
     let d = x .run .last in
-    let exit = lent-of (d .0) (t .args .triangles .now) (t .args .joints .now) (d .1 .1 .1 .0) (d .1 .1 .1 .1 .0) (d .1 .1 .1 .1 .1 .0) (d .1 .1 .1 .1 .1 .1 .0) (d .1 .1 .1 .1 .1 .1 .1 .0) in
+    let exit = lent-of (d .0) (t .args .triangles .now) (t .args .joints .now) (d .1 .1 .1 .0) (d .1 .1 .1 .1 .0) (d .1 .1 .1 .1 .1 .0) (d .1 .1 .1 .1 .1 .1 .0) (d .1 .1 .1 .1 .1 .1 .1 .0) (d .1 .1 .1 .1 .1 .1 .1 .1 .0) in
     let kept = ran-kept (job-limit (state t) (stated t)) (stated t) (held t) (double t) (passed-all e) (x .run .result) exit (ran-to x) in
     (ran-mesh (t .args .state) (c .handed-on2 .result) (stated t) (held t) (good-state g) (passed-all e) (x .run .result) exit (ran-to x) (c .handed-on2 .ensures), (kept .0, (kept .1, kept .2)))
 
@@ -118,4 +118,4 @@ run-mesh-spec =
     (tie.spec
     (λ c κs. search needs) (λ c κs. search needs) returns (λ c κs. search needs) (λ c. search needs) (λ c κs. search needs) handed-on-requires (λ c. search needs) returns-2
     limit-of-requires run-requires handed-on-requires-2 (λ c. search needs) (λ c. search needs)
-    (λ c. search needs) (λ c. search needs) (λ c. search needs) (λ c. search needs) returns-3)
+    (λ c. search needs) (λ c. search needs) (λ c. search needs) (λ c. search needs) (λ c. search needs) returns-3)

@@ -1,5 +1,6 @@
 -- Refused before the attempt, or shown; both work slices are cleared then.
 use mathlib.Core.Path.{_≡_, refl, sym, _∙_}
+use mathlib.Core.List.{[]}
 use borrow.Author.Needs.{needs}
 use Rattle.definition.specs.Call.{Asked, Lent}
 use Rattle.refusals.specs.Refusals.{first-refusal}
@@ -17,7 +18,7 @@ stated t = asked (t .args .stated)
 abbrev held : tie.Start → Lent
 held t =
     lent-of (t .args .points .now) (t .args .triangles .now) (t .args .joints .now) (t .args .quads .now) (t .args .triangles-out .now) (t .args .components .now)
-    (t .args .work .now) (t .args .float-work .now)
+    (t .args .work .now) (t .args .float-work .now) []
 
 abbrev start : tie.After-refusal → tie.Start
 start r = r .before .before .before .before .before .before .before .before .before .before

@@ -10,7 +10,7 @@ returns : tie.Need-returns
 returns c =
     let b = c .before .before in
     let a = b .before .args in
-    ap (λ side. rules-with (a .attempts) (asked (a .stated)) side) (b .bucket-of .ensures)
+    ap (λ side. rules-with (a .attempts) (a .room) (asked (a .stated)) side) (b .bucket-of .ensures)
 
 pub rules-of-spec : {M : Type 1} → statement M
 rules-of-spec = tie.close (tie.spec (λ c κs. search needs) returns)

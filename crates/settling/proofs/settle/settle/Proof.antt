@@ -1,5 +1,5 @@
 use mathlib.Core.Path.{refl, sym, _∙_}
-use Rattle.definition.specs.Counts.{of-points, of-slots}
+use Rattle.definition.specs.Counts.{of-points, of-slots, of-trace}
 use Rattle.settling.specs.Standings.{sort-of}
 use Rattle.settling.proofs.Settling.{can-put, put-settles, can-record, record-settles, end-settles, sort-last}
 use borrow.Author.Needs.{needs}
@@ -84,7 +84,21 @@ returns-3 c =
 
 returns-4 : tie.Need-returns-4
 returns-4 c =
-    let at-if3 = c in
+    let at-if4 = c in
+    let at-if3 = at-if4 .before in
+    let at-if2 = at-if3 .before in
+    let at-if1 = at-if2 .before in
+    let at-sort-of = at-if1 .before in
+    let at-tried = at-sort-of .before in
+    let at-c = at-tried .before in
+    let t = at-c .before .before .before in
+    let a = t .args in
+    λ ever bl qs old h. end-settles (a .w .now) (a .quads .now) (a .s) (a .p) (a .g) (a .t) (a .u) (a .v) ever bl qs old h (at-tried .tried .result) (at-tried .tried .ensures) of-slots _ (sym (at-sort-of .sort-of .ensures) ∙ at-if4 .if4 .taken) refl refl
+
+returns-5 : tie.Need-returns-5
+returns-5 c =
+    let at-if4 = c in
+    let at-if3 = at-if4 .before in
     let at-if2 = at-if3 .before in
     let at-if1 = at-if2 .before in
     let at-sort-of = at-if1 .before in
@@ -93,11 +107,11 @@ returns-4 c =
     let t = at-c .before .before .before in
     let a = t .args in
     let e = at-sort-of .sort-of .ensures in
-    λ ever bl qs old h. end-settles (a .w .now) (a .quads .now) (a .s) (a .p) (a .g) (a .t) (a .u) (a .v) ever bl qs old h (at-tried .tried .result) (at-tried .tried .ensures) of-slots _ (sort-last (a .t .end) (λ z. at-if1 .if1 .left (e ∙ z)) (λ z. at-if2 .if2 .left (e ∙ z)) (λ z. at-if3 .if3 .left (e ∙ z))) refl refl
+    λ ever bl qs old h. end-settles (a .w .now) (a .quads .now) (a .s) (a .p) (a .g) (a .t) (a .u) (a .v) ever bl qs old h (at-tried .tried .result) (at-tried .tried .ensures) of-trace _ (sort-last (a .t .end) (λ z. at-if1 .if1 .left (e ∙ z)) (λ z. at-if2 .if2 .left (e ∙ z)) (λ z. at-if3 .if3 .left (e ∙ z)) (λ z. at-if4 .if4 .left (e ∙ z))) refl refl
 
 pub settle-spec : {M : Type 1} → statement M
 settle-spec =
     tie.close
     (tie.spec
     (λ c κs. search needs) (λ c κs. search needs) put-quad-requires (λ c. search needs) (λ c. search needs) returns refused-requires put-record-requires
-    (λ c. search needs) returns-2 returns-3 returns-4)
+    (λ c. search needs) returns-2 returns-3 returns-4 returns-5)

@@ -6,6 +6,6 @@ pub with-refusal-spec : {M : Type 1} → statement M
 with-refusal-spec =
     tie.close
     (tie.spec
-    (λ c. search needs) (λ c. search needs) (λ c. search needs) (λ c. search needs) (λ c. search needs) (λ c. search needs) (λ c. search needs)
+    (λ c. search needs) (λ c. search needs) (λ c. search needs) (λ c. search needs) (λ c. search needs) (λ c. search needs) (λ c. search needs) (λ c. search needs)
     (λ c. search needs) (λ c. search needs) (λ c. search needs) (λ c. search needs) (λ c. search needs) (λ c. search needs) (λ c. cc) (λ c. cc) (λ c. cc)
-    (λ c. cc) (λ c. cc) (λ c. search needs) (λ c. search needs) (λ c. search needs))
+    (λ c. cc) (λ c. cc) (λ c. search needs) (λ c. search needs) (λ c. search needs) (λ c. search needs))

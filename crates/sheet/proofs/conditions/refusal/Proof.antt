@@ -34,7 +34,7 @@ given-is s = ap (λ z. z .given) (s .standard .ensures)
 
 -- the lent slices of a run of which the points alone are read
 abbrev points-of : tie.After-far-point → defined.Lent
-points-of c = record { points = list-of (c .before .before .before .before) .points; triangles = []; joints = []; quads = []; triangles-out = []; components = []; work = []; float-work = [] }
+points-of c = record { points = list-of (c .before .before .before .before) .points; triangles = []; joints = []; quads = []; triangles-out = []; components = []; work = []; float-work = []; trace = [] }
 
 test-7 : (c : tie.After-far-point) → c .far-point .result ≡ far-point (list-of (c .before .before .before .before))
 unfolding far-point listed-points defined.far-point given-points

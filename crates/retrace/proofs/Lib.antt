@@ -1,0 +1,15 @@
+pub mod Leftover
+pub mod Openings
+pub mod Beginning
+pub mod Returns
+pub mod Keeping
+pub mod Taking
+pub mod Bits
+pub mod Seats
+pub mod Flipping
+pub mod Holding
+pub mod Splitting
+pub mod Placing
+pub mod Entered
+pub mod Reading
+pub mod Ends
