@@ -61,16 +61,8 @@ use Rattle.settling.specs.Settles.{Kept-so-far, QuadFits, next-quad, CanSettle,
 use Rattle.attempts.specs.Runs.{Setup, Fixed, Holds, Goes, FrontKept, Makes, Stepped, StepTo}
 use Rattle.settling.proofs.Texts.{numbers-length, onto-length}
 use Rattle.settling.proofs.Settling.{sort-of-refusal, sort-of-want, want-sort}
+use Rattle.attempts.proofs.Apart.{pairwise-of, with-in}
 use Rattle.attempts.proofs.Reaching.{Fine, Q, R, Gets, sound, attempt-fine, reach-within, reach-never, made-mismatch}
-
--- ---- limits
-
-pub past-first : (most given tries live : ℕ) → most < tries → true ≡ (ltb most tries || ltb (max-triangles given) live)
-past-first most given tries live h = rw (lt-ltb most tries h) refl
-
-pub past-second : (most given tries live : ℕ) → tries ≤ most → ltb (4 * given + 100) live ≡ (ltb most tries || ltb (max-triangles given) live)
-unfolding max-triangles
-past-second most given tries live h = rw (le-ltb most tries h) refl
 
 -- ---- frames
 
@@ -96,20 +88,6 @@ behind-trans a b c n k l f g =
     let e : 3 * n + (3 * k - 3 * n) ≡ 3 * k = omega arith in
     let back : (z : List Float) → drop (3 * k) z ≡ drop (3 * k - 3 * n) (drop (3 * n) z) = λ z. sym (drop-drop (3 * k - 3 * n) (3 * n) z ∙ ap (λ (j : ℕ). drop j z) e) in
     record { len = g .len ∙ f .len; rest = g .rest ∙ back b ∙ ap (drop (3 * k - 3 * n)) (f .rest) ∙ sym (back a) }
-
--- ---- distinct edges
-
-pub pairwise-of : (p : ℕ) (es : List Edge) → Distinct p es → Pairwise (λ e f. e ≢ f) es
-unfolding has-edge-in
-pairwise-of p [] h = tt
-pairwise-of p (e ∷ es) h =
-    (all-from es (λ f i z. never (same-edge e f) (ap (same-edge e) (sym z) ∙ same-self e) (none-in (same-edge e) es (h .1) f i)), pairwise-of p es (h .2))
-
-pub with-in : (e : Edge) (ever : List Edge) (f : Edge) → In f (with-edge e ever) → In f (e ∷ ever)
-with-in e ever f i = elim (which (has-edge-in ever e)) [
-  | inl h ↦ inr (subst (λ l. In f l) (with-old e ever h) i)
-  | inr h ↦ subst (λ l. In f l) (with-new e ever h) i
-]
 
 -- ---- counts
 

@@ -1,4 +1,4 @@
-use Rattle.attempts.proofs.Attempting.{past-first, past-second}
+use Rattle.attempts.proofs.Limits.{past-first, past-second}
 use borrow.Author.Needs.{needs}
 use Rattle.attempts.proofs.attempt.past_limit.Statement.{statement}
 use Rattle.attempts.proofs.attempt.past_limit.Tie as tie
