@@ -1,7 +1,8 @@
-//! Times of the port, linked from its static library, and of the patched Rust on the same meshes, in one run; with the word `filing`, those of the filing
-//! order; with the word `joints`, those of the port with and without joints.
+//! Times of the port, linked from its static library, and of the patched Rust on the same meshes, in one run; with the word `hubs`, on meshes around one
+//! node; with the word `filing`, those of the filing order; with the word `joints`, those of the port with and without joints.
 
 mod filing;
+mod hubs;
 mod joints;
 
 use reference::generators::large::SHAPES;
@@ -11,9 +12,6 @@ use sedgepick::lent::{self, Call, Further, Memory, Set};
 
 /// Triangles of the meshes: a jittered grid with a hole.
 const TRIANGLES: [usize; 3] = [200, 800, 4000];
-
-/// Triangles of a hub, the worst case known: all have one node, and each look at an edge there walks over them.
-const HUB: [usize; 3] = [100, 200, 400];
 
 /// Element sizes, in steps of the grid; 0 is none.
 const STEPS: [f64; 3] = [0.0, 1.0, 3.0];
@@ -185,7 +183,7 @@ fn rust(input: &Input) -> (f64, (usize, usize)) {
     })
 }
 
-/// A mesh, what its line says of its size, and the best times so far of the Rust and of the port.
+/// A mesh, what its line says of its size or shape, and the best times so far of the Rust and of the port.
 struct Row {
     input: Input,
     size: String,
@@ -229,8 +227,14 @@ impl Row {
     }
 }
 
+fn print_head(second: &str) {
+    println!("| triangles | {second} | rule | quads | points added | Rust, ms | port, ms | port / Rust |");
+    println!("|---|---|---|---|---|---|---|---|");
+}
+
 fn main() {
     match std::env::args().nth(1).as_deref() {
+        Some("hubs") => return hubs::run(),
         Some("filing") => return filing::run(),
         Some("joints") => return joints::run(),
         _ => {}
@@ -243,21 +247,15 @@ fn main() {
             }
         }
     }
-    for triangles in HUB {
-        rows.push(Row::new(shape("hub", triangles), "hub".to_string()));
-    }
     for _ in 0..PASSES {
         rows.iter_mut().for_each(Row::run);
     }
-    println!(
-        "| triangles | size | rule | quads | points added | Rust, ms | port, ms | port / Rust |"
-    );
-    println!("|---|---|---|---|---|---|---|---|");
+    print_head("size");
     rows.iter().for_each(Row::print);
     let (from, to) = (TRIANGLES[1], TRIANGLES[2]);
     println!("\n| size | rule | Rust, {from} to {to} triangles | port |");
     println!("|---|---|---|---|");
-    for group in rows[..rows.len() - HUB.len()].chunks(TRIANGLES.len()) {
+    for group in rows.chunks(TRIANGLES.len()) {
         let (small, large) = (&group[1], &group[2]);
         println!(
             "| {} | {} | {:.1} times | {:.1} times |",

@@ -2,6 +2,7 @@
 //! profile, with and without a trace, and with memory that does or does not suffice.
 
 use reference::account::{areas, lost, slots_used, standing};
+use reference::generators::hubs::HUBS;
 use reference::generators::large::SHAPES;
 use reference::generators::shape::Room;
 use reference::generators::{joints, of_case, on_grid, sets, KINDS, TEXT};
@@ -29,6 +30,10 @@ const DURING: [u32; 3] = [8, 9, 11];
 
 /// Triangles of large meshes.
 const LARGE: (usize, usize) = (600, 4000);
+
+/// A mesh around one node comes once in so many cases, with so many triangles.
+const HUB_EACH: u64 = 509;
+const HUB: (usize, usize) = (16, 160);
 
 /// Runs of a kind of mesh, by what the port answered.
 #[derive(Clone, Copy, Default)]
@@ -93,7 +98,7 @@ pub struct Parting {
     pub what: String,
 }
 
-/// The mesh of a case: kinds in turn, larger rooms now and then, and once in a while one of the large shapes.
+/// The mesh of a case: kinds in turn, larger rooms now and then, and once in a while one of the large shapes or a mesh around one node.
 pub fn mesh(seed: u64, case: u64) -> (&'static str, Input, Random) {
     let mut r = Random::new(seed, case);
     if case % LARGE_EACH == LARGE_EACH - 1 {
@@ -101,6 +106,11 @@ pub fn mesh(seed: u64, case: u64) -> (&'static str, Input, Random) {
         let triangles = r.from_to(LARGE.0, LARGE.1);
         let input = make(&mut r, triangles);
         return (large_name(name), input, r);
+    }
+    if case % HUB_EACH == HUB_EACH - 1 {
+        let (name, make) = HUBS[(case / HUB_EACH) as usize % HUBS.len()];
+        let input = make(r.from_to(HUB.0, HUB.1));
+        return (name, input, r);
     }
     let kind = of_case(None, case);
     let room = match case / KINDS.len() as u64 % 64 {

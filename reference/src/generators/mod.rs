@@ -2,6 +2,7 @@
 
 mod extremes;
 mod grids;
+pub mod hubs;
 pub mod joints;
 pub mod large;
 pub mod on_grid;
