@@ -1,5 +1,6 @@
--- Slices cleared from the front.
+-- Slices cleared: a range, or the whole.
 use mathlib.Core.Path.{_≡_, refl, ap, sym, _∙_}
+use mathlib.Core.Logic.{_≢_}
 use mathlib.Core.List.{List, [], _∷_, _++_, map}
 use Prim.Native.Nat.{ℕ, zero, suc, _+_, _≤_, _<_}
 use native.Mathlib.Numerals.{add-one}
@@ -8,25 +9,37 @@ use lib.ListN.{length, getD, set, take, length-set, length-map}
 use lib.Seq.{take-suc-set}
 use Rattle.rings.proofs.Lists.{Same, same, differ, decide}
 use Rattle.definition.specs.Call.{all-of}
-use Rattle.laws.specs.Frames.{on, off, Keeps, keeps-trans, keeps-set}
+use Rattle.laws.specs.Frames.{on, off, Zeros, Only, only-refl, only-trans}
 
--- the first i words are 0, and those from n on are the same
-pub record Cleared (w₀ w : List ℕ) (n i : ℕ) : Type 0 where
+-- the first i words are 0, of the n from a on, and those outside are the same
+pub record Cleared (w₀ w : List ℕ) (a n i : ℕ) : Type 0 where
   pub within : i ≤ n
-  pub zero : (k : ℕ) → k < i → getD w k 0 ≡ 0
-  pub keeps : Keeps w₀ w n
+  pub zero : (k : ℕ) → k < i → getD w (a + k) 0 ≡ 0
+  pub only : Only w₀ w a (a + n)
 
-pub cleared-more : (w₀ w : List ℕ) (n i : ℕ) → n ≤ length w₀ → i < n → Cleared w₀ w n i → Cleared w₀ (set w i 0) n (i + 1)
-cleared-more w₀ w n i f h c =
+pub cleared-start : (w : List ℕ) (a n : ℕ) → Cleared w w a n 0
+cleared-start w a n = record { within = omega arith; zero = λ k h. absurd (omega (arith, h)); only = only-refl w a (a + n) }
+
+pub cleared-more : (w₀ w : List ℕ) (a n i : ℕ) → a + n ≤ length w₀ → i < n → Cleared w₀ w a n i → Cleared w₀ (set w (a + i) 0) a n (i + 1)
+cleared-more w₀ w a n i f h c =
     record {
       within = omega arith;
       zero = λ k l. go k l (decide k i);
-      keeps = keeps-trans w₀ w (set w i 0) n (c .keeps) (keeps-set w n i 0 h);
+      only = only-trans w₀ w (set w (a + i) 0) a (a + n) (c .only)
+          (record { len = simp length-set; low = λ k l. off w (a + i) 0 k (omega arith); high = λ k l. off w (a + i) 0 k (omega arith) });
     }
   where
-    go : (k : ℕ) → k < i + 1 → Same k i → getD (set w i 0) k 0 ≡ 0
-    go k l (same e) = rw e (on w i 0 (omega (arith, c .keeps .len)))
-    go k l (differ e) = off w i 0 k e ∙ c .zero k (omega arith)
+    go : (k : ℕ) → k < i + 1 → Same k i → getD (set w (a + i) 0) (a + k) 0 ≡ 0
+    go k l (same e) = rw e (on w (a + i) 0 (omega (arith, c .only .len)))
+    go k l (differ e) = off w (a + i) 0 (a + k) (λ z. e (omega arith)) ∙ c .zero k (let d : k ≢ i = e in omega arith)
+
+-- a range from the front on
+pub zeros-of : (w w' : List ℕ) (n : ℕ) → Only w w' 0 (0 + n) → ((k : ℕ) → k < n → getD w' (0 + k) 0 ≡ 0) → Zeros w w' n
+zeros-of w w' n o z =
+    record {
+      zero = λ k l. let e : 0 + k ≡ k = omega arith in ap (λ (i : ℕ). getD w' i 0) (sym e) ∙ z k l;
+      keeps = record { len = o .len; high = λ i l. o .high i (omega arith) };
+    }
 
 -- ---- whole slices, of words or floats
 

@@ -49,7 +49,7 @@ module _ (w : List ℕ) (s p n j : ℕ) (m : Mesh) (xs : List Live) (x : Live) (
   inside = omega (arith, h .slot, held .inside, h .state .rep .used)
 
   marked-so : getD w (marks-at s p + j) 0 ≡ cond (any (in-slot (x .slot)) xs) 1 0
-  marked-so = rw (h .slot) (h .state .marks (x .slot) (omega (arith, held .inside, h .state .rep .used)))
+  marked-so = rw (h .slot) (h .state .marks (x .slot) (held .inside))
 
   pub fresh : getD w (marks-at s p + j) 0 ≡ 0 → Out (x .slot) (slots xs)
   fresh z = any-out (x .slot) xs (not-marked (any (in-slot (x .slot)) xs) (sym marked-so ∙ z))
@@ -126,5 +126,5 @@ module _ (w : List ℕ) (s p n j : ℕ) (m : Mesh) (xs : List Live) (x : Live) (
                 (stored-snoc w' (list-at s p) (x .slot) (slots xs)
                 (stored-kept w w' (list-at s p) (slots xs) (λ i a b. appended-other w s p n j i (λ y. omega (arith, h .state .len, slots-length xs)) (λ y. omega (arith, js))) (h .state .stored))
                 (let y : list-at s p + length (slots xs) ≡ list-at s p + n = omega (arith, h .state .len, slots-length xs) in ap (λ (v : ℕ). getD w' v 0) y ∙ appended-last w s p n j js ns fits ∙ h .slot));
-            marks = appended-marks w s p n j js ns fits xs x (h .slot) (h .state .marks);
+            marks = appended-marks w s p n j js ns fits (m .used) (h .state .rep .used) xs x (h .slot) (h .state .marks);
           }

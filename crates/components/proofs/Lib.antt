@@ -4,7 +4,7 @@ pub mod Spots
 pub mod Meets
 pub mod Floods
 pub mod Looks
-pub mod Wipes
+pub mod Markings
 pub mod Classes
 pub mod Sweeps
 pub mod Odds

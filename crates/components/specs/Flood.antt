@@ -9,7 +9,6 @@ use Rattle.rings.specs.Rings.{Distinct}
 use Rattle.definition.specs.Lists.{any}
 use Rattle.definition.specs.Cells.{Tri, Cell, tri, quad, Live, Mesh, new-tri, new-live, live-tri, in-slot}
 use Rattle.laws.specs.Lists.{In, Stored}
-use Rattle.laws.specs.Frames.{Under, Keeps}
 use Rattle.account.specs.Triangles.{Has as Corner, Shares}
 use Rattle.cells.specs.Layout.{marks-at, list-at}
 use Rattle.cells.specs.Rep.{Rep, slots}
@@ -44,7 +43,7 @@ Beside t e = Shares t (body e)
 
 -- ---- what is stored
 
--- the n cells xs, live triangles in slots that differ, are listed in their order, and the slots marked are theirs
+-- the n cells xs, live triangles in slots that differ, are listed in their order, and of the slots given out those marked are theirs
 pub record Marked (w : List ℕ) (s p n : ℕ) (m : Mesh) (xs : List Live) : Type 0 where
   pub rep : Rep w s p m
   pub len : n ≡ length xs
@@ -52,7 +51,7 @@ pub record Marked (w : List ℕ) (s p n : ℕ) (m : Mesh) (xs : List Live) : Typ
   pub live : (x : Live) → In x xs → In x (m .live)
   pub tris : Tris xs
   pub stored : Stored w (list-at s p) (slots xs)
-  pub marks : (i : ℕ) → i < s → getD w (marks-at s p + i) 0 ≡ cond (any (in-slot i) xs) 1 0
+  pub marks : (i : ℕ) → i < m .used → getD w (marks-at s p + i) 0 ≡ cond (any (in-slot i) xs) 1 0
 
 -- the live cell x of slot j is met with xs listed
 pub record Seen (w : List ℕ) (s p n j : ℕ) (m : Mesh) (xs : List Live) (x : Live) : Type 0 where
@@ -61,12 +60,6 @@ pub record Seen (w : List ℕ) (s p n j : ℕ) (m : Mesh) (xs : List Live) (x : 
   pub slot : j ≡ x .slot
 
 -- ---- what a function gives
-
--- no slot is marked, and nothing else changed
-pub record Wiped (w w' : List ℕ) (s p : ℕ) : Type 0 where
-  pub under : Under w w' (marks-at s p)
-  pub keeps : Keeps w w' (list-at s p)
-  pub marks : (i : ℕ) → i < s → getD w' (marks-at s p + i) 0 ≡ 0
 
 -- the cells listed are marked too
 pub record MarkedTo (w w' : List ℕ) (s p n : ℕ) (m : Mesh) (xs : List Live) : Type 0 where

@@ -146,12 +146,12 @@ fn take_piece(w: &mut [u32], s: usize, p: usize, n: usize, k: usize, i: usize) -
 }
 
 // Without the n listed cells, an even number, some component would be odd, where none of the mesh is.
-pub fn leaves_odd_near(w: &mut [u32], s: usize, p: usize, n: usize) -> bool
-    requires { ⌜ ((m : Mesh) × (xs : List Live) × Listed (now w) s p n m xs × (odd-one (tris-of (m .live)) ≡ false)) ⌝ }
+pub fn leaves_odd_near(w: &mut [u32], s: usize, p: usize, used: usize, n: usize) -> bool
+    requires { ⌜ ((m : Mesh) × (xs : List Live) × Listed (now w) s p n m xs × (odd-one (tris-of (m .live)) ≡ false) × (m .used ≡ used)) ⌝ }
     requires { ⌜ n % 2 ≡ 0 ⌝ }
-    ensures { λ r. ⌜ ((m : Mesh) (xs : List Live) → Listed (now (w .entry)) s p n m xs → odd-one (tris-of (m .live)) ≡ false → OddTo (now (w .entry)) (now (w .exit)) s p n m xs r) ⌝ }
+    ensures { λ r. ⌜ ((m : Mesh) (xs : List Live) → Listed (now (w .entry)) s p n m xs → odd-one (tris-of (m .live)) ≡ false → m .used ≡ used → OddTo (now (w .entry)) (now (w .exit)) s p n m xs r) ⌝ }
 {
-    mark_listed(w, s, p, n);
+    mark_listed(w, s, p, used, n);
     let mut k = n;
     let mut t = beside(w, s, p, n);
     while t < s {

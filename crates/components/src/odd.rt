@@ -14,7 +14,7 @@ fn leaves_odd_anywhere(w: &mut [u32], s: usize, p: usize, used: usize, n: usize)
     requires { ⌜ ((m : Mesh) × (xs : List Live) × Listed (now w) s p n m xs × (m .used ≡ used)) ⌝ }
     ensures { λ r. ⌜ ((m : Mesh) (xs : List Live) → Listed (now (w .entry)) s p n m xs → m .used ≡ used → OddTo (now (w .entry)) (now (w .exit)) s p n m xs r) ⌝ }
 {
-    mark_listed(w, s, p, n);
+    mark_listed(w, s, p, used, n);
     let mut k = n;
     let mut i = 0;
     while i < used {
@@ -35,7 +35,7 @@ pub fn leaves_odd(w: &mut [u32], s: usize, p: usize, used: usize, n: usize) -> b
 {
     if n % 2 == 0 {
         if is_even(w, s, p) {
-            return leaves_odd_near(w, s, p, n);
+            return leaves_odd_near(w, s, p, used, n);
         }
     }
     leaves_odd_anywhere(w, s, p, used, n)

@@ -48,16 +48,16 @@ module _ (w : List ℕ) (s p n j : ℕ) (js : j < s) (ns : n < s) (fits : 64 * s
   appended-mark =
       off (set w (marks-at s p + j) 1) (list-at s p + n) j (marks-at s p + j) (λ q. omega (arith, js)) ∙ on w (marks-at s p + j) 1 (omega (arith, fits, js))
 
-  -- the marks are those of the longer list
-  pub appended-marks : (xs : List Live) (x : Live) → j ≡ x .slot → ((i : ℕ) → i < s → getD w (marks-at s p + i) 0 ≡ cond (any (in-slot i) xs) 1 0)
-      → (i : ℕ) → i < s → getD (appended w s p n j) (marks-at s p + i) 0 ≡ cond (any (in-slot i) (xs ++ x ∷ [])) 1 0
-  appended-marks xs x e h i l = rw (any-snoc i xs x) (go (decide i j))
+  -- the marks of the first k slots are those of the longer list
+  pub appended-marks : (k : ℕ) → k ≤ s → (xs : List Live) (x : Live) → j ≡ x .slot → ((i : ℕ) → i < k → getD w (marks-at s p + i) 0 ≡ cond (any (in-slot i) xs) 1 0)
+      → (i : ℕ) → i < k → getD (appended w s p n j) (marks-at s p + i) 0 ≡ cond (any (in-slot i) (xs ++ x ∷ [])) 1 0
+  appended-marks k few xs x e h i l = rw (any-snoc i xs x) (go (decide i j))
     where
       go : Same i j → getD (appended w s p n j) (marks-at s p + i) 0 ≡ cond (any (in-slot i) xs || eqb i (x .slot)) 1 0
       go (same q) = rw (eq-eqb i (x .slot) (q ∙ e))
           (ap (λ (y : ℕ). getD (appended w s p n j) (marks-at s p + y) 0) q ∙ appended-mark ∙ ap (λ (t : Bool). cond t 1 0) (sym (or-true (any (in-slot i) xs))))
       go (differ q) = rw (ne-eqb i (x .slot) (λ y. q (y ∙ sym e)), or-false (any (in-slot i) xs))
-          (appended-other w s p n j (marks-at s p + i) (λ y. omega (arith, l)) (λ y. q (omega arith)) ∙ h i l)
+          (appended-other w s p n j (marks-at s p + i) (λ y. omega (arith, l, few)) (λ y. q (omega arith)) ∙ h i l)
 
 module _ (w : List ℕ) (s p n j : ℕ) (m : Mesh) (xs : List Live) (x : Live) (h : Seen w s p n j m xs x) where
   held : Held w s (m .used) (length (m .points)) x
@@ -67,7 +67,7 @@ module _ (w : List ℕ) (s p n j : ℕ) (m : Mesh) (xs : List Live) (x : Live) (
   inside = omega (arith, h .slot, held .inside, h .state .list .rep .used)
 
   marked-so : getD w (marks-at s p + j) 0 ≡ cond (any (in-slot (x .slot)) xs) 1 0
-  marked-so = rw (h .slot) (h .state .marks (x .slot) (omega (arith, held .inside, h .state .list .rep .used)))
+  marked-so = rw (h .slot) (h .state .marks (x .slot) (held .inside))
 
   pub fresh : getD w (marks-at s p + j) 0 ≡ 0 → any (in-slot (x .slot)) xs ≡ false
   fresh z = not-marked (any (in-slot (x .slot)) xs) (sym marked-so ∙ z)
@@ -129,7 +129,7 @@ module _ (w : List ℕ) (s p n j : ℕ) (m : Mesh) (xs : List Live) (x : Live) (
           }
 
       state : State w' s p (n + 1) m (xs ++ x ∷ [])
-      state = record { list = list; marks = appended-marks w s p n j js ns fits xs x (h .slot) (h .state .marks) }
+      state = record { list = list; marks = appended-marks w s p n j js ns fits (m .used) (h .state .list .rep .used) xs x (h .slot) (h .state .marks) }
 
 -- the answers of visit_one
 module _ (w : List ℕ) (s p n j : ℕ) (m : Mesh) (done todo : List Live) (x : Live) (h : Seen w s p n j m (done ++ todo) x) where

@@ -1,4 +1,5 @@
 -- The flood of a region, edge after edge.
+use mathlib.Core.Path.{_≡_}
 use mathlib.Core.Bool.{Bool, true, false}
 use mathlib.Core.List.{List, [], _∷_}
 use Prim.Native.Nat.{ℕ}
@@ -20,7 +21,7 @@ beyond m sides e = unless (has-edge-in sides e) (owners m e)
 abbrev pub tri-live : ℕ → Tri → Live
 tri-live i t = new-live i (tri t)
 
--- the triangle in slot i alone is listed
-pub record Seeded (w w' : List ℕ) (s p i : ℕ) : Type 0 where
+-- the triangle in slot i alone is listed, where n slots were given out
+pub record Seeded (w w' : List ℕ) (s p n i : ℕ) : Type 0 where
   pub aside : Aside w w' s p
-  pub alone : (m : Mesh) → Rep w s p m → (t : TriIn m i) → State w' s p 1 m (tri-live i (t .t) ∷ [])
+  pub alone : (m : Mesh) → Rep w s p m → m .used ≡ n → (t : TriIn m i) → State w' s p 1 m (tri-live i (t .t) ∷ [])

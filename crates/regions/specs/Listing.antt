@@ -30,10 +30,10 @@ pub record Listed (w : List ℕ) (s p n : ℕ) (m : Mesh) (xs : List Live) : Typ
   pub tris : Tris xs
   pub stored : Stored w (list-at s p) (slots xs)
 
--- they are listed, and the slots marked are theirs
+-- they are listed, and of the slots given out those marked are theirs
 pub record State (w : List ℕ) (s p n : ℕ) (m : Mesh) (xs : List Live) : Type 0 where
   pub list : Listed w s p n m xs
-  pub marks : (i : ℕ) → i < s → getD w (marks-at s p + i) 0 ≡ cond (any (in-slot i) xs) 1 0
+  pub marks : (i : ℕ) → i < m .used → getD w (marks-at s p + i) 0 ≡ cond (any (in-slot i) xs) 1 0
 
 -- ---- what a function asks
 
@@ -43,10 +43,11 @@ pub record CanList (w : List ℕ) (s p i : ℕ) : Type 0 where
   pub small : 4 * s + p ≤ 2 ^ 32
   pub inside : i < s
 
--- the marks are there
-pub record CanMark (w : List ℕ) (s p : ℕ) : Type 0 where
+-- the marks of the first n slots are there
+pub record CanMark (w : List ℕ) (s p n : ℕ) : Type 0 where
   pub fits : 22 * s + 3 * p ≤ length w
   pub small : 4 * s + p ≤ 2 ^ 32
+  pub few : n ≤ s
 
 -- the live cell x of slot j is met with xs listed
 pub record Seen (w : List ℕ) (s p n j : ℕ) (m : Mesh) (xs : List Live) (x : Live) : Type 0 where
@@ -61,10 +62,11 @@ pub record Aside (w w' : List ℕ) (s p : ℕ) : Type 0 where
   pub under : Under w w' (mesh-end s p)
   pub keeps : Keeps w w' (refused-at s p)
 
--- no slot is marked
-pub record Cleared (w w' : List ℕ) (s p : ℕ) : Type 0 where
-  pub aside : Aside w w' s p
-  pub marks : (i : ℕ) → i < s → getD w' (marks-at s p + i) 0 ≡ 0
+-- none of the first n slots is marked, and nothing but marks changed
+pub record Cleared (w w' : List ℕ) (s p n : ℕ) : Type 0 where
+  pub under : Under w w' (marks-at s p)
+  pub keeps : Keeps w w' (list-at s p)
+  pub marks : (i : ℕ) → i < n → getD w' (marks-at s p + i) 0 ≡ 0
 
 -- refused
 pub record Failed (w w' : List ℕ) (s p r : ℕ) : Type 0 where

@@ -12,12 +12,12 @@ ghost use mathlib.Core.Bool.{_&&_};
 ghost use mathlib.Core.List.{List, [], _∷_, _++_};
 ghost use Prim.Native.Nat.{_<_};
 ghost use lib.Dec.{eqb};
-ghost use Rattle.definition.specs.Cells.{Live, Mesh, Tri, tri, key, owners, new-live, new-quad, quad-edges, has-edge-in};
+ghost use Rattle.definition.specs.Cells.{Live, Mesh, key, owners, new-quad, quad-edges, has-edge-in};
 ghost use Rattle.definition.specs.Region.{reach, reach-all, across, flood};
 ghost use Rattle.cells.specs.Rep.{Rep, TriIn};
 ghost use Rattle.cells.specs.Walk.{IsEdge};
 ghost use Rattle.cells.proofs.Edges.{joins};
-ghost use Rattle.regions.specs.Listing.{Listed, State, Seen, Reached, CanMark, Aside};
+ghost use Rattle.regions.specs.Listing.{State, Seen, Reached, CanMark};
 ghost use Rattle.regions.specs.Flood.{beyond, Seeded, tri-live};
 
 // The cell in slot j is reached: it comes to the end of the list of n, unless it is listed; 0: it is no triangle.
@@ -141,13 +141,13 @@ fn visit_tri(
     visit_side(w, s, p, l, z, x, a, b, c, d)
 }
 
-// The triangle in slot i alone is listed.
-fn start(w: &mut [u32], s: usize, p: usize, i: usize)
-    requires { ⌜ CanMark (now w) s p ⌝ }
+// The triangle in slot i alone is listed, where `used` slots were given out.
+fn start(w: &mut [u32], s: usize, p: usize, used: usize, i: usize)
+    requires { ⌜ CanMark (now w) s p used ⌝ }
     requires { ⌜ i < s ⌝ }
-    ensures { λ r. ⌜ Seeded (now (w .entry)) (now (w .exit)) s p i ⌝ }
+    ensures { λ r. ⌜ Seeded (now (w .entry)) (now (w .exit)) s p used i ⌝ }
 {
-    clear_marks(w, s, p);
+    clear_marks(w, s, p, used);
     append(w, s, p, 0, i);
 }
 
@@ -156,16 +156,17 @@ pub fn flood(
     w: &mut [u32],
     s: usize,
     p: usize,
+    used: usize,
     i: usize,
     a: usize,
     b: usize,
     c: usize,
     d: usize,
 ) -> usize
-    requires { ⌜ ((m : Mesh) × Rep (now w) s p m × TriIn m i) ⌝ }
-    ensures { λ r. ⌜ ((m : Mesh) → Rep (now (w .entry)) s p m → (t : TriIn m i) → Reached (now (w .entry)) (now (w .exit)) s p m [] (flood (m .used) m (quad-edges (new-quad a b c d)) [] (tri-live i (t .t) ∷ [])) r) ⌝ }
+    requires { ⌜ ((m : Mesh) × Rep (now w) s p m × TriIn m i × (m .used ≡ used)) ⌝ }
+    ensures { λ r. ⌜ ((m : Mesh) → Rep (now (w .entry)) s p m → (t : TriIn m i) → m .used ≡ used → Reached (now (w .entry)) (now (w .exit)) s p m [] (flood (m .used) m (quad-edges (new-quad a b c d)) [] (tri-live i (t .t) ∷ [])) r) ⌝ }
 {
-    start(w, s, p, i);
+    start(w, s, p, used, i);
     let mut n = 1;
     let mut head = 0;
     while head < n {

@@ -1,4 +1,5 @@
 // The list of slots in hand and the marks of slots.
+use cells::clear::clear_range;
 use cells::layout::list_at;
 use cells::layout::marks_at;
 use rings::wide;
@@ -34,15 +35,11 @@ pub fn append(w: &mut [u32], s: usize, p: usize, n: usize, j: usize)
     w[list_at(s, p) + n] = j as u32;
 }
 
-// No slot is marked.
-pub fn clear_marks(w: &mut [u32], s: usize, p: usize)
-    requires { ⌜ CanMark (now w) s p ⌝ }
-    ensures { λ r. ⌜ Cleared (now (w .entry)) (now (w .exit)) s p ⌝ }
+// None of the first n slots is marked.
+pub fn clear_marks(w: &mut [u32], s: usize, p: usize, n: usize)
+    requires { ⌜ CanMark (now w) s p n ⌝ }
+    ensures { λ r. ⌜ Cleared (now (w .entry)) (now (w .exit)) s p n ⌝ }
 {
     let from = marks_at(s, p);
-    let mut i = 0;
-    while i < s {
-        w[from + i] = 0;
-        i += 1;
-    }
+    clear_range(w, from, n);
 }

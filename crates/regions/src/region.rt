@@ -122,16 +122,17 @@ pub fn region(
     j: &[u32],
     s: usize,
     p: usize,
+    used: usize,
     seed: usize,
     a: usize,
     b: usize,
     c: usize,
     d: usize,
 ) -> usize
-    requires { ⌜ ((m : Mesh) × Drawn (now w) (now q) s p seed m × Known m a b c d × Locks (now j) (m .locked)) ⌝ }
-    ensures { λ r. ⌜ ((m : Mesh) → Drawn (now (w .entry)) (now (q .entry)) s p seed m → Known m a b c d → Locks (now (j .entry)) (m .locked) → Reached (now (w .entry)) (now (w .exit)) s p m [] (region m seed (new-quad a b c d)) r) ⌝ }
+    requires { ⌜ ((m : Mesh) × Drawn (now w) (now q) s p seed m × Known m a b c d × Locks (now j) (m .locked) × (m .used ≡ used)) ⌝ }
+    ensures { λ r. ⌜ ((m : Mesh) → Drawn (now (w .entry)) (now (q .entry)) s p seed m → Known m a b c d → Locks (now (j .entry)) (m .locked) → m .used ≡ used → Reached (now (w .entry)) (now (w .exit)) s p m [] (region m seed (new-quad a b c d)) r) ⌝ }
 {
-    let n = flood(w, s, p, seed, a, b, c, d);
+    let n = flood(w, s, p, used, seed, a, b, c, d);
     if n == 0 {
         return 0;
     }

@@ -14,15 +14,15 @@ use Rattle.components.proofs.near.leaves_odd_near.Statement.{statement}
 use Rattle.components.proofs.near.leaves_odd_near.Tie as tie
 
 abbrev Inv-loop : tie.InvT-loop
-Inv-loop w₀ s p n k₀ t₀ w k t = (length w ≡ length w₀) × (k ≤ s) × ((m : Mesh) (xs : List Live) → Marked w₀ s p n m xs → Taking w₀ w s p k t m xs)
+Inv-loop w₀ s p used n k₀ t₀ w k t = (length w ≡ length w₀) × (k ≤ s) × ((m : Mesh) (xs : List Live) → Marked w₀ s p n m xs → Taking w₀ w s p k t m xs)
 
 abbrev μ-loop : tie.MeasureT-loop
-μ-loop w₀ s p n k₀ t₀ w k t = s - k
+μ-loop w₀ s p used n k₀ t₀ w k t = s - k
 
 mark-listed-requires : tie.Need-mark-listed-requires Inv-loop μ-loop
 mark-listed-requires c κs =
     let t = c .before .before in
-    (t .pre .0 .0, t .pre .0 .1, t .pre .0 .2)
+    (t .pre .0 .0, t .pre .0 .1, t .pre .0 .2, t .pre .0 .4)
 
 beside-requires : tie.Need-beside-requires Inv-loop μ-loop
 beside-requires c κs =
@@ -32,7 +32,7 @@ beside-requires c κs =
     let m = t .pre .0 .0 in
     let xs = t .pre .0 .1 in
     let hs = t .pre .0 .2 in
-    (a .n, m, xs, xs, start-around (d .mark-listed .last .0) (a .s) (a .p) (a .n) m xs (d .mark-listed .ensures m xs hs .state))
+    (a .n, m, xs, xs, start-around (d .mark-listed .last .0) (a .s) (a .p) (a .n) m xs (d .mark-listed .ensures m xs hs (t .pre .0 .4) .state))
 
 loop-holds : tie.Need-loop-holds Inv-loop μ-loop
 loop-holds c =
@@ -45,7 +45,7 @@ loop-holds c =
     let m = t .pre .0 .0 in
     let xs = t .pre .0 .1 in
     let hs = t .pre .0 .2 in
-    (refl, taking-few w1 w1 (a .s) (a .p) (a .n) (c .beside .result) m xs (start m xs (d .mark-listed .ensures m xs hs .state)), start)
+    (refl, taking-few w1 w1 (a .s) (a .p) (a .n) (c .beside .result) m xs (start m xs (d .mark-listed .ensures m xs hs (t .pre .0 .4) .state)), start)
 
 take-piece-requires : tie.Need-take-piece-requires Inv-loop μ-loop
 take-piece-requires c κs =
@@ -58,7 +58,7 @@ take-piece-requires c κs =
     let m = t .pre .0 .0 in
     let xs = t .pre .0 .1 in
     let hs = t .pre .0 .2 in
-    let h = d .mark-listed .ensures m xs hs in
+    let h = d .mark-listed .ensures m xs hs (t .pre .0 .4) in
     let g = l .loop .inv .2 m xs (h .state) in
     let ft = found-tri (a .s) (l .loop .t) m (xs ++ joined (g .pieces)) (BesideOne xs) (g .looked) (i .loop-test .taken) in
     (m, xs, xs ++ joined (g .pieces), taking-around w1 (l .loop .w) (a .s) (a .p) (l .loop .k) (l .loop .t) m xs g (a .n) (hs .len), ft .0, ft .1)
@@ -70,7 +70,7 @@ same-length c =
     o .take-piece .kept .0 ∙ l .loop .inv .0 ∙ l .before .before .before .before .before .mark-listed .kept .0
 
 returns : tie.Need-returns Inv-loop μ-loop
-returns c = λ m xs hs e.
+returns c = λ m xs hs e u.
     let o = c .before .before .before .before in
     let i = o .before .before in
     let l = i .before in
@@ -78,7 +78,7 @@ returns c = λ m xs hs e.
     let t = d .before .before .before in
     let a = t .args in
     let w1 = d .mark-listed .last .0 in
-    let h = d .mark-listed .ensures m xs hs in
+    let h = d .mark-listed .ensures m xs hs u in
     let g = l .loop .inv .2 m xs (h .state) in
     let ft = found-tri (a .s) (l .loop .t) m (xs ++ joined (g .pieces)) (BesideOne xs) (g .looked) (i .loop-test .taken) in
     let x = tri-live (l .loop .t) (ft .0 .t) in
@@ -97,7 +97,7 @@ sub-if2 c =
     let m = t .pre .0 .0 in
     let xs = t .pre .0 .1 in
     let hs = t .pre .0 .2 in
-    let h = d .mark-listed .ensures m xs hs in
+    let h = d .mark-listed .ensures m xs hs (t .pre .0 .4) in
     let g = l .loop .inv .2 m xs (h .state) in
     let ft = found-tri (a .s) (l .loop .t) m (xs ++ joined (g .pieces)) (BesideOne xs) (g .looked) (i .loop-test .taken) in
     let x = tri-live (l .loop .t) (ft .0 .t) in
@@ -111,7 +111,7 @@ same-length-2 c =
     o .take-piece .kept .0 ∙ l .loop .inv .0 ∙ l .before .before .before .before .before .mark-listed .kept .0
 
 returns-2 : tie.Need-returns-2 Inv-loop μ-loop
-returns-2 c = λ m xs hs e.
+returns-2 c = λ m xs hs e u.
     let o = c .before .before .before .before .before .before in
     let i = o .before .before in
     let l = i .before in
@@ -119,7 +119,7 @@ returns-2 c = λ m xs hs e.
     let t = d .before .before .before in
     let a = t .args in
     let w1 = d .mark-listed .last .0 in
-    let h = d .mark-listed .ensures m xs hs in
+    let h = d .mark-listed .ensures m xs hs u in
     let g = l .loop .inv .2 m xs (h .state) in
     let ft = found-tri (a .s) (l .loop .t) m (xs ++ joined (g .pieces)) (BesideOne xs) (g .looked) (i .loop-test .taken) in
     let x = tri-live (l .loop .t) (ft .0 .t) in
@@ -138,7 +138,7 @@ loop-less c =
     let m = t .pre .0 .0 in
     let xs = t .pre .0 .1 in
     let hs = t .pre .0 .2 in
-    let h = d .mark-listed .ensures m xs hs in
+    let h = d .mark-listed .ensures m xs hs (t .pre .0 .4) in
     let g = l .loop .inv .2 m xs (h .state) in
     let ft = found-tri (a .s) (l .loop .t) m (xs ++ joined (g .pieces)) (BesideOne xs) (g .looked) (i .loop-test .taken) in
     let x = tri-live (l .loop .t) (ft .0 .t) in
@@ -158,7 +158,7 @@ loop-again c =
       (let m = t .pre .0 .0 in
           let xs = t .pre .0 .1 in
           let hs = t .pre .0 .2 in
-          let h = d .mark-listed .ensures m xs hs in
+          let h = d .mark-listed .ensures m xs hs (t .pre .0 .4) in
           let g = l .loop .inv .2 m xs (h .state) in
           let ft = found-tri (a .s) (l .loop .t) m (xs ++ joined (g .pieces)) (BesideOne xs) (g .looked) (i .loop-test .taken) in
           let x = tri-live (l .loop .t) (ft .0 .t) in
@@ -178,13 +178,13 @@ same-length-3 c =
     l .loop .inv .0 ∙ l .before .before .before .before .before .mark-listed .kept .0
 
 returns-3 : tie.Need-returns-3 Inv-loop μ-loop
-returns-3 c = λ m xs hs e.
+returns-3 c = λ m xs hs e u.
     let l = c .before in
     let d = l .before .before .before .before .before in
     let t = d .before .before .before in
     let a = t .args in
     let w1 = d .mark-listed .last .0 in
-    let h = d .mark-listed .ensures m xs hs in
+    let h = d .mark-listed .ensures m xs hs u in
     none-beside w1 (l .loop .w) (a .s) (a .p) (l .loop .k) (l .loop .t) m xs (l .loop .inv .2 m xs (h .state)) (a .n) (hs .len) (t .pre .1) e (c .loop-test .left) (a .w .now) hs (h .aside)
 
 pub leaves-odd-near-spec : {M : Type 1} → statement M

@@ -19,7 +19,7 @@ leaves-odd-near-requires c κs =
     let h = t .pre .2 in
     let e = c .before .before .is-even in
     let one = listed-slot (a .w .now) (a .s) (a .p) (a .n) (t .pre .0) (t .pre .1) h in
-    ((t .pre .0, t .pre .1, h, even-noted (a .w .now) (a .s) (a .p) (t .pre .0) (e .result) one (e .ensures) (c .before .if2 .taken) (h .rep)), c .before .before .before .before .if1 .taken)
+    ((t .pre .0, t .pre .1, h, even-noted (a .w .now) (a .s) (a .p) (t .pre .0) (e .result) one (e .ensures) (c .before .if2 .taken) (h .rep), t .pre .3), c .before .before .before .before .if1 .taken)
 
 returns : tie.Need-returns
 returns c =
@@ -27,7 +27,7 @@ returns c =
     let a = t .args in
     let e = c .before .before .before .before .before .is-even in
     λ m xs h u.
-    c .before .before .leaves-odd-near .ensures m xs h (even-noted (a .w .now) (a .s) (a .p) m (e .result) (listed-slot (a .w .now) (a .s) (a .p) (a .n) m xs h) (e .ensures) (c .before .before .before .before .if2 .taken) (h .rep))
+    c .before .before .leaves-odd-near .ensures m xs h (even-noted (a .w .now) (a .s) (a .p) m (e .result) (listed-slot (a .w .now) (a .s) (a .p) (a .n) m xs h) (e .ensures) (c .before .before .before .before .if2 .taken) (h .rep)) u
 
 pub leaves-odd-spec : {M : Type 1} → statement M
 leaves-odd-spec =

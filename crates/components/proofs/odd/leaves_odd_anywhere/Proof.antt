@@ -22,7 +22,7 @@ abbrev μ-loop : tie.MeasureT-loop
 mark-listed-requires : tie.Need-mark-listed-requires Inv-loop μ-loop
 mark-listed-requires c κs =
     let t = c .before .before in
-    (t .pre .0, t .pre .1, t .pre .2)
+    (t .pre .0, t .pre .1, t .pre .2, t .pre .3)
 
 loop-holds : tie.Need-loop-holds Inv-loop μ-loop
 loop-holds c =
@@ -45,7 +45,7 @@ take-component-requires c κs =
     let w1 = d .mark-listed .last .0 in
     let m = t .pre .0 in
     let xs = t .pre .1 in
-    let h = d .mark-listed .ensures m xs (t .pre .2) in
+    let h = d .mark-listed .ensures m xs (t .pre .2) (t .pre .3) in
     let g = l .loop .inv .3 m xs (h .state) (t .pre .3) in
     ((m, xs ++ joined (g .pieces), g .sweep .state), omega (arith, i .loop-test .taken, l .loop .inv .1))
 
@@ -60,7 +60,7 @@ sub-if1 c =
     let w1 = d .mark-listed .last .0 in
     let m = t .pre .0 in
     let xs = t .pre .1 in
-    let h = d .mark-listed .ensures m xs (t .pre .2) in
+    let h = d .mark-listed .ensures m xs (t .pre .2) (t .pre .3) in
     let g = l .loop .inv .3 m xs (h .state) (t .pre .3) in
     taken-least w1 (l .loop .w) (a .s) (a .p) (l .loop .k) (l .loop .i) m xs g (o .take-component .last .0) (o .take-component .result) (o .take-component .ensures m (xs ++ joined (g .pieces)) (g .sweep .state)) .0
 
@@ -82,7 +82,7 @@ returns c =
     let t = d .before .before .before in
     let a = t .args in
     let w1 = d .mark-listed .last .0 in
-    let h = d .mark-listed .ensures m xs hs in
+    let h = d .mark-listed .ensures m xs hs e in
     let g = l .loop .inv .3 m xs (h .state) e in
     odd-found w1 (l .loop .w) (a .s) (a .p) (l .loop .k) (l .loop .i) m xs g (o .take-component .last .0) (o .take-component .result) (o .take-component .ensures m (xs ++ joined (g .pieces)) (g .sweep .state)) (c .if1 .taken) (a .w .now) (a .n) hs (h .aside)
 
@@ -118,7 +118,7 @@ returns-2 c =
     let t = d .before .before .before in
     let a = t .args in
     let w1 = d .mark-listed .last .0 in
-    let h = d .mark-listed .ensures m xs hs in
+    let h = d .mark-listed .ensures m xs hs e in
     let g = l .loop .inv .3 m xs (h .state) e in
     none-odd w1 (l .loop .w) (a .s) (a .p) (l .loop .k) (l .loop .i) m xs g (omega (arith, c .loop-test .left, e)) (a .w .now) (a .n) hs (h .aside)
 

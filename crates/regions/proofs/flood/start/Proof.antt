@@ -23,8 +23,8 @@ returns c =
     let k = o .before .before .before .before in
     let t = k .before .before .before in
     let a = t .args in
-    subst (λ (v : List ℕ). Seeded (a .w .now) v (a .s) (a .p) (a .i)) (sym (o .append .ensures))
-    (seeded (a .w .now) (k .clear-marks .last .0) (a .s) (a .p) (a .i) (t .pre .1) (t .pre .0) (k .clear-marks .ensures))
+    subst (λ (v : List ℕ). Seeded (a .w .now) v (a .s) (a .p) (a .used) (a .i)) (sym (o .append .ensures))
+    (seeded (a .w .now) (k .clear-marks .last .0) (a .s) (a .p) (a .used) (a .i) (t .pre .1) (t .pre .0) (k .clear-marks .ensures))
 
 pub start-spec : {M : Type 1} → statement M
 start-spec = tie.close (tie.spec (λ c κs. search needs) append-requires (λ c. search needs) returns)

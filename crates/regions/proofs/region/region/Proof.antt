@@ -1,4 +1,5 @@
 -- The flood, and the tests of what it reached, one after the other.
+use mathlib.Core.Path.{_≡_}
 use mathlib.Core.Logic.{_≢_}
 use borrow.Author.Needs.{needs}
 use borrow.Author.Tests.{not-true, not-false}
@@ -12,10 +13,10 @@ use Rattle.regions.proofs.region.region.Tie as tie
 abbrev top : tie.After-flood → tie.Start
 top f = f .before .before .before .before .before
 
-module _ (f : tie.After-flood) (m : Mesh) (h : Drawn (top f .args .w .now) (top f .args .q .now) (top f .args .s) (top f .args .p) (top f .args .seed) m) (z : f .flood .result ≢ 0) where
+module _ (f : tie.After-flood) (m : Mesh) (h : Drawn (top f .args .w .now) (top f .args .q .now) (top f .args .s) (top f .args .p) (top f .args .seed) m) (u : m .used ≡ top f .args .used) (z : f .flood .result ≢ 0) where
   -- the cells reached
-  found : let a = top f .args in Cells (a .w .now) (f .flood .last .0) (a .s) (a .p) (f .flood .result) (a .seed) m (a .a) (a .b) (a .c) (a .d) (h .rep) (h .tri) (f .flood .ensures m (h .rep) (h .tri))
-  found = let a = top f .args in cells (a .w .now) (f .flood .last .0) (a .s) (a .p) (f .flood .result) (a .seed) m (a .a) (a .b) (a .c) (a .d) (h .rep) (h .tri) (f .flood .ensures m (h .rep) (h .tri)) z
+  found : let a = top f .args in Cells (a .w .now) (f .flood .last .0) (a .s) (a .p) (f .flood .result) (a .seed) m (a .a) (a .b) (a .c) (a .d) (h .rep) (h .tri) (f .flood .ensures m (h .rep) (h .tri) u)
+  found = let a = top f .args in cells (a .w .now) (f .flood .last .0) (a .s) (a .p) (f .flood .result) (a .seed) m (a .a) (a .b) (a .c) (a .d) (h .rep) (h .tri) (f .flood .ensures m (h .rep) (h .tri) u) z
 
   shown : Shown (f .flood .last .0) (top f .args .q .now) (top f .args .s) (top f .args .p) (f .flood .result) m (found .xs)
   shown = record { list = found .grown .state .list; pts = h .pts }
@@ -23,36 +24,36 @@ module _ (f : tie.After-flood) (m : Mesh) (h : Drawn (top f .args .w .now) (top 
 flood-requires : tie.Need-flood-requires
 flood-requires c κs =
     let t = c .before .before .before .before in
-    (t .pre .0, t .pre .1 .rep, t .pre .1 .tri)
+    (t .pre .0, t .pre .1 .rep, t .pre .1 .tri, t .pre .4)
 
 returns : tie.Need-returns
 returns c =
     let f = c .before .before .before in
     let a = top f .args in
-    λ m h k l. region-none (a .w .now) (f .flood .last .0) (a .s) (a .p) (f .flood .result) (a .seed) m (a .a) (a .b) (a .c) (a .d) (h .rep) (h .tri) (f .flood .ensures m (h .rep) (h .tri)) (c .if1 .taken)
+    λ m h k l u. region-none (a .w .now) (f .flood .last .0) (a .s) (a .p) (f .flood .result) (a .seed) m (a .a) (a .b) (a .c) (a .d) (h .rep) (h .tri) (f .flood .ensures m (h .rep) (h .tri) u) (c .if1 .taken)
 
 all-inside-requires : tie.Need-all-inside-requires
 all-inside-requires c κs =
     let e1 = c .before in
     let f = e1 .before .before .before in
     let t = top f in
-    (t .pre .0, found f (t .pre .0) (t .pre .1) (e1 .if1 .left) .xs, shown f (t .pre .0) (t .pre .1) (e1 .if1 .left), t .pre .2)
+    (t .pre .0, found f (t .pre .0) (t .pre .1) (t .pre .4) (e1 .if1 .left) .xs, shown f (t .pre .0) (t .pre .1) (t .pre .4) (e1 .if1 .left), t .pre .2)
 
 returns-2 : tie.Need-returns-2
 returns-2 c =
     let i = c .before in
     let e1 = i .before .before in
     let f = e1 .before .before .before in
-    λ m h k l.
-    let x = found f m h (e1 .if1 .left) in
-    region-outside x (i .all-inside .result) (i .all-inside .ensures m (x .xs) (shown f m h (e1 .if1 .left)) k) (not-true (i .all-inside .result) (c .if2 .taken))
+    λ m h k l u.
+    let x = found f m h u (e1 .if1 .left) in
+    region-outside x (i .all-inside .result) (i .all-inside .ensures m (x .xs) (shown f m h u (e1 .if1 .left)) k) (not-true (i .all-inside .result) (c .if2 .taken))
 
 area-agrees-requires : tie.Need-area-agrees-requires
 area-agrees-requires c κs =
     let e1 = c .before .before .before .before in
     let f = e1 .before .before .before in
     let t = top f in
-    (t .pre .0, found f (t .pre .0) (t .pre .1) (e1 .if1 .left) .xs, shown f (t .pre .0) (t .pre .1) (e1 .if1 .left), t .pre .2)
+    (t .pre .0, found f (t .pre .0) (t .pre .1) (t .pre .4) (e1 .if1 .left) .xs, shown f (t .pre .0) (t .pre .1) (t .pre .4) (e1 .if1 .left), t .pre .2)
 
 returns-3 : tie.Need-returns-3
 returns-3 c =
@@ -61,9 +62,9 @@ returns-3 c =
     let i = e2 .before in
     let e1 = i .before .before in
     let f = e1 .before .before .before in
-    λ m h k l.
-    let x = found f m h (e1 .if1 .left) in
-    let s = shown f m h (e1 .if1 .left) in
+    λ m h k l u.
+    let x = found f m h u (e1 .if1 .left) in
+    let s = shown f m h u (e1 .if1 .left) in
     region-off x (i .all-inside .result) (i .all-inside .ensures m (x .xs) s k) (not-false (i .all-inside .result) (e2 .if2 .left))
     (g .area-agrees .result) (g .area-agrees .ensures m (x .xs) s k) (not-true (g .area-agrees .result) (c .if3 .taken))
 
@@ -72,7 +73,7 @@ spares-requires c κs =
     let e1 = c .before .before .before .before .before .before .before in
     let f = e1 .before .before .before in
     let t = top f in
-    (t .pre .0, found f (t .pre .0) (t .pre .1) (e1 .if1 .left) .xs, shown f (t .pre .0) (t .pre .1) (e1 .if1 .left) .list, t .pre .3)
+    (t .pre .0, found f (t .pre .0) (t .pre .1) (t .pre .4) (e1 .if1 .left) .xs, shown f (t .pre .0) (t .pre .1) (t .pre .4) (e1 .if1 .left) .list, t .pre .3)
 
 returns-4 : tie.Need-returns-4
 returns-4 c =
@@ -83,9 +84,9 @@ returns-4 c =
     let i = e2 .before in
     let e1 = i .before .before in
     let f = e1 .before .before .before in
-    λ m h k l.
-    let x = found f m h (e1 .if1 .left) in
-    let s = shown f m h (e1 .if1 .left) in
+    λ m h k l u.
+    let x = found f m h u (e1 .if1 .left) in
+    let s = shown f m h u (e1 .if1 .left) in
     region-locked x (i .all-inside .result) (i .all-inside .ensures m (x .xs) s k) (not-false (i .all-inside .result) (e2 .if2 .left))
     (g .area-agrees .result) (g .area-agrees .ensures m (x .xs) s k) (not-false (g .area-agrees .result) (e3 .if3 .left))
     (p .spares .result) (p .spares .ensures m (x .xs) (s .list) l) (not-true (p .spares .result) (c .if4 .taken))
@@ -99,9 +100,9 @@ returns-5 c =
     let i = e2 .before in
     let e1 = i .before .before in
     let f = e1 .before .before .before in
-    λ m h k l.
-    let x = found f m h (e1 .if1 .left) in
-    let s = shown f m h (e1 .if1 .left) in
+    λ m h k l u.
+    let x = found f m h u (e1 .if1 .left) in
+    let s = shown f m h u (e1 .if1 .left) in
     region-found x (i .all-inside .result) (i .all-inside .ensures m (x .xs) s k) (not-false (i .all-inside .result) (e2 .if2 .left))
     (g .area-agrees .result) (g .area-agrees .ensures m (x .xs) s k) (not-false (g .area-agrees .result) (e3 .if3 .left))
     (p .spares .result) (p .spares .ensures m (x .xs) (s .list) l) (not-false (p .spares .result) (c .if4 .left))

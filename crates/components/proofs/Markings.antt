@@ -1,76 +1,38 @@
 -- The marks cleared, and the cells listed marked one after the other.
 use mathlib.Core.Path.{_≡_, refl, ap, sym, _∙_, subst}
-use mathlib.Core.Logic.{inl, _≢_}
+use mathlib.Core.Logic.{inl}
 use mathlib.Core.Bool.{true}
 use mathlib.Core.List.{List, [], _∷_, _++_, append-assoc, append-nil}
 use Prim.Native.Nat.{ℕ, _+_, _-_, _≤_, _<_}
 use native.Mathlib.Omega.{arith}
-use lib.ListN.{length, getD, set, length-set, length-append}
+use lib.ListN.{length, getD, length-append}
 use Rattle.rings.specs.Rings.{Out, Distinct}
-use Rattle.rings.proofs.Lists.{Same, same, differ, decide}
 use Rattle.definition.specs.Lists.{any}
 use Rattle.definition.specs.Cells.{Live, Mesh, live-tri}
 use Rattle.laws.specs.Lists.{In, in-right, Stored, stored-kept}
-use Rattle.laws.specs.Frames.{on, off, Under, Keeps, under-refl, under-trans, keeps-refl, keeps-trans, keeps-more}
 use Rattle.cells.proofs.Slots.{slots-length, in-has}
-use Rattle.cells.specs.Layout.{marks-at, list-at, refused-at}
+use Rattle.cells.specs.Layout.{list-at}
 use Rattle.cells.specs.Rep.{slots, Rep}
 use Rattle.cells.proofs.Frames.{rep-under}
-use Rattle.regions.specs.Listing.{Listed, CanList, CanMark, Aside}
+use Rattle.regions.specs.Listing.{Listed, CanList, Cleared, Aside}
 use Rattle.regions.proofs.Listings.{aside-refl, aside-trans}
 use Rattle.regions.proofs.Reaches.{appended}
-use Rattle.components.specs.Flood.{Marked, Seen, MarkedTo, Wiped}
+use Rattle.components.specs.Flood.{Marked, Seen, MarkedTo}
 use Rattle.components.proofs.Members.{has-in, tris-at}
 use Rattle.components.proofs.Grows.{can-list, seen-can, seen-room, grown}
 
 -- ---- cleared
 
--- the marks of the slots below i are cleared
-pub record Wiping (w₀ w : List ℕ) (s p i : ℕ) : Type 0 where
-  pub room : CanMark w s p
-  pub within : i ≤ s
-  pub under : Under w₀ w (marks-at s p)
-  pub keeps : Keeps w₀ w (list-at s p)
-  pub marks : (k : ℕ) → k < i → getD w (marks-at s p + k) 0 ≡ 0
-
-pub wipe-start : (w : List ℕ) (s p : ℕ) → CanMark w s p → Wiping w w s p 0
-wipe-start w s p h =
-    record { room = h; within = omega arith; under = under-refl w (marks-at s p); keeps = keeps-refl w (list-at s p); marks = λ k l. absurd (omega (arith, l)) }
-
-module _ (w₀ w : List ℕ) (s p i : ℕ) (h : Wiping w₀ w s p i) where
-  pub wipe-more : i < s → Wiping w₀ (set w (marks-at s p + i) 0) s p (i + 1)
-  wipe-more l =
-      record {
-        room = record { fits = rw (length-set w (marks-at s p + i) 0) (h .room .fits); small = h .room .small };
-        within = omega arith;
-        under = under-trans w₀ w w' (marks-at s p) (h .under) (record { len = simp length-set; low = λ k q. off w (marks-at s p + i) 0 k (λ e. omega arith) });
-        keeps = keeps-trans w₀ w w' (list-at s p) (h .keeps) (record { len = simp length-set; high = λ k q. off w (marks-at s p + i) 0 k (λ e. omega (arith, l)) });
-        marks = λ k q. go k q (decide k i);
-      }
-    where
-      w' : List ℕ
-      w' = set w (marks-at s p + i) 0
-
-      go : (k : ℕ) → k < i + 1 → Same k i → getD (set w (marks-at s p + i) 0) (marks-at s p + k) 0 ≡ 0
-      go k q (same e) = ap (λ (x : ℕ). getD (set w (marks-at s p + i) 0) (marks-at s p + x) 0) e ∙ on w (marks-at s p + i) 0 (omega (arith, h .room .fits, l))
-      go k q (differ e) = off w (marks-at s p + i) 0 (marks-at s p + k) (λ z. e (omega arith)) ∙ h .marks k (let f : k ≢ i = e in omega arith)
-
-  pub wipe-done : s ≤ i → Wiped w₀ w s p
-  wipe-done l = record { under = h .under; keeps = h .keeps; marks = λ k q. h .marks k (omega arith) }
-
-module _ (w₀ w : List ℕ) (s p : ℕ) (h : Wiped w₀ w s p) where
-  pub wiped-aside : Aside w₀ w s p
-  wiped-aside = record { under = h .under; keeps = keeps-more w₀ w (list-at s p) (refused-at s p) (omega arith) (h .keeps) }
-
+module _ (w₀ w : List ℕ) (s p used : ℕ) (h : Cleared w₀ w s p used) where
   -- nothing listed, nothing marked
-  pub wiped-none : (m : Mesh) → Rep w₀ s p m → Marked w s p 0 m []
+  pub cleared-none : (m : Mesh) → Rep w₀ s p m → m .used ≡ used → Marked w s p 0 m []
   unfolding any
-  wiped-none m r =
-      record { rep = rep-under w₀ w s p (h .under) m r; len = refl; distinct = tt; live = λ x i. absurd i; tris = tt; stored = tt; marks = λ i l. h .marks i l }
+  cleared-none m r u =
+      record { rep = rep-under w₀ w s p (h .under) m r; len = refl; distinct = tt; live = λ x i. absurd i; tris = tt; stored = tt; marks = λ i l. h .marks i (omega (arith, l, u)) }
 
   -- what was listed is
-  pub wiped-listed : (n : ℕ) (m : Mesh) (xs : List Live) → Listed w₀ s p n m xs → Listed w s p n m xs
-  wiped-listed n m xs k =
+  pub cleared-listed : (n : ℕ) (m : Mesh) (xs : List Live) → Listed w₀ s p n m xs → Listed w s p n m xs
+  cleared-listed n m xs k =
       record {
         rep = rep-under w₀ w s p (h .under) m (k .rep);
         len = k .len;
