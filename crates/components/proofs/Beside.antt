@@ -69,6 +69,19 @@ distinct-append [] k d e f = e
 distinct-append (x ∷ l) k d e f =
     (rw (slots-append l k) (out-append (x .slot) (slots l) (slots k) (d .0) (f x (inl refl))), distinct-append l k (d .1) e (λ y i. f y (inr i)))
 
+-- every live triangle has three nodes
+abbrev pub Threes : Mesh → Type 0
+Threes m = (y : Live) → In y (m .live) → live-tri y ≡ true → Three (body y)
+
+tri-live-of : (m : Mesh) (t : Tri) → In t (tris-of (m .live)) → (y : Live) × In y (m .live) × (live-tri y ≡ true) × (t ≡ body y)
+tri-live-of m t i =
+    let r = in-map body t (filter live-tri (m .live)) (rw (tris-body (m .live)) at i) in
+    let q = in-filter live-tri (m .live) (r .1) in
+    (r .0, q .0, q .1, r .2)
+
+pub live-three : (m : Mesh) → Threes m → All-distinct (tris-of (m .live))
+live-three m h t i = let r = tri-live-of m t i in rw (r .3) (h (r .0) (r .1) (r .2))
+
 -- live triangles in slots that differ
 pub record Some (m : Mesh) (xs : List Live) : Type 0 where
   pub slots-differ : Distinct (slots xs)
@@ -85,8 +98,14 @@ module _ (m : Mesh) (d : Distinct (slots (m .live))) (xs : List Live) (h : Some 
   either-way : (y : Live) → In y (m .live) → live-tri y ≡ true → In y xs ⊎ In y (left-over m xs)
   either-way = gone-or-left m d xs (h .live)
 
+  pub left-three : Threes m → All-distinct (left-tris m xs)
+  left-three three t i =
+      let r = tri-over m xs t i in
+      let o = out-in (r .0) (r .1) in
+      rw (r .2) (three (r .0) (o .0) (o .1))
+
   -- what passes is among them or left
-  split-number : (c : Tri → Bool) → number c (tris-of (m .live)) ≡ number c (map body xs) + number c (left-tris m xs)
+  pub split-number : (c : Tri → Bool) → number c (tris-of (m .live)) ≡ number c (map body xs) + number c (left-tris m xs)
   unfolding left-over
   split-number c =
       let f : Live → Bool = λ y. c (body y) in
@@ -136,7 +155,7 @@ joined-even ks e = ap (λ (n : ℕ). n % 2) (sym (number-all (joined ks))) ∙ e
 -- the triangles of a region, an even number; whole even components of what is left without it; and a part of one more: those beside the region are among them
 pub record Cut (m : Mesh) (region : List Live) (ks : List (List Live)) (part : List Live) : Type 0 where
   pub differ : Distinct (slots (m .live))
-  pub three : (y : Live) → In y (m .live) → live-tri y ≡ true → Three (body y)
+  pub three : Threes m
   pub some : Some m (region ++ joined ks)
   pub size : length region % 2 ≡ 0
   pub pieces : (k : List Live) → In k ks → Piece m region k
@@ -155,21 +174,6 @@ module _ (m : Mesh) (region : List Live) (ks : List (List Live)) (part : List Li
         live = λ y i. g .some .live y (in-left y region (joined ks) i);
         tris = λ y i. g .some .tris y (in-left y region (joined ks) i);
       }
-
-  tri-live-of : (t : Tri) → In t (tris-of (m .live)) → (y : Live) × In y (m .live) × (live-tri y ≡ true) × (t ≡ body y)
-  tri-live-of t i =
-      let r = in-map body t (filter live-tri (m .live)) (rw (tris-body (m .live)) at i) in
-      let q = in-filter live-tri (m .live) (r .1) in
-      (r .0, q .0, q .1, r .2)
-
-  pub left-three : All-distinct (left-tris m region)
-  left-three t i =
-      let r = tri-over m region t i in
-      let o = out-in m (g .differ) region region-some (r .0) (r .1) in
-      rw (r .2) (g .three (r .0) (o .0) (o .1))
-
-  live-three : All-distinct (tris-of (m .live))
-  live-three t i = let r = tri-live-of t i in rw (r .3) (g .three (r .0) (r .1) (r .2))
 
   module _ (c : Tri → Bool) (closed : Closed c (left-tris m region)) where
     whole : Whole c m region
@@ -232,15 +236,15 @@ module _ (m : Mesh) (region : List Live) (ks : List (List Live)) (part : List Li
 
     back-closed : Closed back (tris-of (m .live))
     back-closed a b i j q =
-        let u = tri-live-of a i in
-        let v = tri-live-of b j in
+        let u = tri-live-of m a i in
+        let v = tri-live-of m b j in
         ap back (u .3) ∙ back-same (u .0) (v .0) (u .1) (v .1) (u .2) (v .2) (subst (λ (z : Tri). Shares z (body (v .0))) (u .3) (subst (λ (z : Tri). Shares a z) (v .3) q)) ∙ sym (ap back (v .3))
 
     part-even : odd-one (tris-of (m .live)) ≡ false → number c (left-tris m region) % 2 ≡ 0
     unfolding gone
     part-even e =
         let rest = left-tris m gone in
-        let a : number back (tris-of (m .live)) % 2 ≡ 0 = closed-even (tris-of (m .live)) live-three e back back-closed in
+        let a : number back (tris-of (m .live)) % 2 ≡ 0 = closed-even (tris-of (m .live)) (live-three m (g .three)) e back back-closed in
         let s : number back (tris-of (m .live)) ≡ number back (map body gone) + number back rest = split-number m (g .differ) gone (g .some) back in
         let f : number back (map body gone) % 2 ≡ 0 = ap (λ (n : ℕ). n % 2) (number-map body back gone) ∙ const-even (λ y. back (body y)) value gone back-in
         (two-even (length region) (length (joined ks)) (length gone) (length-append region (joined ks)) (g .size) (joined-even ks (g .even))) in
@@ -259,4 +263,4 @@ module _ (m : Mesh) (region : List Live) (ks : List (List Live)) (part : List Li
 
   pub cut-even : odd-one (tris-of (m .live)) ≡ false → removing-leaves-odd-component m region ≡ false
   unfolding removing-leaves-odd-component
-  cut-even e = even-closed (left-tris m region) left-three (λ c h. part-even c h e)
+  cut-even e = even-closed (left-tris m region) (left-three m (g .differ) region region-some (g .three)) (λ c h. part-even c h e)

@@ -9,6 +9,7 @@ pub mod Classes
 pub mod Sweeps
 pub mod Odds
 pub mod Beside
+pub mod Totals
 pub mod Pieces
 pub mod Orders
 pub mod Sizings

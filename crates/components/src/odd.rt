@@ -5,7 +5,7 @@ use crate::near::leaves_odd_near;
 use cells::evens::is_even;
 ghost use mathlib.Core.Path.{_≡_};
 ghost use mathlib.Core.List.{List};
-ghost use Rattle.definition.specs.Cells.{Live, Mesh};
+ghost use Rattle.definition.specs.Cells.{Live, Mesh, live-tris};
 ghost use Rattle.regions.specs.Listing.{Listed};
 ghost use Rattle.components.specs.Odd.{OddTo};
 
@@ -28,15 +28,16 @@ fn leaves_odd_anywhere(w: &mut [u32], s: usize, p: usize, used: usize, n: usize)
     false
 }
 
-// So, with a look around the cells alone where it is noted that no component of the mesh is odd.
-pub fn leaves_odd(w: &mut [u32], s: usize, p: usize, used: usize, n: usize) -> bool
-    requires { ⌜ ((m : Mesh) × (xs : List Live) × Listed (now w) s p n m xs × (m .used ≡ used)) ⌝ }
-    ensures { λ r. ⌜ ((m : Mesh) (xs : List Live) → Listed (now (w .entry)) s p n m xs → m .used ≡ used → OddTo (now (w .entry)) (now (w .exit)) s p n m xs r) ⌝ }
+// So, by their number where an odd number of triangles is left, and with a look around the cells alone where it is noted that no component of the mesh is odd.
+pub fn leaves_odd(w: &mut [u32], s: usize, p: usize, used: usize, live: usize, n: usize) -> bool
+    requires { ⌜ ((m : Mesh) × (xs : List Live) × Listed (now w) s p n m xs × (m .used ≡ used) × (live ≡ live-tris m)) ⌝ }
+    ensures { λ r. ⌜ ((m : Mesh) (xs : List Live) → Listed (now (w .entry)) s p n m xs → m .used ≡ used → live ≡ live-tris m → OddTo (now (w .entry)) (now (w .exit)) s p n m xs r) ⌝ }
 {
-    if n % 2 == 0 {
-        if is_even(w, s, p) {
-            return leaves_odd_near(w, s, p, used, n);
-        }
+    if (live - n) % 2 != 0 {
+        return true;
+    }
+    if is_even(w, s, p) {
+        return leaves_odd_near(w, s, p, used, n);
     }
     leaves_odd_anywhere(w, s, p, used, n)
 }
