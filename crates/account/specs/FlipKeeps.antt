@@ -161,16 +161,30 @@ module _ (m : Mesh) (e : Edge) (m′ : Mesh) (ok : Valid m) (at : In e (all-edge
         | inr (inr (inl f)) ↦ good-as _ t (w .t′) f (record { distinct = w .distinct-t (third-s .not-v) (third-t .not-v); below = within (w .t′) _ _ _ (w .corners-t) q v p })
       ]
 
+  -- a cell of the new mesh was there before, or is one of the two new triangles
+  pub data New (z : Live) : Type 0 where
+    kept : In z (m .live) → New z
+    turned-x : z .cell ≡ tri (w .s′) → New z
+    turned-y : z .cell ≡ tri (w .t′) → New z
+
+  pub new-cells : (z : Live) → In z (m′ .live) → New z
+  unfolding x′ y′ new-live
+  new-cells z i = elim (in-either z (others ++ (x′ ∷ [])) (y′ ∷ []) (subst (λ l. In z l) new-live-list i)) [
+    | inl j ↦ elim (in-either z others (x′ ∷ []) j) [
+      | inl k ↦ kept (in-others z k .0)
+      | inr (inl f) ↦ turned-x (ap (λ l. l .cell) f)
+    ]
+    | inr (inl f) ↦ turned-y (ap (λ l. l .cell) f)
+  ]
+
   -- a quad of the new mesh was there before
   pub quads-old : (z : Live) (q : Quad) → In z (m′ .live) → z .cell ≡ quad q → In z (m .live)
-  unfolding x′ y′ new-live
-  quads-old z q i c = elim (in-either z (others ++ (x′ ∷ [])) (y′ ∷ []) (subst (λ l. In z l) new-live-list i)) [
-    | inl j ↦ elim (in-either z others (x′ ∷ []) j) [
-      | inl k ↦ in-others z k .0
-      | inr (inl f) ↦ not-both q (w .s′) (sym c ∙ ap (λ l. l .cell) f)
-    ]
-    | inr (inl f) ↦ not-both q (w .t′) (sym c ∙ ap (λ l. l .cell) f)
-  ]
+  quads-old z q i c = of (new-cells z i)
+    where
+      of : New z → In z (m .live)
+      of (kept k) = k
+      of (turned-x f) = not-both q (w .s′) (sym c ∙ f)
+      of (turned-y f) = not-both q (w .t′) (sym c ∙ f)
 
   flip-valid : Valid m′
   unfolding x′ y′ new-live set-tris set-cell with-live noting others without

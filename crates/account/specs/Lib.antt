@@ -28,6 +28,7 @@ pub mod Rooms
 pub mod Quads
 pub mod Geometry
 pub mod Locked
+pub mod FlipEdges
 pub mod Births
 pub mod Placed
 pub mod SameRound

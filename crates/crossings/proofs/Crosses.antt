@@ -19,7 +19,7 @@ use Rattle.cells.specs.Layout.{rings-at}
 use Rattle.cells.specs.Rep.{Rep}
 use Rattle.cells.specs.Walk.{own, Pos, left, beside, node-after, node-before, CanRead}
 use Rattle.cells.proofs.Walks.{There, there, seek-end, ended, start, pos-walk, can-read}
-use Rattle.crossings.specs.Cross.{Choice, stays, takes, Meets, LeastAt, FirstAt}
+use Rattle.crossings.specs.Cross.{Choice, stays, takes, Meets, LeastAt, NoneBelow, FirstAt}
 use Rattle.crossings.proofs.Sorts.{In, sort-least, sort-none, in-filter, filter-in}
 use Rattle.crossings.proofs.Sides.{edge-of, edge-in, edge-known}
 
@@ -188,10 +188,6 @@ not-before e a b h k = go (decide (e .0) a)
 
 -- ---- the first crossing edge
 
--- no edge of a node below a crosses
-abbrev pub NoneBelow : Mesh → ℕ → ℕ → ℕ → Type 0
-NoneBelow m u v a = (x y : ℕ) → x < a → Meets m u v x y → ⊥
-
 module _ (w : List ℕ) (s p n u v : ℕ) (m : Mesh) (r : Rep w s p m) where
   meets-of : (e : Edge) → In e (filter (is-crossing m u v) (all-edges m)) → Meets m u v (e .0) (e .1)
   meets-of e h =
@@ -218,6 +214,7 @@ module _ (w : List ℕ) (s p n u v : ℕ) (m : Mesh) (r : Rep w s p m) where
             (λ e k. let z = meets-of e k in not-before e a b (low e z (ltb (e .0) a) refl) (λ q. l .least (e .1) (subst (λ (t : ℕ). Meets m u v t (e .1)) q z)));
         up = g .up;
         known = h;
+        none-below = f;
       }
     where
       low : (e : Edge) → Meets m u v (e .0) (e .1) → (t : Bool) → ltb (e .0) a ≡ t → a ≤ e .0

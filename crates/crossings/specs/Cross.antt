@@ -59,8 +59,13 @@ pub record LeastAt (m : Mesh) (n u v a r : ℕ) : Type 0 where
   pub meets : r < n → Meets m u v a r
   pub least : (b : ℕ) → Meets m u v a b → r ≤ b
 
+-- no edge whose smaller node is below a crosses
+abbrev pub NoneBelow : Mesh → ℕ → ℕ → ℕ → Type 0
+NoneBelow m u v a = (x y : ℕ) → x < a → Meets m u v x y → ⊥
+
 -- a-b is the first crossing edge
 pub record FirstAt (m : Mesh) (n u v a b : ℕ) : Type 0 where
   pub is : first-crossing m u v ≡ some (a, b)
   pub up : a < b
   pub known : b < n
+  pub none-below : NoneBelow m u v a

@@ -20,7 +20,7 @@ ghost use Rattle.definition.specs.Call.{point-at};
 ghost use Rattle.laws.specs.Frames.{Keeps};
 ghost use Rattle.cells.specs.Layout.{mesh-end};
 ghost use Rattle.crossings.specs.Limits.{IsLimits};
-ghost use Rattle.crossings.specs.Cross.{Known, Drawn, CanTry, Segment, Choice, LeastAt};
+ghost use Rattle.crossings.specs.Cross.{Known, Drawn, CanTry, Segment, Choice, LeastAt, NoneBelow};
 ghost use Rattle.crossings.specs.Crossings.{IsFirst};
 
 // An edge by its nodes, the smaller first, or none.
@@ -156,7 +156,7 @@ fn least_near(
     least_beside(w, q, s, p, n, bucket, u, v, a)
 }
 
-// The smallest edge that crosses u-v, by node numbers; boxes that were not known are noted.
+// The smallest edge that crosses u-v, by node numbers, where none does whose smaller node is below `from`; boxes that were not known are noted.
 pub fn first_crossing(
     w: &mut [u32],
     q: &[f64],
@@ -166,14 +166,16 @@ pub fn first_crossing(
     bucket: f64,
     u: usize,
     v: usize,
+    from: usize,
 ) -> Crossing
     requires { ⌜ ((m : Mesh) × Known (now w) (now q) s p n bucket m) ⌝ }
     requires { ⌜ Segment n u v ⌝ }
+    requires { ⌜ from ≤ n ⌝ }
     ensures keeps { λ r. ⌜ Keeps (now (w .entry)) (now (w .exit)) (mesh-end s p) ⌝ }
-    ensures is { λ r. ⌜ ((m : Mesh) → Known (now (w .entry)) (now (q .entry)) s p n bucket m → Known (now (w .exit)) (now (q .entry)) s p n bucket m × IsFirst m n u v r) ⌝ }
+    ensures is { λ r. ⌜ ((m : Mesh) → Known (now (w .entry)) (now (q .entry)) s p n bucket m → Known (now (w .exit)) (now (q .entry)) s p n bucket m × (NoneBelow m u v from → IsFirst m n u v r)) ⌝ }
 {
     let l = limits_of(q, bucket, u, v);
-    let mut a = 0;
+    let mut a = from;
     while a < n {
         let b = least_near(w, q, s, p, n, bucket, u, v, a, l);
         if b < n {

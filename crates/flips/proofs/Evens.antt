@@ -109,7 +109,7 @@ module _ (m : Mesh) (u v : ℕ) (m' : Mesh) (up : u < v) (f : flip m (key u v) �
       let o = in-filter (owns (key u v)) (m .live) (subst (λ (l : List Live). In (g .x) l) (sym (g .owned)) (inl refl)) in
       in-any (owns (key u v)) (m .live) (g .x, o .0, o .1)
 
-  flipped-in : In (key u v) (all-edges m)
+  pub flipped-in : In (key u v) (all-edges m)
   flipped-in = subst (λ (e : Edge). In e (all-edges m)) (sym (key-up u v up)) (to-in (u, v) (all-edges m) (edge-in m u v up there-is))
 
   pub flip-none-odd : (w : List ℕ) (s p : ℕ) → Rep w s p m → NoneOdd m → NoneOdd m'

@@ -3,3 +3,4 @@ pub mod Flips
 pub mod Evens
 pub mod Splits
 pub mod Recovers
+pub mod Resumes

@@ -18,9 +18,9 @@ use Rattle.cells.specs.Rep.{Rep}
 use Rattle.cells.specs.Walk.{IsEdge}
 use Rattle.cells.proofs.Edges.{key-up}
 use Rattle.cells.proofs.Points.{pts-as}
-use Rattle.flips.specs.Flip.{FlipTo}
+use Rattle.flips.specs.Flip.{FlipTo, StaysBelow}
 use Rattle.flips.specs.Nodes.{Up}
-use Rattle.crossings.specs.Cross.{Known, Segment, FirstAt}
+use Rattle.crossings.specs.Cross.{Known, Segment, FirstAt, NoneBelow}
 use Rattle.traces.specs.Log.{Logged, Notes, Enters}
 use Rattle.traces.proofs.Logs.{log-at, flip-length}
 use Rattle.flips.specs.Recover.{Stands, FlipOnceTo, stuck, short, made, RecoverTo}
@@ -186,12 +186,13 @@ module _ (w' : List ℕ) (q : List Float) (base t : List ℕ) (s p n : ℕ) (buc
         record { notes = notes; fits = sym (fits m (o .mesh) (was-flipped (a, b)) l notes (flip-length (a, b))) ∙ o .free }
 
     pub once-made : (y : x ≡ Flipped) → (t' : List ℕ) → Logged base t' (r .at) (flip-yes w2 s p m (flip m (key a b)) room x to y .mesh) → r .made ≡ true
-        → FlipOnceTo w2 q base t' s p n bucket u v m r
-    once-made y t' g f =
+        → StaysBelow m a b (r .from) → FlipOnceTo w2 q base t' s p n bucket u v m r
+    once-made y t' g f h =
         let o = flip-yes w2 s p m (flip m (key a b)) room x to y in
         let is = first-some u v m a b (c .up) (c .is) ∙ o .is in
         made (o .mesh) is (once-enters y .fits) f
         (record { known = known-kept w' w2 q s p n bucket m (o .mesh) k (first-kept u v m (o .mesh) is) (o .rep); log = g })
+        (h (o .mesh) (o .is) u v (c .none-below))
 
 -- ---- the turns of recover
 
@@ -223,18 +224,19 @@ module _ (u v : ℕ) (m : Mesh) (k : ℕ) where
   in-end = refl
 
 -- after k flips
-pub record Going (w : List ℕ) (q : List Float) (base t : List ℕ) (s p n used : ℕ) (bucket : Float) (u v k at : ℕ) (m₀ : Mesh) : Type 0 where
+pub record Going (w : List ℕ) (q : List Float) (base t : List ℕ) (s p n used : ℕ) (bucket : Float) (u v k at from : ℕ) (m₀ : Mesh) : Type 0 where
   pub mesh : Mesh
+  pub below : NoneBelow mesh u v from
   pub stands : Stands w q base t s p n bucket at mesh
   pub given : mesh .used ≡ used
   pub locks : mesh .locked ≡ m₀ .locked
   pub same : recover-in used 0 m₀ u v ≡ recover-in (used - k) k mesh u v
 
 pub going-start : (w : List ℕ) (q : List Float) (base t : List ℕ) (s p n used : ℕ) (bucket : Float) (u v at : ℕ) (m : Mesh) → Known w q s p n bucket m → m .used ≡ used
-    → Logged base t at m → Going w q base t s p n used bucket u v 0 at m
+    → Logged base t at m → Going w q base t s p n used bucket u v 0 at 0 m
 going-start w q base t s p n used bucket u v at m k e l =
     let z : used ≡ used - 0 = omega arith in
-    record { mesh = m; stands = record { known = k; log = l }; given = e; locks = refl; same = ap (λ (i : ℕ). recover-in i 0 m u v) z }
+    record { mesh = m; below = λ x y h z. omega (arith, h); stands = record { known = k; log = l }; given = e; locks = refl; same = ap (λ (i : ℕ). recover-in i 0 m u v) z }
 
 one-less : (n k : ℕ) → k < n → n - k ≡ suc (n - (k + 1))
 one-less n k h = omega arith
@@ -246,8 +248,8 @@ pub record Says (b c : Bool) (k at : ℕ) (r : Recovered) : Type 0 where
   pub flips : r .flips ≡ k
   pub place : r .at ≡ at
 
-module _ (w : List ℕ) (q : List Float) (base t : List ℕ) (s p n used : ℕ) (bucket : Float) (u v k at : ℕ) (m₀ : Mesh) (e₀ : m₀ .used ≡ used) (few : k ≤ used)
-    (g : Going w q base t s p n used bucket u v k at m₀) where
+module _ (w : List ℕ) (q : List Float) (base t : List ℕ) (s p n used : ℕ) (bucket : Float) (u v k at from : ℕ) (m₀ : Mesh) (e₀ : m₀ .used ≡ used) (few : k ≤ used)
+    (g : Going w q base t s p n used bucket u v k at from m₀) where
   to-recover : (w' t' : List ℕ) (at' : ℕ) (b c : Bool) (r : Recovered) → recover-in (used - k) k (g .mesh) u v ≡ ended b c k (g .mesh) → Says b c k at' r
       → Stands w' q base t' s p n bucket at' (g .mesh) → RecoverTo w' q base t' s p n used 1 bucket (recover m₀ u v) r
   unfolding recover
@@ -287,19 +289,20 @@ module _ (w : List ℕ) (q : List Float) (base t : List ℕ) (s p n used : ℕ) 
           go (short m' i j m c d) =
               to-recover w' t' (f .at) false (f .short) r
               (more h ∙ in-short u v (g .mesh) k (used - (k + 1)) m' (sym e ∙ z) i j ∙ ap (λ (b : Bool). ended false b k (g .mesh)) (sym c)) a d
-          go (made m' i j m d) = never (f .made) m y
+          go (made m' i j m d b) = never (f .made) m y
 
-      pub going-on : f .made ≡ true → Going w' q base t' s p n used bucket u v (k + 1) (f .at) m₀
+      pub going-on : f .made ≡ true → Going w' q base t' s p n used bucket u v (k + 1) (f .at) (f .from) m₀
       going-on y = go o
         where
-          go : FlipOnceTo w' q base t' s p n bucket u v (g .mesh) f → Going w' q base t' s p n used bucket u v (k + 1) (f .at) m₀
+          go : FlipOnceTo w' q base t' s p n bucket u v (g .mesh) f → Going w' q base t' s p n used bucket u v (k + 1) (f .at) (f .from) m₀
           go (stuck i m c d) = never (f .made) y m
           go (short m' i j m c d) = never (f .made) y m
-          go (made m' i j m d) =
+          go (made m' i j m d b) =
               let kept = first-kept u v (g .mesh) m' i in
               let l : suc k ≡ k + 1 = omega arith in
               record {
                 mesh = m';
+                below = b;
                 stands = d;
                 given = kept .used ∙ g .given;
                 locks = kept .locked ∙ g .locks;

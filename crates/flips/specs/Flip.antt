@@ -12,6 +12,7 @@ use Rattle.laws.specs.Frames.{Keeps}
 use Rattle.cells.specs.Layout.{mesh-end}
 use Rattle.cells.specs.Rep.{Rep, Pts}
 use Rattle.joints.specs.Table.{Locks}
+use Rattle.crossings.specs.Cross.{NoneBelow}
 use Rattle.flips.specs.Nodes.{tri-read}
 use Rattle.flips.specs.declared.flip.Turned.{Turned}
 use Rattle.flips.specs.declared.flip.Turned.the-variants.{Not, Short, Flipped}
@@ -57,3 +58,7 @@ FlipTo w s p m (some m') false r = (r ≡ Short) × Rep w s p m
 pub record Flips (w w' : List ℕ) (q : List Float) (j : List ℕ) (s p u v : ℕ) (room : Bool) (r : Turned) : Type 0 where
   pub is : (m : Mesh) → Rep w s p m → Pts q p m → Locks j (m .locked) → FlipTo w' s p m (flip m (key u v)) room r
   pub keeps : Keeps w w' (mesh-end s p)
+
+-- where no crossing edge was below u, the flip of u-v leaves none below r
+abbrev pub StaysBelow : Mesh → ℕ → ℕ → ℕ → Type 0
+StaysBelow m u v r = (m' : Mesh) → flip m (key u v) ≡ some m' → (a b : ℕ) → NoneBelow m a b u → NoneBelow m' a b r

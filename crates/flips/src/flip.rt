@@ -10,6 +10,7 @@ use joints::locked;
 use meshes::store::set_tri;
 use plane::sides::apart;
 ghost use mathlib.Core.Path.{_≡_};
+ghost use Prim.Native.Nat.{_≤_};
 ghost use Rattle.definition.specs.Cells.{Mesh};
 ghost use Rattle.definition.specs.Flips.{is-step, third, runs, convex-pair, flipped};
 ghost use Rattle.plane.specs.Points.{Within};
@@ -19,7 +20,7 @@ ghost use Rattle.joints.specs.Table.{Locks};
 ghost use Rattle.crossings.specs.Nodes.{Four};
 ghost use Rattle.meshes.specs.Changes.{Turns};
 ghost use Rattle.flips.specs.Nodes.{tri-read, Up};
-ghost use Rattle.flips.specs.Flip.{CanTurn, IsFlip, Flips};
+ghost use Rattle.flips.specs.Flip.{CanTurn, IsFlip, Flips, StaysBelow};
 ghost use Rattle.flips.specs.Twins.{OfKinds, IsTwins};
 
 // The slots of an edge's owners, where those are two and both triangles.
@@ -124,6 +125,32 @@ fn convex_pair(q: &[f64], u: usize, v: usize, x: usize, y: usize) -> bool
         return apart(q, x, y, u, v);
     }
     false
+}
+
+// The lesser of two nodes.
+fn lesser(x: usize, y: usize) -> usize
+    ensures { λ r. ⌜ (r ≤ x) × (r ≤ y) ⌝ }
+{
+    if x < y {
+        return x;
+    }
+    y
+}
+
+// A node below which a flip of the edge u-v makes no new edge, not above u: the least of u and of the diagonal's ends; 0 where there is no flip.
+pub fn below_flip(w: &[u32], s: usize, p: usize, u: usize, v: usize) -> usize
+    requires { ⌜ ((m : Mesh) × Rep (now w) s p m) ⌝ }
+    requires { ⌜ Up p u v ⌝ }
+    ensures few { λ r. ⌜ r ≤ u ⌝ }
+    ensures is { λ r. ⌜ ((m : Mesh) → Rep (now (w .entry)) s p m → StaysBelow m u v r) ⌝ }
+{
+    let t = two_tris(w, s, p, u, v);
+    let Twins::Two(a, b) = t else {
+        return 0;
+    };
+    let x = third(w, s, a, u, v);
+    let y = third(w, s, b, u, v);
+    lesser(u, lesser(x, y))
 }
 
 // The triangles in slots i and j on the edge u-v, with the third nodes x and y, take the other diagonal, with the winding of the first.

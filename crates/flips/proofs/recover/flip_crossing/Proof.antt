@@ -10,7 +10,7 @@ use Rattle.definition.specs.Flips.{flip}
 use Rattle.laws.specs.Frames.{Keeps, keeps-trans}
 use Rattle.cells.specs.Layout.{mesh-end}
 use Rattle.joints.specs.Table.{Locks}
-use Rattle.crossings.specs.Cross.{Known, FirstAt}
+use Rattle.crossings.specs.Cross.{Known, FirstAt, NoneBelow}
 use Rattle.crossings.specs.Crossings.{IsFirst}
 use Rattle.flips.specs.Flip.{FlipTo}
 use Rattle.flips.specs.declared.recover.Flipping.{Flipping}
@@ -39,12 +39,12 @@ module _ (e : tie.After-known-told) (m : Mesh) (k : Known (top e .args .w .now) 
   known : Known (memory e) (top e .args .q .now) (top e .args .s) (top e .args .p) (top e .args .n) (top e .args .bucket) m
   known = search-done e .first-crossing .ensures .1 m k .0
 
-  first : FirstAt m (top e .args .n) (top e .args .u) (top e .args .v) (node1 e) (node2 e)
-  first = let a = top e .args in subst (λ x. IsFirst m (a .n) (a .u) (a .v) x) (e .before .e .given .1) (search-done e .first-crossing .ensures .1 m k .1)
+  first : NoneBelow m (top e .args .u) (top e .args .v) (top e .args .from) → FirstAt m (top e .args .n) (top e .args .u) (top e .args .v) (node1 e) (node2 e)
+  first b = let a = top e .args in subst (λ x. IsFirst m (a .n) (a .u) (a .v) x) (e .before .e .given .1) (search-done e .first-crossing .ensures .1 m k .1 b)
 
 -- from where the flip is made
 abbrev edge : tie.After-flip → tie.After-known-told
-edge f = f .before .before .before .before
+edge f = f .before .before .before .before .before .before
 
 abbrev room : tie.After-flip → Bool
 room f = f .before .before .fits2 .result
@@ -74,24 +74,35 @@ returns c =
     let d = c .before .before .before .before in
     let a = d .before .before .before .before .before .before .args in
     record {
-      is = λ base m k o l.
+      is = λ base m k o l b.
           let z = d .first-crossing .ensures .1 m k in
           once-none (d .first-crossing .last .0) (a .q .now) base (a .t .now) (a .s) (a .p) (a .n) (a .bucket) (a .at) (a .u) (a .v) m (z .0) l _
-          (subst (λ x. IsFirst m (a .n) (a .u) (a .v) x) (c .enum-told .given .1) (z .1)) refl refl refl;
+          (subst (λ x. IsFirst m (a .n) (a .u) (a .v) x) (c .enum-told .given .1) (z .1 b)) refl refl refl;
+      few = d .before .before .before .before .before .before .pre .1 .1;
       keeps = d .first-crossing .ensures .0;
     }
 
 flip-requires : tie.Need-flip-requires
 flip-requires c κs =
-    let e = c .before .before .before in
+    let e = c .before .before .before .before .before in
     let t = top e in
     let a = t .args in
     let m = t .pre .0 .1 in
     let k = t .pre .0 .2 in
     let z = known e m k in (
       (m, z .rep, z .pts, t .pre .0 .3),
-      is-up (memory e) (a .q .now) (a .s) (a .p) (a .n) (a .bucket) m z (a .u) (a .v) (node1 e) (node2 e) (first e m k),
+      is-up (memory e) (a .q .now) (a .s) (a .p) (a .n) (a .bucket) m z (a .u) (a .v) (node1 e) (node2 e) (first e m k (t .pre .0 .5)),
     )
+
+below-flip-requires : tie.Need-below-flip-requires
+below-flip-requires c κs =
+    let e = c .before in
+    let t = top e in
+    let a = t .args in
+    let m = t .pre .0 .1 in
+    let k = t .pre .0 .2 in
+    let z = known e m k in
+    ((m, z .rep), is-up (memory e) (a .q .now) (a .s) (a .p) (a .n) (a .bucket) m z (a .u) (a .v) (node1 e) (node2 e) (first e m k (t .pre .0 .5)))
 
 note-flip-requires : tie.Need-note-flip-requires
 note-flip-requires c κs =
@@ -103,7 +114,7 @@ note-flip-requires c κs =
     let base = t .pre .0 .0 in
     let m = t .pre .0 .1 in
     let k = t .pre .0 .2 in
-    let g = first e m k in
+    let g = first e m k (t .pre .0 .5) in
     let y = d .enum-told4 .given .1 in
     let x = to f m k (t .pre .0 .3) in (
       (
@@ -111,7 +122,7 @@ note-flip-requires c κs =
         m,
         flip-yes (memory2 f) (a .s) (a .p) m (flip m (key (node1 e) (node2 e))) (room f) (turned f) x y .mesh,
         t .pre .0 .4,
-        once-enters (memory e) (a .q .now) base (a .t .now) (a .s) (a .p) (a .n) (a .bucket) (a .at) (a .u) (a .v) m (known e m k) (t .pre .0 .4) (record { made = true; short = false; at = 0 }) (node1 e) (node2 e) g (room f) (fits f base)
+        once-enters (memory e) (a .q .now) base (a .t .now) (a .s) (a .p) (a .n) (a .bucket) (a .at) (a .u) (a .v) m (known e m k) (t .pre .0 .4) (record { made = true; short = false; at = 0; from = 0 }) (node1 e) (node2 e) g (room f) (fits f base)
             (memory2 f) (turned f) x y,
       ),
       (omega (arith, g .up, g .known, k .count, k .rep .points, k .rep .room .small), omega (arith, g .known, k .count, k .rep .points, k .rep .room .small)),
@@ -123,9 +134,10 @@ returns-2 c =
     let e = edge f in
     let a = top e .args in
     record {
-      is = λ base m k o l.
-          once-not (memory e) (a .q .now) base (a .t .now) (a .s) (a .p) (a .n) (a .bucket) (a .at) (a .u) (a .v) m (known e m k) l _ (node1 e) (node2 e) (first e m k) (room f)
+      is = λ base m k o l b.
+          once-not (memory e) (a .q .now) base (a .t .now) (a .s) (a .p) (a .n) (a .bucket) (a .at) (a .u) (a .v) m (known e m k) l _ (node1 e) (node2 e) (first e m k b) (room f)
           (fits f base) (memory2 f) (turned f) (to f m k o) (c .enum-told2 .given .1) refl refl refl;
+      few = top e .pre .1 .1;
       keeps = keeps f;
     }
 
@@ -135,9 +147,10 @@ returns-3 c =
     let e = edge f in
     let a = top e .args in
     record {
-      is = λ base m k o l.
-          once-short (memory e) (a .q .now) base (a .t .now) (a .s) (a .p) (a .n) (a .bucket) (a .at) (a .u) (a .v) m (known e m k) l _ (node1 e) (node2 e) (first e m k) (room f)
+      is = λ base m k o l b.
+          once-short (memory e) (a .q .now) base (a .t .now) (a .s) (a .p) (a .n) (a .bucket) (a .at) (a .u) (a .v) m (known e m k) l _ (node1 e) (node2 e) (first e m k b) (room f)
           (fits f base) (memory2 f) (turned f) (to f m k o) (c .enum-told3 .given .1) refl refl refl;
+      few = top e .pre .1 .1;
       keeps = keeps f;
     }
 
@@ -150,16 +163,17 @@ returns-4 c =
     let a = top e .args in
     let y = d .enum-told4 .given .1 in
     record {
-      is = λ base m k o l.
+      is = λ base m k o l b.
           let x = to f m k o in
           let z = known e m k in
-          let g = first e m k in
-          let r : Flipping = record { made = true; short = false; at = n .note-flip .result } in
+          let g = first e m k b in
+          let r : Flipping = record { made = true; short = false; at = n .note-flip .result; from = f .before .before .before .before .below-flip .result } in
           let m' = flip-yes (memory2 f) (a .s) (a .p) m (flip m (key (node1 e) (node2 e))) (room f) (turned f) x y .mesh in
           let enters = once-enters (memory e) (a .q .now) base (a .t .now) (a .s) (a .p) (a .n) (a .bucket) (a .at) (a .u) (a .v) m z l r (node1 e) (node2 e) g (room f) (fits f base)
           (memory2 f) (turned f) x y in
           once-made (memory e) (a .q .now) base (a .t .now) (a .s) (a .p) (a .n) (a .bucket) (a .at) (a .u) (a .v) m z l r (node1 e) (node2 e) g (room f) (fits f base)
-          (memory2 f) (turned f) x y (n .note-flip .last .0) (n .note-flip .ensures base m m' l enters) refl;
+          (memory2 f) (turned f) x y (n .note-flip .last .0) (n .note-flip .ensures base m m' l enters) refl (f .before .before .before .before .below-flip .ensures .1 m (z .rep));
+      few = let m = top e .pre .0 .1 in let g = first e m (top e .pre .0 .2) (top e .pre .0 .5) in omega (arith, f .before .before .before .before .below-flip .ensures .0, g .up, g .known);
       keeps = keeps f;
     }
 
@@ -167,6 +181,6 @@ pub flip-crossing-spec : {M : Type 1} → statement M
 flip-crossing-spec =
     tie.close
     (tie.spec
-    (λ c κs. search needs) (λ c. search needs) (λ c. search needs) (λ c. search needs) returns (λ c κs. search needs) flip-requires (λ c. search needs) (λ c. search needs)
+    (λ c κs. search needs) (λ c. search needs) (λ c. search needs) (λ c. search needs) returns below-flip-requires (λ c κs. search needs) flip-requires (λ c. search needs) (λ c. search needs)
     (λ c. search needs) note-flip-requires (λ c. search needs) (λ c. search needs) returns-2 (λ c. search needs) (λ c. search needs) returns-3 (λ c. search needs)
     (λ c. search needs) returns-4)

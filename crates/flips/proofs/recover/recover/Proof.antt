@@ -17,12 +17,13 @@ use Rattle.flips.proofs.recover.recover.Statement.{statement}
 use Rattle.flips.proofs.recover.recover.Tie as tie
 
 abbrev Inv-loop : tie.InvT-loop
-Inv-loop w₀ q j t₀ s p n used bucket at u v k₀ at₀ w t k at' =
+Inv-loop w₀ q j t₀ s p n used bucket at u v k₀ at₀ from₀ w t k at' from =
     (k ≤ used) × Keeps w₀ w (mesh-end s p) × (length t ≡ length t₀)
-    × ((base : List ℕ) (m : Mesh) → Known w₀ q s p n bucket m → m .used ≡ used → Locks j (m .locked) → Logged base t₀ at m → Going w q base t s p n used bucket u v k at' m)
+    × ((base : List ℕ) (m : Mesh) → Known w₀ q s p n bucket m → m .used ≡ used → Locks j (m .locked) → Logged base t₀ at m → Going w q base t s p n used bucket u v k at' from m)
+    × (from ≤ n)
 
 abbrev μ-loop : tie.MeasureT-loop
-μ-loop w₀ q j t₀ s p n used bucket at u v k₀ at₀ w t k at' = used - k
+μ-loop w₀ q j t₀ s p n used bucket at u v k₀ at₀ from₀ w t k at' from = used - k
 
 loop-holds : tie.Need-loop-holds Inv-loop μ-loop
 loop-holds c =
@@ -31,6 +32,7 @@ loop-holds c =
       keeps-refl (a .w .now) (mesh-end (a .s) (a .p)),
       refl,
       λ base m k e o h. going-start (a .w .now) (a .q .now) base (a .t .now) (a .s) (a .p) (a .n) (a .used) (a .bucket) (a .u) (a .v) (a .at) m k e h,
+      omega arith,
     )
 
 -- from the loop's head: the function's entry, and where the recovery of the mesh asked for stands
@@ -39,7 +41,7 @@ top l = l .before .before .before .before .before
 
 going : (l : tie.At-loop Inv-loop μ-loop)
     → Going (l .loop .w) (top l .args .q .now) (top l .pre .0 .0) (l .loop .t) (top l .args .s) (top l .args .p) (top l .args .n) (top l .args .used) (top l .args .bucket)
-    (top l .args .u) (top l .args .v) (l .loop .k) (l .loop .at) (top l .pre .0 .1)
+    (top l .args .u) (top l .args .v) (l .loop .k) (l .loop .at) (l .loop .from) (top l .pre .0 .1)
 going l = let p = top l .pre .0 in l .loop .inv .3 (p .0) (p .1) (p .2) (p .3) (p .4) (p .5)
 
 has-edge-requires : tie.Need-has-edge-requires Inv-loop μ-loop
@@ -64,7 +66,7 @@ returns c =
     record {
       is = λ base m k e o z.
           let g = l .loop .inv .3 base m k e o z in
-          going-there (l .loop .w) (a .q .now) base (l .loop .t) (a .s) (a .p) (a .n) (a .used) (a .bucket) (a .u) (a .v) (l .loop .k) (l .loop .at) m e (l .loop .inv .0) g (i .loop-test .taken)
+          going-there (l .loop .w) (a .q .now) base (l .loop .t) (a .s) (a .p) (a .n) (a .used) (a .bucket) (a .u) (a .v) (l .loop .k) (l .loop .at) (l .loop .from) m e (l .loop .inv .0) g (i .loop-test .taken)
           (h .has-edge .result) (h .has-edge .ensures (g .mesh) (g .stands .known .rep)) (c .if1 .taken) _ (record { there = refl; short = refl; flips = refl; place = refl });
       keeps = l .loop .inv .1;
     }
@@ -73,7 +75,7 @@ flip-crossing-requires : tie.Need-flip-crossing-requires Inv-loop μ-loop
 flip-crossing-requires c κs =
     let l = c .before .before .before .before .before .before in
     let g = going l in
-    ((top l .pre .0 .0, g .mesh, g .stands .known, rw (g .locks) (top l .pre .0 .4), g .stands .log), top l .pre .1)
+    ((top l .pre .0 .0, g .mesh, g .stands .known, rw (g .locks) (top l .pre .0 .4), g .stands .log, g .below), (top l .pre .1, l .loop .inv .4))
 
 same-length-3 : tie.Need-same-length-3 Inv-loop μ-loop
 same-length-3 c =
@@ -96,9 +98,9 @@ returns-2 c =
     record {
       is = λ base m k e o z.
           let g = l .loop .inv .3 base m k e o z in
-          going-stuck (l .loop .w) (a .q .now) base (l .loop .t) (a .s) (a .p) (a .n) (a .used) (a .bucket) (a .u) (a .v) (l .loop .k) (l .loop .at) m e (l .loop .inv .0) g (i .loop-test .taken)
+          going-stuck (l .loop .w) (a .q .now) base (l .loop .t) (a .s) (a .p) (a .n) (a .used) (a .bucket) (a .u) (a .v) (l .loop .k) (l .loop .at) (l .loop .from) m e (l .loop .inv .0) g (i .loop-test .taken)
           (h .has-edge .result) (h .has-edge .ensures (g .mesh) (g .stands .known .rep)) (e1 .if1 .left) (f .flip-crossing .last .0) (f .flip-crossing .last .1 .1 .1 .0)
-          (f .flip-crossing .result) (f .flip-crossing .ensures .is base (g .mesh) (g .stands .known) (rw (g .locks) o) (g .stands .log))
+          (f .flip-crossing .result) (f .flip-crossing .ensures .is base (g .mesh) (g .stands .known) (rw (g .locks) o) (g .stands .log) (g .below))
           (not-true (f .flip-crossing .result .made) (c .if2 .taken)) _ (record { there = refl; short = refl; flips = refl; place = refl });
       keeps = keeps-trans (a .w .now) (l .loop .w) (f .flip-crossing .last .0) (mesh-end (a .s) (a .p)) (l .loop .inv .1) (f .flip-crossing .ensures .keeps);
     }
@@ -116,10 +118,11 @@ loop-again c =
       f .flip-crossing .kept .1 .1 .1 .0 ∙ l .loop .inv .2,
       λ base m k e o z.
           let g = l .loop .inv .3 base m k e o z in
-          going-on (l .loop .w) (a .q .now) base (l .loop .t) (a .s) (a .p) (a .n) (a .used) (a .bucket) (a .u) (a .v) (l .loop .k) (l .loop .at) m e (l .loop .inv .0) g (i .loop-test .taken)
+          going-on (l .loop .w) (a .q .now) base (l .loop .t) (a .s) (a .p) (a .n) (a .used) (a .bucket) (a .u) (a .v) (l .loop .k) (l .loop .at) (l .loop .from) m e (l .loop .inv .0) g (i .loop-test .taken)
           (h .has-edge .result) (h .has-edge .ensures (g .mesh) (g .stands .known .rep)) (e1 .if1 .left) (f .flip-crossing .last .0) (f .flip-crossing .last .1 .1 .1 .0)
-          (f .flip-crossing .result) (f .flip-crossing .ensures .is base (g .mesh) (g .stands .known) (rw (g .locks) o) (g .stands .log))
+          (f .flip-crossing .result) (f .flip-crossing .ensures .is base (g .mesh) (g .stands .known) (rw (g .locks) o) (g .stands .log) (g .below))
           (not-false (f .flip-crossing .result .made) (c .if2 .left)),
+      f .flip-crossing .ensures .few,
     )
 
 has-edge-requires-2 : tie.Need-has-edge-requires-2 Inv-loop μ-loop
@@ -143,7 +146,7 @@ returns-3 c =
     record {
       is = λ base m k e o z.
           let g = l .loop .inv .3 base m k e o z in
-          going-end (l .loop .w) (a .q .now) base (l .loop .t) (a .s) (a .p) (a .n) (a .used) (a .bucket) (a .u) (a .v) (l .loop .k) (l .loop .at) m e (l .loop .inv .0) g (n .loop-test .left)
+          going-end (l .loop .w) (a .q .now) base (l .loop .t) (a .s) (a .p) (a .n) (a .used) (a .bucket) (a .u) (a .v) (l .loop .k) (l .loop .at) (l .loop .from) m e (l .loop .inv .0) g (n .loop-test .left)
           _ (record { there = c .has-edge2 .ensures (g .mesh) (g .stands .known .rep); short = refl; flips = refl; place = refl });
       keeps = l .loop .inv .1;
     }
