@@ -28,6 +28,12 @@ pub record CanInsert (w : List ℕ) (from to : ℕ) : Type 0 where
   pub order : from ≤ to
   pub fits : to < length w
 
+-- the place r for v among the numbers from `from` to `to`: the one before it is less
+pub record PlaceFor (w : List ℕ) (from to v r : ℕ) : Type 0 where
+  pub above : from ≤ r
+  pub within : r ≤ to
+  pub last : (i : ℕ) → from ≤ i → i + 1 ≡ r → getD w i 0 < v
+
 -- v came in among the ascending numbers from `from` to `to`
 pub record InsertTo (w w' : List ℕ) (from to v : ℕ) : Type 0 where
   pub only : Only w w' from (to + 1)
