@@ -129,7 +129,7 @@ fn edge_reach(d: f64, target: f64) -> bool
     !(d > EDGE_HIGH * target)
 }
 
-// v is the end of an edge at a that a live triangle owns, of a length between the edge factors, near an ideal of those wanted.
+// v is the end of an edge at a that a live triangle owns, of a length between the edge factors, near an ideal of those wanted. Most nodes are refused by the first, which takes no root.
 pub fn edge_candidate(
     w: &[u32],
     q: &[f64],
@@ -155,12 +155,12 @@ pub fn edge_candidate(
     if v == other {
         return false;
     }
+    if tri_around(w, s, p, v, a) >= s {
+        return false;
+    }
     let d = from_to(q, a, v);
     let n = norm(d);
     if !edge_reach(n, target) {
-        return false;
-    }
-    if tri_around(w, s, p, v, a) >= s {
         return false;
     }
     near_ideal(w, q, s, a, b, o, left, over(d, n))
