@@ -2,7 +2,7 @@
 use mathlib.Core.Path.{_≡_, refl, ap, sym, _∙_}
 use mathlib.Core.Bool.{Bool, false}
 use mathlib.Core.List.{List, [], _∷_, _++_}
-use Prim.Native.Nat.{ℕ, zero, suc, _+_, _*_, _<_}
+use Prim.Native.Nat.{ℕ, zero, suc, _+_, _*_, _<_, _≤_}
 use native.Mathlib.Numerals.{add-one}
 use native.Mathlib.Omega.{arith}
 use lib.ListN.{length, getD}
@@ -18,7 +18,7 @@ use Rattle.definition.specs.Call.{tri-at, first-tris, first-points}
 use Rattle.definition.specs.Front.{in-slots, new-mesh}
 use Rattle.laws.specs.Lists.{table-length, numbers-length, numbers-snoc}
 use Rattle.laws.specs.Cells.{points-length}
-use Rattle.laws.specs.Frames.{Zeros, keeps-trans, keeps-more}
+use Rattle.laws.specs.Frames.{Keeps, Only, Zeros, keeps-trans, keeps-more}
 use Rattle.cells.specs.Layout.{rings-at, codes, notes-at, even-at, mesh-end}
 use Rattle.cells.specs.Rep.{slots, corners, Room, Rep}
 use Rattle.meshes.specs.Changes.{CanPush, Turns, tri-of-nodes}
@@ -29,11 +29,22 @@ use Rattle.cells.proofs.Notes.{note-none, grown-same}
 
 -- ---- empty
 
-pub empty-done : (w w1 w2 : List ℕ) (s p b : ℕ) → b ≡ mesh-end s p → Room w s p → Zeros w w1 b → OpenedFrom w1 w2 (rings-at s) (codes s p) (4 * s) → Empties w w2 s p
+-- what a range cleared within the mesh's own areas keeps
+only-keeps : (w w' : List ℕ) (s p a b : ℕ) → b ≤ mesh-end s p → Only w w' a b → Keeps w w' (mesh-end s p)
+only-keeps w w' s p a b h o = record { len = o .len; high = λ i l. o .high i (omega arith) }
+
+-- the words from a on, n of them, are 0, and nothing else changed
+abbrev Wiped : List ℕ → List ℕ → ℕ → ℕ → Type 0
+Wiped w w' a n = Only w w' a (a + n) × ((k : ℕ) → k < n → getD w' (a + k) 0 ≡ 0)
+
+pub empty-done : (w w1 w2 w3 w4 : List ℕ) (s p a b : ℕ) → a ≡ notes-at s p → b ≡ even-at s p → Room w s p → Zeros w w1 s → Wiped w1 w2 a p → Wiped w2 w3 b s
+    → OpenedFrom w3 w4 (rings-at s) (codes s p) (4 * s) → Empties w w4 s p
 unfolding corners
-empty-done w w1 w2 s p b eb r z o =
-    let l : length w1 ≡ length w = z .keeps .len in
-    let l2 : length w2 ≡ length w1 = o .kept .len in
+empty-done w w1 w2 w3 w4 s p a b ea eb r z y x o =
+    let l1 : length w1 ≡ length w = z .keeps .len in
+    let l2 : length w2 ≡ length w1 = y .0 .len in
+    let l3 : length w3 ≡ length w2 = x .0 .len in
+    let l4 : length w4 ≡ length w3 = o .kept .len in
     record {
       rep = λ m u q e.
           record {
@@ -42,12 +53,19 @@ empty-done w w1 w2 s p b eb r z o =
             points = q;
             distinct = rw e tt;
             cells = rw e tt;
-            rings = rw e (opened w1 w2 (rings-at s) (codes s p) (4 * s) (record { fits = omega (arith, r .fits); small = r .small; first = omega arith }) o);
-            dead = λ i h out. o .kept .low i (omega arith) ∙ z .zero i (omega arith);
-            notes = λ v h. note-none w2 s p m v (o .kept .high (notes-at s p + v) (omega arith) ∙ z .zero (notes-at s p + v) (omega arith));
-            even = λ h q. absurd (omega (arith, q, o .kept .high (even-at s p) (omega arith), z .zero (even-at s p) (omega arith)));
+            rings = rw e (opened w3 w4 (rings-at s) (codes s p) (4 * s) (record { fits = omega (arith, r .fits); small = r .small; first = omega arith }) o);
+            dead = λ i h out. o .kept .low i (omega arith) ∙ x .0 .low i (omega arith) ∙ y .0 .low i (omega arith) ∙ z .zero i h;
+            notes = λ v h. note-none w4 s p m v (rw (← ea) (o .kept .high (a + v) (omega arith) ∙ x .0 .low (a + v) (omega arith) ∙ y .1 v h));
+            even = λ h q.
+                let c : b + 0 ≡ even-at s p = omega arith in
+                let g : getD w3 (even-at s p) 0 ≡ 0 = rw c at (x .1 0 h) in
+                absurd (omega (arith, q, o .kept .high (even-at s p) (omega arith), g));
           };
-      keeps = keeps-trans w w1 w2 (mesh-end s p) (keeps-more w w1 b (mesh-end s p) (omega arith) (z .keeps)) (keeps-kept w1 w2 (rings-at s) (codes s p) (mesh-end s p) (omega arith) (o .kept));
+      keeps = keeps-trans w w3 w4 (mesh-end s p)
+          (keeps-trans w w2 w3 (mesh-end s p)
+          (keeps-trans w w1 w2 (mesh-end s p) (keeps-more w w1 s (mesh-end s p) (omega arith) (z .keeps)) (only-keeps w1 w2 s p a (a + p) (omega arith) (y .0)))
+          (only-keeps w2 w3 s p b (b + s) (omega arith) (x .0)))
+          (keeps-kept w3 w4 (rings-at s) (codes s p) (mesh-end s p) (omega arith) (o .kept));
     }
 
 -- ---- the lists

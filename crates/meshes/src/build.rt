@@ -1,20 +1,24 @@
 // The mesh of the given triangles.
 use crate::store::push_tri;
 use cells::clear::clear_first;
+use cells::clear::clear_range;
 use cells::layout::BEFORE;
 use cells::layout::CORNERS;
-use cells::layout::mesh_end;
+use cells::layout::even_at;
+use cells::layout::notes_at;
 use rings::open;
 use rings::wide;
 ghost use Rattle.cells.specs.Rep.{Room};
 ghost use Rattle.meshes.specs.Build.{CanBuild, Builds, Empties};
 
-// Memory of any content becomes that of the mesh with no cell.
+// Memory of any content becomes that of the mesh with no cell. What is read before it is written is cleared: the kinds, the notes of the points, and that of the components.
 fn empty(w: &mut [u32], s: usize, p: usize)
     requires { ⌜ Room (now w) s p ⌝ }
     ensures { λ r. ⌜ Empties (now (w .entry)) (now (w .exit)) s p ⌝ }
 {
-    clear_first(w, mesh_end(s, p));
+    clear_first(w, s);
+    clear_range(w, notes_at(s, p), p);
+    clear_range(w, even_at(s, p), s);
     open(w, BEFORE * s, CORNERS * s + p, CORNERS * s);
 }
 
