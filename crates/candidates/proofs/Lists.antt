@@ -14,12 +14,12 @@ use Rattle.definition.specs.Cells.{Live, Mesh}
 use Rattle.laws.specs.Lists.{numbers-snoc, filter-yes, filter-no, Stored, stored-kept, stored-snoc}
 use Rattle.laws.specs.Frames.{on, off, Under}
 use Rattle.side_candidates.proofs.Scans.{in-hand}
-use Rattle.cells.proofs.Slots.{slots-length}
-use Rattle.cells.specs.Layout.{mesh-end, list-at, near-at, stack-at}
-use Rattle.cells.specs.Rep.{slots}
+use Rattle.cells.proofs.Slots.{slots-length, rep-held}
+use Rattle.cells.specs.Layout.{mesh-end, marks-at, list-at, near-at, stack-at}
+use Rattle.cells.specs.Rep.{Rep, slots}
 use Rattle.cells.proofs.Corners.{below-at}
 use Rattle.cells.proofs.Frames.{rep-under}
-use Rattle.live_regions.specs.Stack.{LiveTo}
+use Rattle.live_regions.specs.Stack.{Inner, Noted, LiveTo}
 use Rattle.live_regions.proofs.Scratches.{scratch-rep}
 use Rattle.side_candidates.specs.Hand.{InHand}
 use Rattle.edge_candidates.specs.Wishes.{Besides, AddedTo, CanList, WishedTo}
@@ -134,6 +134,12 @@ listing-end w₀ w p n b v r f g few h none =
       besides = y .besides;
     }
 
+-- noted walls stay with the marks
+noted-same : (w w' : List ℕ) (s p : ℕ) (m : Mesh) (l : List Live) → Rep w s p m → Inner m l → ((i : ℕ) → i < list-at s p → getD w' i 0 ≡ getD w i 0) → Noted w s p m l → Noted w' s p m l
+noted-same w w' s p m [] r i f h = tt
+noted-same w w' s p m (x ∷ l) r i f h =
+    (f (marks-at s p + x .slot) (omega (arith, rep-held w s p m r (i .0) .inside, r .used)) ∙ h .0, noted-same w w' s p m l r (i .2) f (h .1))
+
 -- the region in hand stays
 pub hand-kept : (w w' : List ℕ) (q : List Float) (s p k b n : ℕ) (m : Mesh) (g : List Live) → InHand w q s p k m g → near-at s p ≤ b → Besides w w' b n → InHand w' q s p k m g
 hand-kept w w' q s p k b n m g h f z =
@@ -146,6 +152,7 @@ hand-kept w w' q s p k b n m g h f z =
       few = h .few;
       stored = stored-kept w w' (list-at s p) (slots g) (λ i a c. z .before i (omega (arith, h .few))) (h .stored);
       inner = h .inner;
+      noted = noted-same w w' s p m g (h .rep) (h .inner) (λ i a. z .before i (omega arith)) (h .noted);
     }
 
 -- ---- the whole search

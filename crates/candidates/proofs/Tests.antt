@@ -15,6 +15,8 @@ use Rattle.definition.specs.Call.{point-at}
 use Rattle.laws.specs.Bools.{and-left, and-right}
 use Rattle.cells.specs.Rep.{Pts}
 use Rattle.live_regions.proofs.Steps.{region-flat}
+use Rattle.side_candidates.specs.Hand.{in-view}
+use Rattle.side_candidates.proofs.Aheads.{side-ahead}
 use Rattle.plane.specs.Points.{node-of}
 use Rattle.edge_candidates.specs.Wanted.{by-edge}
 use Rattle.candidates.specs.Choice.{too-far, is-choice}
@@ -44,8 +46,9 @@ module _ (y : Quality) (t : Turn) (m : Mesh) (a other : ℕ) (n : Vec) (target :
   pub choice-behind : false ≡ by-edge t m a other target v → false ≡ ahead y n (from-to (node-at m a) (node-at m v)) target → false ≡ is-choice y t m a other n target g v
   choice-behind h k = rw (← h, side-back k)
 
-  pub choice-side : (x : Bool) → false ≡ by-edge t m a other target v → x ≡ side-candidate y m a other n target g (walls m g) v → x ≡ is-choice y t m a other n target g v
-  choice-side x h k = rw (← h) k
+  pub choice-side : (x : Bool) → false ≡ by-edge t m a other target v → true ≡ ahead y n (from-to (node-at m a) (node-at m v)) target → x ≡ in-view m a other g v
+      → x ≡ is-choice y t m a other n target g v
+  choice-side x h k e = rw (← h) (e ∙ side-ahead m a other g v y n target k)
 
 -- the region around a node, by its point as it is read
 pub region-read : (q : List Float) (p : ℕ) (m : Mesh) → Pts q p m → (seed a : ℕ) → a < length (m .points) → (x y r : Float) → flat x y ≡ flat (point-at q a .x) (point-at q a .y)

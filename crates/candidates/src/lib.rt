@@ -16,7 +16,7 @@ use plane::vectors::from_to;
 use plane::vectors::norm;
 use rules::Quality;
 use side_candidates::sides::ahead;
-use side_candidates::sides::side_candidate;
+use side_candidates::sides::in_view;
 ghost use mathlib.Core.Path.{_≡_};
 ghost use mathlib.Core.List.{List};
 ghost use Prim.Native.Nat.{_+_, _*_, _<_};
@@ -106,7 +106,7 @@ fn is_choice(
     if !ahead(y, normal, d, target) {
         return false;
     }
-    side_candidate(w, q, s, p, k, a, other, normal, target, v, y)
+    in_view(w, q, s, p, k, a, other, v)
 }
 
 // The side nodes for a, with the region of k triangles in hand and what is wanted listed from i on, ascending, come to b; how many they are. Only nodes of that region and nodes that have an edge with a can be such.

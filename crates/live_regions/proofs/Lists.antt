@@ -1,7 +1,7 @@
 -- Lists of slots and of live cells: turned round, without a slot, listed or not; numbers stored one after the other.
 use mathlib.Core.Path.{_≡_, refl, ap, sym, _∙_, subst}
 use mathlib.Core.Logic.{_≢_}
-use mathlib.Core.Bool.{Bool, true, false, not, cond, _||_, _&&_}
+use mathlib.Core.Bool.{Bool, true, false, not, cond, _||_, _&&_, or-true, false≢true}
 use mathlib.Core.List.{List, [], _∷_, _++_}
 use Prim.Native.Nat.{ℕ}
 use native.Mathlib.Omega.{arith}
@@ -15,7 +15,7 @@ use Rattle.definition.specs.Candidates.{on-top}
 use Rattle.cells.proofs.Slots.{slot-hit, slot-miss}
 use Rattle.cells.specs.Rep.{slots}
 use Rattle.cells.proofs.Corners.{out-left, out-right}
-use Rattle.live_regions.specs.Stack.{Inner, rev, listed, Fresh}
+use Rattle.live_regions.specs.Stack.{Inner, rev, listed, Fresh, Visited}
 
 -- ---- numbers
 
@@ -99,6 +99,24 @@ pub fresh-more : (x : Live) (seen st : List Live) → Out (x .slot) (slots st) �
 unfolding any in-slot
 fresh-more x seen [] o h = tt
 fresh-more x seen (e ∷ st) o h = (rw (ne-eqb (e .slot) (x .slot) (o .0)) (h .0), fresh-more x seen st (o .1) (h .1))
+
+-- none of those seen is in a slot that was not
+pub visited-out : (j : ℕ) (seen l : List Live) → listed j seen ≡ false → Visited seen l → Out j (slots l)
+visited-out j seen [] k h = tt
+visited-out j seen (x ∷ l) k h = ((λ e. false≢true (sym k ∙ ap (λ (i : ℕ). listed i seen) (sym e) ∙ h .0)), visited-out j seen l k (h .1))
+
+pub listed-first : (x : Live) (seen : List Live) → listed (x .slot) (x ∷ seen) ≡ true
+unfolding any in-slot
+listed-first x seen = rw (eq-eqb (x .slot) (x .slot) refl)
+
+pub visited-more : (x : Live) (seen l : List Live) → Visited seen l → Visited (x ∷ seen) l
+unfolding any in-slot
+visited-more x seen [] h = tt
+visited-more x seen (e ∷ l) h = (rw (h .0) (or-true (eqb (e .slot) (x .slot))), visited-more x seen l (h .1))
+
+pub visited-snoc : (seen l : List Live) (x : Live) → Visited seen l → listed (x .slot) seen ≡ true → Visited seen (l ++ x ∷ [])
+visited-snoc seen [] x h k = (k, tt)
+visited-snoc seen (e ∷ l) x h k = (h .0, visited-snoc seen l x (h .1) k)
 
 -- ---- what comes onto the stack
 

@@ -19,9 +19,9 @@ use Rattle.cells.specs.Layout.{list-at, refused-at, stack-at}
 use Rattle.cells.specs.Rep.{Held, slots}
 use Rattle.cells.proofs.Fronts.{held-tri}
 use Rattle.cells.proofs.Slots.{rep-held, slots-length, slots-without}
-use Rattle.live_regions.specs.Stack.{rev, listed, mark, Scratch, Hold, Met, PushTo}
-use Rattle.live_regions.proofs.Lists.{without-rev, out-unrev, out-rev, out-listed, listed-out, listed-without, inner-without, fresh-without, on-top-hit, on-top-other, on-top-seen}
-use Rattle.live_regions.proofs.Scratches.{scratch-refl, scratch-trans, scratch-mark, scratch-ring, scratch-rep, ring-set}
+use Rattle.live_regions.specs.Stack.{rev, listed, Mark, Scratch, Hold, Met, PushTo}
+use Rattle.live_regions.proofs.Lists.{without-rev, out-unrev, out-rev, out-listed, listed-out, listed-without, inner-without, fresh-without, on-top-hit, on-top-other, on-top-seen, visited-out}
+use Rattle.live_regions.proofs.Scratches.{scratch-refl, scratch-trans, scratch-mark, scratch-ring, scratch-rep, ring-set, noted-kept}
 
 -- at most as many cells are listed as there are slots
 pub few-out : (w : List ℕ) (s p : ℕ) (m : Mesh) (out seen st : List Live) → Hold w s p m out seen st → length out ≤ s
@@ -31,43 +31,43 @@ module _ (w : List ℕ) (s p j : ℕ) (m : Mesh) (out seen st : List Live) (e : 
   held : Held w s (m .used) (length (m .points)) e
   held = rep-held w s p m (h .hold .rep) (h .has)
 
-  marked : getD w (20 * s + 3 * p + j) 0 ≡ mark (listed (e .slot) seen) (listed (e .slot) st)
+  marked : Mark (getD w (20 * s + 3 * p + j) 0) (listed (e .slot) seen) (listed (e .slot) st)
   marked = rw (h .slot) (h .hold .marks (e .slot) (held .inside))
 
   kind : eqb (getD w j 0) 3 ≡ live-tri e
   kind = rw (h .slot) (held-tri w s (m .used) (length (m .points)) e held)
 
-  unseen : getD w (20 * s + 3 * p + j) 0 ≢ 2 → listed (e .slot) seen ≡ false
-  unseen n = go (listed (e .slot) seen) refl
+  unseen : getD w (20 * s + 3 * p + j) 0 < 2 → listed (e .slot) seen ≡ false
+  unseen n = go (listed (e .slot) seen) refl marked
     where
-      go : (b : Bool) → listed (e .slot) seen ≡ b → listed (e .slot) seen ≡ false
-      go true q = absurd (n (marked ∙ rw q))
-      go false q = q
+      go : (b : Bool) → listed (e .slot) seen ≡ b → Mark (getD w (20 * s + 3 * p + j) 0) b (listed (e .slot) st) → listed (e .slot) seen ≡ false
+      go true q z = absurd (omega arith)
+      go false q z = q
 
   pub on-stack : getD w (20 * s + 3 * p + j) 0 ≡ 1 → Out j (rev (slots st)) → ⊥
   on-stack z o =
       let f : listed (e .slot) st ≡ false = out-listed (e .slot) st (subst (λ (i : ℕ). Out i (slots st)) (h .slot) (out-unrev j (slots st) o)) in
-      go (listed (e .slot) seen) (sym z ∙ marked ∙ rw f)
+      go (listed (e .slot) seen) (subst (Mark (getD w (20 * s + 3 * p + j) 0) (listed (e .slot) seen)) f marked)
     where
-      go : (b : Bool) → _≡_ {A = ℕ} 1 (mark b false) → ⊥
+      go : (b : Bool) → Mark (getD w (20 * s + 3 * p + j) 0) b false → ⊥
       go true q = omega arith
       go false q = omega arith
 
-  off-stack : getD w (20 * s + 3 * p + j) 0 ≢ 2 → getD w (20 * s + 3 * p + j) 0 ≢ 1 → listed (e .slot) st ≡ false
-  off-stack n k = go (listed (e .slot) st) refl
+  off-stack : getD w (20 * s + 3 * p + j) 0 < 2 → getD w (20 * s + 3 * p + j) 0 ≢ 1 → listed (e .slot) st ≡ false
+  off-stack n k = go (listed (e .slot) st) refl (subst (λ (b : Bool). Mark (getD w (20 * s + 3 * p + j) 0) b (listed (e .slot) st)) (unseen n) marked)
     where
-      go : (b : Bool) → listed (e .slot) st ≡ b → listed (e .slot) st ≡ false
-      go true q = absurd (k (marked ∙ rw (unseen n, q)))
-      go false q = q
+      go : (b : Bool) → listed (e .slot) st ≡ b → Mark (getD w (20 * s + 3 * p + j) 0) false b → listed (e .slot) st ≡ false
+      go true q z = absurd (k z)
+      go false q z = q
 
-  pub push-seen : getD w (20 * s + 3 * p + j) 0 ≡ 2 → PushTo w w s p m out seen (on-top seen st e)
-  push-seen z = go (listed (e .slot) seen) refl (sym z ∙ marked)
+  pub push-seen : 2 ≤ getD w (20 * s + 3 * p + j) 0 → PushTo w w s p m out seen (on-top seen st e)
+  push-seen z = go (listed (e .slot) seen) refl marked
     where
-      never : (b : Bool) → _≡_ {A = ℕ} 2 (mark false b) → ⊥
+      never : (b : Bool) → Mark (getD w (20 * s + 3 * p + j) 0) false b → ⊥
       never true q = omega arith
       never false q = omega arith
 
-      go : (b : Bool) → listed (e .slot) seen ≡ b → _≡_ {A = ℕ} 2 (mark b (listed (e .slot) st)) → PushTo w w s p m out seen (on-top seen st e)
+      go : (b : Bool) → listed (e .slot) seen ≡ b → Mark (getD w (20 * s + 3 * p + j) 0) b (listed (e .slot) st) → PushTo w w s p m out seen (on-top seen st e)
       go true u q = rw (on-top-seen seen st e u) (record { hold = h .hold; scratch = scratch-refl w s p })
       go false u q = absurd (never (listed (e .slot) st) q)
 
@@ -75,7 +75,7 @@ module _ (w : List ℕ) (s p j : ℕ) (m : Mesh) (out seen st : List Live) (e : 
   push-other k = rw (on-top-other seen st e (sym kind ∙ ne-eqb (getD w j 0) 3 k)) (record { hold = h .hold; scratch = scratch-refl w s p })
 
   -- w1: j is in no ring and its mark is 1; w2: j is linked
-  module _ (n : getD w (20 * s + 3 * p + j) 0 ≢ 2) (k : getD w j 0 ≡ 3) (w1 w2 : List ℕ) (sc : Scratch w w1 s p)
+  module _ (n : getD w (20 * s + 3 * p + j) 0 < 2) (k : getD w j 0 ≡ 3) (w1 w2 : List ℕ) (sc : Scratch w w1 s p)
       (list : (i : ℕ) → list-at s p ≤ i → i < refused-at s p → getD w1 i 0 ≡ getD w i 0)
       (others : (i : ℕ) → i < s → i ≢ j → getD w1 (20 * s + 3 * p + i) 0 ≡ getD w (20 * s + 3 * p + i) 0) (own : getD w1 (20 * s + 3 * p + j) 0 ≡ 1)
       (ring : Ring w1 (stack-at s p) (s + 1) s (without j (rev (slots st)))) (l : LinkedTo w1 w2 (stack-at s p) (s + 1) j s) where
@@ -90,18 +90,22 @@ module _ (w : List ℕ) (s p j : ℕ) (m : Mesh) (out seen st : List Live) (e : 
         ap (λ (z : List ℕ). rev z ++ e .slot ∷ []) (slots-without (e .slot) st) ∙ ap (λ (z : List ℕ). z ++ e .slot ∷ []) (sym (without-rev (e .slot) (slots st)))
         ∙ ap (λ (i : ℕ). without i (rev (slots st)) ++ i ∷ []) (sym (h .slot))
 
-    marks : (i : ℕ) → i < m .used → getD w2 (20 * s + 3 * p + i) 0 ≡ mark (listed i seen) (listed i (e ∷ without-slot (e .slot) st))
-    unfolding any in-slot
-    marks i q =
+    other : (i : ℕ) → i < m .used → i ≢ j → getD w2 (20 * s + 3 * p + i) 0 ≡ getD w (20 * s + 3 * p + i) 0
+    other i q y =
         let is : i < s = omega (arith, h .hold .rep .used) in
-        l .kept .low (20 * s + 3 * p + i) (omega arith) ∙ go is (decide i j)
+        l .kept .low (20 * s + 3 * p + i) (omega arith) ∙ others i is y
+
+    marks : (i : ℕ) → i < m .used → Mark (getD w2 (20 * s + 3 * p + i) 0) (listed i seen) (listed i (e ∷ without-slot (e .slot) st))
+    unfolding any in-slot
+    marks i q = go (decide i j)
       where
-        go : i < s → Same i j → getD w1 (20 * s + 3 * p + i) 0 ≡ mark (listed i seen) (eqb i (e .slot) || listed i (without-slot (e .slot) st))
-        go is (same y) =
+        go : Same i j → Mark (getD w2 (20 * s + 3 * p + i) 0) (listed i seen) (eqb i (e .slot) || listed i (without-slot (e .slot) st))
+        go (same y) =
+            let js : j < s = h .inside in
             let u : listed i seen ≡ false = ap (λ (x : ℕ). listed x seen) (y ∙ h .slot) ∙ unseen n in
-            rw (u, eq-eqb i (e .slot) (y ∙ h .slot)) (ap (λ (x : ℕ). getD w1 (20 * s + 3 * p + x) 0) y ∙ own)
-        go is (differ y) =
-            rw (ne-eqb i (e .slot) (λ z. y (z ∙ sym (h .slot))), listed-without i (e .slot) st (λ z. y (z ∙ sym (h .slot)))) (others i is y ∙ h .hold .marks i q)
+            rw (u, eq-eqb i (e .slot) (y ∙ h .slot)) (ap (λ (x : ℕ). getD w2 (20 * s + 3 * p + x) 0) y ∙ l .kept .low (20 * s + 3 * p + j) (omega arith) ∙ own)
+        go (differ y) =
+            rw (ne-eqb i (e .slot) (λ z. y (z ∙ sym (h .slot))), listed-without i (e .slot) st (λ z. y (z ∙ sym (h .slot))), other i q y) (h .hold .marks i q)
 
     hold : Hold w2 s p m out seen (e ∷ without-slot (e .slot) st)
     hold =
@@ -120,6 +124,8 @@ module _ (w : List ℕ) (s p j : ℕ) (m : Mesh) (out seen st : List Live) (e : 
           stored = stored-kept w w2 (list-at s p) (slots out)
               (λ i a b. l .kept .low i (omega (arith, fo, slots-length out)) ∙ list i a (omega (arith, fo, slots-length out))) (h .hold .stored);
           marks = marks;
+          visited = h .hold .visited;
+          noted = noted-kept w w2 s p j m out (h .hold .rep) (h .hold .inner) (visited-out j seen out (ap (λ (i : ℕ). listed i seen) (h .slot) ∙ unseen n) (h .hold .visited)) other (h .hold .noted);
         }
 
     pub push-linked : PushTo w w2 s p m out seen (on-top seen st e)
@@ -128,21 +134,21 @@ module _ (w : List ℕ) (s p j : ℕ) (m : Mesh) (out seen st : List Live) (e : 
   pub ring-again : (w1 : List ℕ) → UnlinkedFrom w w1 (stack-at s p) (s + 1) j → Ring w1 (stack-at s p) (s + 1) s (without j (rev (slots st)))
   ring-again w1 u = let js : j < s = h .inside in u .rings (rev (slots st)) s (h .hold .ring) (λ z. omega arith)
 
-  pub push-again : getD w (20 * s + 3 * p + j) 0 ≢ 2 → getD w j 0 ≡ 3 → getD w (20 * s + 3 * p + j) 0 ≡ 1 → (w1 w2 : List ℕ)
+  pub push-again : getD w (20 * s + 3 * p + j) 0 < 2 → getD w j 0 ≡ 3 → getD w (20 * s + 3 * p + j) 0 ≡ 1 → (w1 w2 : List ℕ)
       → UnlinkedFrom w w1 (stack-at s p) (s + 1) j → LinkedTo w1 w2 (stack-at s p) (s + 1) j s → PushTo w w2 s p m out seen (on-top seen st e)
   push-again n k o w1 w2 u l =
       let js : j < s = h .inside in
       push-linked n k w1 w2 (scratch-ring w w1 s p (u .kept)) (λ i a b. u .kept .low i (omega arith)) (λ i q z. u .kept .low (20 * s + 3 * p + i) (omega arith))
       (u .kept .low (20 * s + 3 * p + j) (omega arith) ∙ o) (ring-again w1 u) l
 
-  pub ring-first : getD w (20 * s + 3 * p + j) 0 ≢ 2 → getD w (20 * s + 3 * p + j) 0 ≢ 1
+  pub ring-first : getD w (20 * s + 3 * p + j) 0 < 2 → getD w (20 * s + 3 * p + j) 0 ≢ 1
       → Ring (set w (20 * s + 3 * p + j) 1) (stack-at s p) (s + 1) s (without j (rev (slots st)))
   ring-first n o =
       let js : j < s = h .inside in
       let q : Out j (slots st) = subst (λ (i : ℕ). Out i (slots st)) (sym (h .slot)) (listed-out (e .slot) st (off-stack n o)) in
       rw (without-out j (rev (slots st)) (out-rev j (slots st) q)) (ring-set w (stack-at s p) (s + 1) s (20 * s + 3 * p + j) 1 (rev (slots st)) (omega arith) (h .hold .ring))
 
-  pub push-first : getD w (20 * s + 3 * p + j) 0 ≢ 2 → getD w j 0 ≡ 3 → getD w (20 * s + 3 * p + j) 0 ≢ 1 → (w2 : List ℕ)
+  pub push-first : getD w (20 * s + 3 * p + j) 0 < 2 → getD w j 0 ≡ 3 → getD w (20 * s + 3 * p + j) 0 ≢ 1 → (w2 : List ℕ)
       → LinkedTo (set w (20 * s + 3 * p + j) 1) w2 (stack-at s p) (s + 1) j s → PushTo w w2 s p m out seen (on-top seen st e)
   push-first n k o w2 l =
       let js : j < s = h .inside in

@@ -1,5 +1,6 @@
 -- Changes of marks, list and stack alone; a ring with one sentinel.
 use mathlib.Core.Path.{_≡_, refl, _∙_}
+use mathlib.Core.Logic.{_≢_}
 use mathlib.Core.List.{List, [], _∷_, _++_}
 use Prim.Native.Nat.{ℕ, _+_, _*_, _^_, _≤_, _<_}
 use native.Mathlib.Omega.{arith}
@@ -7,13 +8,15 @@ use lib.ListN.{length, getD, set, length-set}
 use Rattle.rings.specs.Rings.{nx, pv, Linked, Out, Ring, Kept, CanLink, CanUnlink}
 use Rattle.rings.proofs.Rings.{last-below}
 use Rattle.rings.proofs.Chains.{both}
-use Rattle.definition.specs.Cells.{Mesh}
+use Rattle.definition.specs.Cells.{Live, Mesh}
 use Rattle.laws.specs.Frames.{off, Under}
 use Rattle.rings.proofs.Families.{near}
 use Rattle.cells.specs.Layout.{mesh-end, stack-at, all-end}
-use Rattle.cells.specs.Rep.{Rep}
+use Rattle.cells.specs.Rep.{Rep, slots}
 use Rattle.cells.proofs.Frames.{rep-under}
-use Rattle.live_regions.specs.Stack.{Scratch}
+use Rattle.cells.proofs.Slots.{rep-held}
+use Rattle.live_regions.specs.Walls.{wall-mark}
+use Rattle.live_regions.specs.Stack.{Inner, Noted, Scratch}
 
 pub scratch-refl : (w : List ℕ) (s p : ℕ) → Scratch w w s p
 scratch-refl w s p = record { len = refl; mesh = λ i h. refl; rest = λ i h k. refl }
@@ -55,6 +58,19 @@ scratch-under w w' s p k = record { len = k .len; low = λ i h. k .mesh i (omega
 -- the memory stands for the same mesh
 pub scratch-rep : (w w' : List ℕ) (s p : ℕ) (m : Mesh) → Scratch w w' s p → Rep w s p m → Rep w' s p m
 scratch-rep w w' s p m k r = rep-under w w' s p (scratch-under w w' s p k) m r
+
+-- ---- noted walls
+
+-- while the marks of all slots but j stay, which none of them is in
+pub noted-kept : (w w' : List ℕ) (s p j : ℕ) (m : Mesh) (l : List Live) → Rep w s p m → Inner m l → Out j (slots l)
+    → ((i : ℕ) → i < m .used → i ≢ j → getD w' (20 * s + 3 * p + i) 0 ≡ getD w (20 * s + 3 * p + i) 0) → Noted w s p m l → Noted w' s p m l
+noted-kept w w' s p j m [] r i o f h = tt
+noted-kept w w' s p j m (x ∷ l) r i o f h =
+    (f (x .slot) (rep-held w s p m r (i .0) .inside) (o .0) ∙ h .0, noted-kept w w' s p j m l r (i .2) (o .1) f (h .1))
+
+pub noted-snoc : (w : List ℕ) (s p : ℕ) (m : Mesh) (l : List Live) (x : Live) → Noted w s p m l → getD w (20 * s + 3 * p + x .slot) 0 ≡ wall-mark m x → Noted w s p m (l ++ x ∷ [])
+noted-snoc w s p m [] x h e = (e, tt)
+noted-snoc w s p m (y ∷ l) x h e = (h .0, noted-snoc w s p m l x (h .1) e)
 
 -- ---- the ring
 

@@ -27,9 +27,10 @@ use Rattle.cells.specs.Layout.{mesh-end}
 use Rattle.cells.proofs.Frames.{rep-under}
 use Rattle.cells.proofs.Members.{Lookup, absent, present, lookup}
 use Rattle.plane.specs.Points.{Within, node-of}
-use Rattle.live_regions.specs.Stack.{top-or, Scratch, Hold, Met, PushTo, CanList, StepTo, StepFrom, LiveTo}
+use Rattle.live_regions.specs.Walls.{wall-mark}
+use Rattle.live_regions.specs.Stack.{listed, top-or, Scratch, Hold, Met, PushTo, CanList, StepTo, StepFrom, LiveTo}
 use Rattle.live_regions.specs.Visit.{out-after, stack-after}
-use Rattle.live_regions.proofs.Lists.{listed-out, on-top-other}
+use Rattle.live_regions.proofs.Lists.{listed-out, listed-first, visited-out, on-top-other}
 use Rattle.live_regions.proofs.Scratches.{scratch-trans, scratch-under}
 use Rattle.live_regions.proofs.Pushes.{few-out}
 
@@ -144,15 +145,18 @@ module _ (w : List ℕ) (s p n i : ℕ) (m : Mesh) (out seen st : List Live) (x 
       let o = h .top .hold in
       omega (arith, room (m .used) (slots (x ∷ seen)) ((listed-out (x .slot) seen (o .fresh .0), o .distinct)) ((rep-held w s p m (o .rep) (o .stack .0) .inside, o .below)), slots-length seen)
 
-  pub can-list : (w1 : List ℕ) → PushTo w w1 s p m out (x ∷ seen) st → CanList w1 s p n i m out (x ∷ seen) st x
-  can-list w1 f =
+  pub can-list : (w1 : List ℕ) (st' : List Live) (f : ℕ) → PushTo w w1 s p m out (x ∷ seen) st' → f ≡ wall-mark m x → CanList w1 s p n i f m out (x ∷ seen) st' x
+  can-list w1 st' f g e =
       record {
-        hold = f .hold;
+        hold = g .hold;
         slot = h .top .slot;
         has = h .top .hold .stack .0;
         tri = h .top .hold .stack .1;
         len = h .len;
         more = omega (arith, h .len, h .top .hold .few);
+        visited = listed-first x seen;
+        apart = visited-out i seen out (ap (λ (k : ℕ). listed k seen) (h .top .slot) ∙ h .top .hold .fresh .0) (h .top .hold .visited);
+        walls = e;
         inside = h .top .inside;
         room = omega (arith, h .len, h .top .hold .few, seen-few, h .top .hold .rep .used);
       }
@@ -268,9 +272,9 @@ module _ (w₀ w : List ℕ) (s p n k j : ℕ) (m : Mesh) (o : Node) (r : Float)
       → total ≡ live-region-from fuel m o r out seen st → s ≤ j → LiveTo w₀ w s p n m total
   unfolding live-region-from
   end-at zero out seen st h u l t f q =
-      subst (λ (z : List Live). LiveTo w₀ w s p n m z) (sym f) (record { len = l; few = omega (arith, l, few-out w s p m out seen st h); stored = h .stored; inner = h .inner; scratch = u })
+      subst (λ (z : List Live). LiveTo w₀ w s p n m z) (sym f) (record { len = l; few = omega (arith, l, few-out w s p m out seen st h); stored = h .stored; inner = h .inner; noted = h .noted; scratch = u })
   end-at (suc v) out seen [] h u l t f q =
-      subst (λ (z : List Live). LiveTo w₀ w s p n m z) (sym f) (record { len = l; few = omega (arith, l, few-out w s p m out seen [] h); stored = h .stored; inner = h .inner; scratch = u })
+      subst (λ (z : List Live). LiveTo w₀ w s p n m z) (sym f) (record { len = l; few = omega (arith, l, few-out w s p m out seen [] h); stored = h .stored; inner = h .inner; noted = h .noted; scratch = u })
   end-at (suc v) out seen (y ∷ st) h u l t f q = absurd (omega (arith, rep-held w s p m (h .rep) (h .stack .0) .inside, h .rep .used, t))
 
   module _ (g : Living w₀ w s p n k j m o r total) where
@@ -309,7 +313,7 @@ pub scratch-back : (w w' : List ℕ) (s p : ℕ) (m : Mesh) → Scratch w w' s p
 scratch-back w w' s p m k r = rep-under w' w s p (under-sym w w' (mesh-end s p) (scratch-under w w' s p k)) m r
 
 pub live-trans : (w w2 w3 : List ℕ) (s p r : ℕ) (m : Mesh) (out : List Live) → Scratch w w2 s p → LiveTo w2 w3 s p r m out → LiveTo w w3 s p r m out
-live-trans w w2 w3 s p r m out u f = record { len = f .len; few = f .few; stored = f .stored; inner = f .inner; scratch = scratch-trans w w2 w3 s p u (f .scratch) }
+live-trans w w2 w3 s p r m out u f = record { len = f .len; few = f .few; stored = f .stored; inner = f .inner; noted = f .noted; scratch = scratch-trans w w2 w3 s p u (f .scratch) }
 
 -- ---- the seed
 

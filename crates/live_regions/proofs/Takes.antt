@@ -1,7 +1,7 @@
 -- The top taken, a slot listed, and the beginning.
 use mathlib.Core.Path.{_≡_, ap, sym, _∙_, subst}
 use mathlib.Core.Logic.{_≢_}
-use mathlib.Core.Bool.{false, _||_}
+use mathlib.Core.Bool.{true, false, _||_}
 use mathlib.Core.List.{List, [], _∷_, _++_}
 use Prim.Native.Nat.{ℕ, zero, _+_, _*_, _≤_, _<_}
 use native.Mathlib.Omega.{arith}
@@ -18,9 +18,10 @@ use Rattle.cells.specs.Layout.{list-at, stack-at, all-end}
 use Rattle.cells.specs.Rep.{Rep, slots}
 use Rattle.cells.proofs.Corners.{out-right, slots-append}
 use Rattle.cells.proofs.Slots.{rep-held, slots-length}
-use Rattle.live_regions.specs.Stack.{rev, listed, mark, top-or, Scratch, Hold, PushTo, OnTop, CanList, Unmarked}
-use Rattle.live_regions.proofs.Lists.{out-unrev, distinct-last, without-last, listed-out, inner-snoc, fresh-more}
-use Rattle.live_regions.proofs.Scratches.{scratch-trans, scratch-mark, scratch-list, scratch-above, scratch-ring, scratch-rep, ring-set, can-unlink-in, ring-last}
+use Rattle.live_regions.specs.Walls.{wall-mark}
+use Rattle.live_regions.specs.Stack.{rev, listed, Mark, top-or, Scratch, Hold, PushTo, OnTop, CanList, Unmarked}
+use Rattle.live_regions.proofs.Lists.{out-unrev, distinct-last, without-last, listed-out, inner-snoc, fresh-more, visited-out, visited-more, visited-snoc}
+use Rattle.live_regions.proofs.Scratches.{scratch-trans, scratch-mark, scratch-list, scratch-above, scratch-ring, scratch-rep, ring-set, can-unlink-in, ring-last, noted-kept, noted-snoc}
 use Rattle.live_regions.proofs.Pushes.{few-out}
 
 -- the top is the last of the ring
@@ -53,18 +54,21 @@ module _ (w : List ℕ) (s p i : ℕ) (m : Mesh) (out seen st : List Live) (x : 
     ring1 : Ring w1 (stack-at s p) (s + 1) s (rev (slots st))
     ring1 = let is : i < s = h .inside in subst (λ (l : List ℕ). Ring w1 (stack-at s p) (s + 1) s l) same-list (u .rings (rev (slots (x ∷ st))) s (h .hold .ring) (λ z. omega arith))
 
-    marks : (k : ℕ) → k < m .used → getD w2 (20 * s + 3 * p + k) 0 ≡ mark (listed k (x ∷ seen)) (listed k st)
+    other : (k : ℕ) → k < m .used → k ≢ i → getD w2 (20 * s + 3 * p + k) 0 ≡ getD w (20 * s + 3 * p + k) 0
+    other k a y = low (20 * s + 3 * p + k) (omega (arith, a, h .hold .rep .used)) (λ z. y (omega arith))
+
+    marks : (k : ℕ) → k < m .used → Mark (getD w2 (20 * s + 3 * p + k) 0) (listed k (x ∷ seen)) (listed k st)
     unfolding any in-slot w2
     marks k a = go (decide k i)
       where
-        go : Same k i → getD (set w1 (20 * s + 3 * p + i) 2) (20 * s + 3 * p + k) 0 ≡ mark (eqb k (x .slot) || listed k seen) (listed k st)
+        go : Same k i → Mark (getD w2 (20 * s + 3 * p + k) 0) (eqb k (x .slot) || listed k seen) (listed k st)
         go (same y) =
-            rw (eq-eqb k (x .slot) (y ∙ h .slot))
-            (ap (λ (z : ℕ). getD (set w1 (20 * s + 3 * p + i) 2) (20 * s + 3 * p + z) 0) y ∙ on w1 (20 * s + 3 * p + i) 2 (omega (arith, h .hold .fits, h .inside, u .kept .len)))
+            let e : getD (set w1 (20 * s + 3 * p + i) 2) (20 * s + 3 * p + i) 0 ≡ 2 = on w1 (20 * s + 3 * p + i) 2 (omega (arith, h .hold .fits, h .inside, u .kept .len)) in
+            rw (eq-eqb k (x .slot) (y ∙ h .slot), y, e) (omega arith)
         go (differ y) =
             let n : eqb k (x .slot) ≡ false = ne-eqb k (x .slot) (λ z. y (z ∙ sym (h .slot))) in
-            let o : getD w (20 * s + 3 * p + k) 0 ≡ mark (listed k seen) (eqb k (x .slot) || listed k st) = h .hold .marks k a in
-            rw n (low (20 * s + 3 * p + k) (omega (arith, a, h .hold .rep .used)) (λ z. y (omega arith)) ∙ (rw n at o))
+            let o : Mark (getD w (20 * s + 3 * p + k) 0) (listed k seen) (eqb k (x .slot) || listed k st) = h .hold .marks k a in
+            rw (n, other k a y) (rw n at o)
 
     pub taken : PushTo w (set w1 (20 * s + 3 * p + i) 2) s p m out (x ∷ seen) st
     unfolding w2
@@ -85,33 +89,63 @@ module _ (w : List ℕ) (s p i : ℕ) (m : Mesh) (out seen st : List Live) (x : 
             stored = stored-kept w (set w1 (20 * s + 3 * p + i) 2) (list-at s p) (slots out)
                 (λ k a b. low k (omega (arith, fo, slots-length out)) (λ z. omega (arith, is, a))) (h .hold .stored);
             marks = marks;
+            visited = visited-more x seen out (h .hold .visited);
+            noted = noted-kept w (set w1 (20 * s + 3 * p + i) 2) s p i m out (h .hold .rep) (h .hold .inner)
+                (visited-out i seen out (ap (λ (k : ℕ). listed k seen) (h .slot) ∙ h .hold .fresh .0) (h .hold .visited)) other (h .hold .noted);
           };
           scratch = sc;
         }
 
--- x is listed
-pub listed-one : (w : List ℕ) (s p n i : ℕ) (m : Mesh) (out seen st : List Live) (x : Live) → CanList w s p n i m out seen st x
-    → PushTo w (set w (21 * s + 3 * p + n) i) s p m (out ++ x ∷ []) seen st
-listed-one w s p n i m out seen st x h = record { hold = hold; scratch = sc }
+-- the mark that tells walls is one of a slot seen
+mark-seen : (f : ℕ) (m : Mesh) (x : Live) → f ≡ wall-mark m x → 2 ≤ f
+unfolding wall-mark
+mark-seen f m x e = omega arith
+
+-- x is listed, and its walls are noted
+pub listed-one : (w : List ℕ) (s p n i f : ℕ) (m : Mesh) (out seen st : List Live) (x : Live) → CanList w s p n i f m out seen st x
+    → PushTo w (set (set w (21 * s + 3 * p + n) i) (20 * s + 3 * p + i) f) s p m (out ++ x ∷ []) seen st
+listed-one w s p n i f m out seen st x h = record { hold = hold; scratch = sc }
   where
     w1 : List ℕ
     w1 = set w (21 * s + 3 * p + n) i
 
+    w2 : List ℕ
+    w2 = set w1 (20 * s + 3 * p + i) f
+
     ns : n < s
     ns = h .room
 
-    sc : Scratch w w1 s p
-    sc = scratch-list w s p n i ns
+    is : i < s
+    is = h .inside
 
-    other : (k : ℕ) → k ≢ 21 * s + 3 * p + n → getD w1 k 0 ≡ getD w k 0
-    other k a = off w (21 * s + 3 * p + n) i k a
+    sc : Scratch w w2 s p
+    sc = scratch-trans w w1 w2 s p (scratch-list w s p n i ns) (scratch-mark w1 s p i f is)
 
-    hold : Hold w1 s p m (out ++ x ∷ []) seen st
+    other : (k : ℕ) → k ≢ 21 * s + 3 * p + n → k ≢ 20 * s + 3 * p + i → getD w2 k 0 ≡ getD w k 0
+    other k a b = off w1 (20 * s + 3 * p + i) f k b ∙ off w (21 * s + 3 * p + n) i k a
+
+    own : getD w2 (20 * s + 3 * p + i) 0 ≡ f
+    own = on w1 (20 * s + 3 * p + i) f (simp length-set (omega (arith, h .hold .fits, is)))
+
+    rest : (k : ℕ) → k < m .used → k ≢ i → getD w2 (20 * s + 3 * p + k) 0 ≡ getD w (20 * s + 3 * p + k) 0
+    rest k a y = other (20 * s + 3 * p + k) (λ z. omega (arith, a, h .hold .rep .used)) (λ z. y (omega arith))
+
+    marks : (k : ℕ) → k < m .used → Mark (getD w2 (20 * s + 3 * p + k) 0) (listed k seen) (listed k st)
+    marks k a = go (decide k i)
+      where
+        go : Same k i → Mark (getD w2 (20 * s + 3 * p + k) 0) (listed k seen) (listed k st)
+        go (same y) =
+            let v : listed k seen ≡ true = ap (λ (z : ℕ). listed z seen) (y ∙ h .slot) ∙ h .visited in
+            rw (v, y, own) (mark-seen f m x (h .walls))
+        go (differ y) = rw (rest k a y) (h .hold .marks k a)
+
+    hold : Hold w2 s p m (out ++ x ∷ []) seen st
     hold =
         record {
-          rep = scratch-rep w w1 s p m sc (h .hold .rep);
+          rep = scratch-rep w w2 s p m sc (h .hold .rep);
           fits = omega (arith, h .hold .fits, sc .len);
-          ring = ring-set w (stack-at s p) (s + 1) s (21 * s + 3 * p + n) i (rev (slots st)) (omega (arith, ns)) (h .hold .ring);
+          ring = ring-set w1 (stack-at s p) (s + 1) s (20 * s + 3 * p + i) f (rev (slots st)) (omega (arith, is))
+              (ring-set w (stack-at s p) (s + 1) s (21 * s + 3 * p + n) i (rev (slots st)) (omega (arith, ns)) (h .hold .ring));
           stack = h .hold .stack;
           inner = inner-snoc m out x (h .hold .inner) ((h .has, h .tri, tt));
           fresh = h .hold .fresh;
@@ -119,11 +153,13 @@ listed-one w s p n i m out seen st x h = record { hold = hold; scratch = sc }
           below = h .hold .below;
           few = omega (arith, length-append out (x ∷ []), h .more, h .len);
           stored = rw (slots-append out (x ∷ []))
-              (stored-snoc w1 (list-at s p) (x .slot) (slots out)
-              (stored-kept w w1 (list-at s p) (slots out) (λ k a b. other k (λ z. omega (arith, h .len, slots-length out))) (h .hold .stored))
+              (stored-snoc w2 (list-at s p) (x .slot) (slots out)
+              (stored-kept w w2 (list-at s p) (slots out) (λ k a b. other k (λ z. omega (arith, h .len, slots-length out)) (λ z. omega (arith, a, is))) (h .hold .stored))
               (let y : list-at s p + length (slots out) ≡ 21 * s + 3 * p + n = omega (arith, h .len, slots-length out) in
-              ap (λ (z : ℕ). getD w1 z 0) y ∙ on w (21 * s + 3 * p + n) i (omega (arith, h .hold .fits, ns)) ∙ h .slot));
-          marks = λ k a. other (20 * s + 3 * p + k) (λ z. omega (arith, a, h .hold .rep .used)) ∙ h .hold .marks k a;
+              ap (λ (z : ℕ). getD w2 z 0) y ∙ off w1 (20 * s + 3 * p + i) f (21 * s + 3 * p + n) (λ z. omega (arith, is)) ∙ on w (21 * s + 3 * p + n) i (omega (arith, h .hold .fits, ns)) ∙ h .slot));
+          marks = marks;
+          visited = visited-snoc seen out x (h .hold .visited) (h .visited);
+          noted = noted-snoc w2 s p m out x (noted-kept w w2 s p i m out (h .hold .rep) (h .hold .inner) (h .apart) rest (h .hold .noted)) (ap (λ (z : ℕ). getD w2 (20 * s + 3 * p + z) 0) (sym (h .slot)) ∙ own ∙ h .walls);
         }
 
 -- ---- the beginning
@@ -191,4 +227,6 @@ emptied w w1 s p n m d r e c = record { hold = hold; scratch = sc }
           few = omega arith;
           stored = tt;
           marks = λ k a. low (20 * s + 3 * p + k) (omega (arith, a, r .used)) ∙ c .zero k (omega (arith, a, e));
+          visited = tt;
+          noted = tt;
         }

@@ -1,2 +1,3 @@
+pub mod Walls
 pub mod Stack
 pub mod Visit

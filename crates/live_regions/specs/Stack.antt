@@ -1,16 +1,18 @@
 -- The live region in hand: a mark for each slot, the list of the cells in reach, and the stack as a ring of s + 1 codes with the sentinel s.
 use mathlib.Core.Path.{_≡_}
 use mathlib.Core.Bool.{Bool, true, false}
-use mathlib.Core.List.{List, [], _∷_, _++_}
+use mathlib.Core.List.{List, [], _∷_, _++_, foldl}
 use Prim.Native.Nat.{ℕ, _+_, _^_, _<_, _≤_}
 use lib.ListN.{length, getD}
 use lib.Ieee.{Float}
-use Rattle.rings.specs.Rings.{Distinct, Below, Ring}
+use Rattle.rings.specs.Rings.{Out, Distinct, Below, Ring}
 use Rattle.definition.specs.Lists.{any}
-use Rattle.definition.specs.Cells.{Live, Mesh, live-tri, in-slot}
+use Rattle.definition.specs.Cells.{Live, Mesh, live-tri, in-slot, key, owners}
+use Rattle.definition.specs.Candidates.{on-top, neighbours, shared-by-tris}
 use Rattle.laws.specs.Lists.{Stored}
 use Rattle.cells.specs.Layout.{codes, marks-at, list-at, refused-at, stack-at, all-end}
 use Rattle.cells.specs.Rep.{Rep, Pts, Has, slots}
+use Rattle.live_regions.specs.Walls.{wall-mark}
 
 -- each is a live triangle
 abbrev pub Inner : Mesh → List Live → Type 0
@@ -26,11 +28,21 @@ rev (x ∷ l) = rev l ++ x ∷ []
 abbrev pub listed : ℕ → List Live → Bool
 listed i l = any (in-slot i) l
 
--- 2 seen, 1 on the stack, 0 neither
-abbrev pub mark : Bool → Bool → ℕ
-mark true b = 2
-mark false true = 1
-mark false false = 0
+-- the mark of a slot: 2 or more seen, 1 on the stack, 0 neither
+abbrev pub Mark : ℕ → Bool → Bool → Type 0
+Mark n true b = 2 ≤ n
+Mark n false true = n ≡ 1
+Mark n false false = n ≡ 0
+
+-- each was seen
+abbrev pub Visited : List Live → List Live → Type 0
+Visited seen [] = Unit {0}
+Visited seen (x ∷ l) = (listed (x .slot) seen ≡ true) × Visited seen l
+
+-- the mark of each tells its walls
+abbrev pub Noted : List ℕ → ℕ → ℕ → Mesh → List Live → Type 0
+Noted w s p m [] = Unit {0}
+Noted w s p m (x ∷ l) = (getD w (marks-at s p + x .slot) 0 ≡ wall-mark m x) × Noted w s p m l
 
 -- none of the second was seen
 abbrev pub Fresh : List Live → List Live → Type 0
@@ -60,12 +72,24 @@ pub record Hold (w : List ℕ) (s p : ℕ) (m : Mesh) (out seen st : List Live) 
   pub below : Below (m .used) (slots seen)
   pub few : length out ≤ length seen
   pub stored : Stored w (list-at s p) (slots out)
-  pub marks : (i : ℕ) → i < m .used → getD w (marks-at s p + i) 0 ≡ mark (listed i seen) (listed i st)
+  pub marks : (i : ℕ) → i < m .used → Mark (getD w (marks-at s p + i) 0) (listed i seen) (listed i st)
+  pub visited : Visited seen out
+  pub noted : Noted w s p m out
 
 -- and so after a change
 pub record PushTo (w w' : List ℕ) (s p : ℕ) (m : Mesh) (out seen st : List Live) : Type 0 where
   pub hold : Hold w' s p m out seen st
   pub scratch : Scratch w w' s p
+
+-- and so with the owners of u-v pushed; r tells whether they are two triangles
+pub record EdgeTo (w w' : List ℕ) (s p u v : ℕ) (r : Bool) (m : Mesh) (out seen st : List Live) : Type 0 where
+  pub to : PushTo w w' s p m out seen (foldl (on-top seen) st (owners m (key u v)))
+  pub shared : r ≡ shared-by-tris m (key u v)
+
+-- and so with the neighbours of x pushed; r tells its walls
+pub record AroundTo (w w' : List ℕ) (s p r : ℕ) (m : Mesh) (out seen st : List Live) (x : Live) : Type 0 where
+  pub to : PushTo w w' s p m out seen (foldl (on-top seen) st (neighbours m x))
+  pub walls : r ≡ wall-mark m x
 
 -- the live cell e, in slot j, is met
 pub record Met (w : List ℕ) (s p j : ℕ) (m : Mesh) (out seen st : List Live) (e : Live) : Type 0 where
@@ -85,14 +109,17 @@ pub record StepFrom (w : List ℕ) (s p n i : ℕ) (m : Mesh) (out seen st : Lis
   pub top : OnTop w s p i m out seen st x
   pub len : n ≡ length out
 
--- x, in slot i, may come to the end of the list of n
-pub record CanList (w : List ℕ) (s p n i : ℕ) (m : Mesh) (out seen st : List Live) (x : Live) : Type 0 where
+-- x, in slot i, may come to the end of the list of n, with the mark f
+pub record CanList (w : List ℕ) (s p n i f : ℕ) (m : Mesh) (out seen st : List Live) (x : Live) : Type 0 where
   pub hold : Hold w s p m out seen st
   pub slot : i ≡ x .slot
   pub has : Has x (m .live)
   pub tri : live-tri x ≡ true
   pub len : n ≡ length out
   pub more : n < length seen
+  pub visited : listed (x .slot) seen ≡ true
+  pub apart : Out i (slots out)
+  pub walls : f ≡ wall-mark m x
   pub inside : i < s
   pub room : n < s
 
@@ -107,12 +134,13 @@ pub record Lent (w : List ℕ) (q : List Float) (s p used : ℕ) (m : Mesh) : Ty
   pub pts : Pts q p m
   pub given : used ≡ m .used
 
--- the r live triangles `out` are listed in their order
+-- the r live triangles `out` are listed in their order, with their walls noted
 pub record LiveTo (w w' : List ℕ) (s p r : ℕ) (m : Mesh) (out : List Live) : Type 0 where
   pub len : r ≡ length out
   pub few : r ≤ s
   pub stored : Stored w' (list-at s p) (slots out)
   pub inner : Inner m out
+  pub noted : Noted w' s p m out
   pub scratch : Scratch w w' s p
 
 -- the marks of the first n slots are 0

@@ -74,8 +74,8 @@ fn step(
 {
     take(w, s, p, i);
     if is_near(w, q, s, p, i, x, y, r) {
-        list_one(w, s, p, n, i);
-        push_around(w, s, p, i);
+        let f = push_around(w, s, p, i);
+        list_one(w, s, p, n, i, f);
         return n + 1;
     }
     n

@@ -6,15 +6,17 @@ use rings::link;
 use rings::unlink;
 use rings::wide;
 ghost use mathlib.Core.Path.{_≡_};
-ghost use mathlib.Core.List.{List, [], _∷_, _++_, foldl};
+ghost use mathlib.Core.List.{List, [], _∷_, _++_};
 ghost use Prim.Native.Nat.{ℕ, _+_, _*_, _<_, _≤_};
-ghost use Rattle.definition.specs.Cells.{Live, Mesh, tri, new-live, key, owners};
-ghost use Rattle.definition.specs.Candidates.{on-top, neighbours};
+ghost use lib.Dec.{eqb};
+ghost use Rattle.definition.specs.Cells.{Live, Mesh, tri, new-live};
+ghost use Rattle.definition.specs.Candidates.{on-top};
 ghost use Rattle.cells.specs.Rep.{Rep, TriIn};
 ghost use Rattle.cells.specs.Layout.{all-end};
 ghost use Rattle.cells.specs.Walk.{IsEdge};
-ghost use lib.ListN.{length};
-ghost use Rattle.live_regions.specs.Stack.{Hold, Met, PushTo, OnTop, CanList, CanClear, Unmarked, top-or};
+ghost use lib.ListN.{length, getD};
+ghost use Rattle.live_regions.specs.Stack.{Hold, Met, PushTo, EdgeTo, AroundTo, OnTop, CanList, CanClear, Unmarked, top-or};
+ghost use Rattle.live_regions.specs.Walls.{counted, tally-with};
 
 // The marks of the first n slots are cleared.
 fn clear_marks(w: &mut [u32], s: usize, p: usize, n: usize)
@@ -45,7 +47,7 @@ pub fn push_one(w: &mut [u32], s: usize, p: usize, j: usize)
     ensures { λ r. ⌜ ((m : Mesh) (out seen st : List Live) (e : Live) → Met (now (w .entry)) s p j m out seen st e → PushTo (now (w .entry)) (now (w .exit)) s p m out seen (on-top seen st e)) ⌝ }
 {
     let m = w[20 * s + 3 * p + j];
-    if m == 2 {
+    if m >= 2 {
         return;
     }
     if w[j] != 3 {
@@ -60,31 +62,62 @@ pub fn push_one(w: &mut [u32], s: usize, p: usize, j: usize)
     link(w, 58 * s + 8 * p, s + 1, j, s);
 }
 
-// The owners of u-v are pushed.
-fn push_edge(w: &mut [u32], s: usize, p: usize, u: usize, v: usize)
+// The tally k of an edge's owners with one more, in slot j: their number while all are triangles and at most two, 3 otherwise.
+fn tallied(w: &[u32], j: usize, k: usize) -> usize
+    requires { ⌜ j < length (now w) ⌝ }
+    ensures { λ r. ⌜ r ≡ tally-with (eqb (getD (now (w .entry)) j 0) 3) k ⌝ }
+{
+    if w[j] != 3 {
+        return 3;
+    }
+    if k == 0 {
+        return 1;
+    }
+    if k == 1 {
+        return 2;
+    }
+    3
+}
+
+// The owners of u-v are pushed; whether they are two triangles.
+fn push_edge(w: &mut [u32], s: usize, p: usize, u: usize, v: usize) -> bool
     requires { ⌜ ((m : Mesh) × (out : List Live) × (seen : List Live) × (st : List Live) × Hold (now w) s p m out seen st) ⌝ }
     requires { ⌜ IsEdge p u v ⌝ }
-    ensures { λ r. ⌜ ((m : Mesh) (out seen st : List Live) → Hold (now (w .entry)) s p m out seen st → PushTo (now (w .entry)) (now (w .exit)) s p m out seen (foldl (on-top seen) st (owners m (key u v)))) ⌝ }
+    ensures { λ r. ⌜ ((m : Mesh) (out seen st : List Live) → Hold (now (w .entry)) s p m out seen st → EdgeTo (now (w .entry)) (now (w .exit)) s p u v r m out seen st) ⌝ }
 {
+    let mut k: usize = 0;
     let mut c = first_owner(w, s, p, u, v);
     while c < 4 * s {
+        k = tallied(w, c / 4, k);
         push_one(w, s, p, c / 4);
         c = next_owner(w, s, p, u, v, c);
     }
+    k == 2
 }
 
-// The owners of the edges of the triangle x in slot i are pushed, edge after edge.
-pub fn push_around(w: &mut [u32], s: usize, p: usize, i: usize)
+// What an edge adds to the mark of its triangle: k where it is a wall.
+fn counted(shared: bool, k: u32) -> u32
+    ensures { λ r. ⌜ r ≡ counted shared k ⌝ }
+{
+    if shared {
+        return 0;
+    }
+    k
+}
+
+// The owners of the edges of the triangle x in slot i are pushed, edge after edge; the mark that tells its walls.
+pub fn push_around(w: &mut [u32], s: usize, p: usize, i: usize) -> u32
     requires { ⌜ ((m : Mesh) × (out : List Live) × (seen : List Live) × (st : List Live) × Hold (now w) s p m out seen st × TriIn m i) ⌝ }
     requires { ⌜ i < s ⌝ }
-    ensures { λ r. ⌜ ((m : Mesh) (out seen st : List Live) (x : Live) → Hold (now (w .entry)) s p m out seen st → (t : TriIn m i) → x ≡ new-live i (tri (t .t)) → PushTo (now (w .entry)) (now (w .exit)) s p m out seen (foldl (on-top seen) st (neighbours m x))) ⌝ }
+    ensures { λ r. ⌜ ((m : Mesh) (out seen st : List Live) (x : Live) → Hold (now (w .entry)) s p m out seen st → (t : TriIn m i) → x ≡ new-live i (tri (t .t)) → AroundTo (now (w .entry)) (now (w .exit)) s p r m out seen st x) ⌝ }
 {
     let x = node(w, s, i, 0);
     let y = node(w, s, i, 1);
     let z = node(w, s, i, 2);
-    push_edge(w, s, p, x, y);
-    push_edge(w, s, p, y, z);
-    push_edge(w, s, p, z, x);
+    let a = counted(push_edge(w, s, p, x, y), 1);
+    let b = counted(push_edge(w, s, p, y, z), 2);
+    let c = counted(push_edge(w, s, p, z, x), 4);
+    8 + a + b + c
 }
 
 // The slot on top of the stack; s: there is none.
@@ -104,10 +137,11 @@ pub fn take(w: &mut [u32], s: usize, p: usize, i: usize)
     w[20 * s + 3 * p + i] = 2;
 }
 
-// The slot i comes to the end of the list of n.
-pub fn list_one(w: &mut [u32], s: usize, p: usize, n: usize, i: usize)
-    requires { ⌜ ((m : Mesh) × (out : List Live) × (seen : List Live) × (st : List Live) × (x : Live) × CanList (now w) s p n i m out seen st x) ⌝ }
-    ensures { λ r. ⌜ ((m : Mesh) (out seen st : List Live) (x : Live) → CanList (now (w .entry)) s p n i m out seen st x → PushTo (now (w .entry)) (now (w .exit)) s p m (out ++ x ∷ []) seen st) ⌝ }
+// The slot i comes to the end of the list of n, with the mark f.
+pub fn list_one(w: &mut [u32], s: usize, p: usize, n: usize, i: usize, f: u32)
+    requires { ⌜ ((m : Mesh) × (out : List Live) × (seen : List Live) × (st : List Live) × (x : Live) × CanList (now w) s p n i f m out seen st x) ⌝ }
+    ensures { λ r. ⌜ ((m : Mesh) (out seen st : List Live) (x : Live) → CanList (now (w .entry)) s p n i f m out seen st x → PushTo (now (w .entry)) (now (w .exit)) s p m (out ++ x ∷ []) seen st) ⌝ }
 {
     w[21 * s + 3 * p + n] = i as u32;
+    w[20 * s + 3 * p + i] = f;
 }

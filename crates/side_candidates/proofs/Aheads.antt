@@ -1,9 +1,10 @@
--- A side candidate, test after test.
+-- A node in view, test after test, and side candidates.
 use mathlib.Core.Path.{_≡_, ap, sym, _∙_}
 use mathlib.Core.Logic.{_≢_}
-use mathlib.Core.Bool.{Bool, true, false}
+use mathlib.Core.Bool.{Bool, true, false, not, _&&_, and-true}
 use mathlib.Core.List.{List}
 use Prim.Native.Nat.{ℕ}
+use lib.Dec.{eqb}
 use lib.ListN.{length}
 use lib.Ieee.{Float}
 use borrow.Author.Tests.{eq-eqb, ne-eqb}
@@ -15,7 +16,7 @@ use Rattle.definition.specs.Candidates.{ahead, walls, segment-inside, side-cand
 use Rattle.definition.specs.Call.{point-at}
 use Rattle.cells.specs.Rep.{Pts}
 use Rattle.plane.specs.Points.{node-of}
-use Rattle.side_candidates.specs.Hand.{Ends}
+use Rattle.side_candidates.specs.Hand.{Ends, in-view}
 
 -- the way from a to v, by the points as they are read
 pub ahead-read : (y : Quality) (q : List Float) (p : ℕ) (m : Mesh) → Pts q p m → (a v : ℕ) → Ends m a v → (n d : Vec) (target : Float) → d ≡ from-to (point-at q a) (point-at q v)
@@ -24,25 +25,25 @@ ahead-read y q p m k a v e n d target h =
     let r = node-of m (length (m .points)) q (k .are) in
     ap (λ (z : Vec). ahead y n z target) (h ∙ ap (λ (z : Node). from-to z (point-at q v)) (sym (r a (e .first))) ∙ ap (from-to (node-at m a)) (sym (r v (e .second))))
 
-module _ (y : Quality) (m : Mesh) (a other : ℕ) (n : Vec) (target : Float) (g : List Live) (v : ℕ) where
-  pub side-same : v ≡ a → false ≡ side-candidate y m a other n target g (walls m g) v
-  unfolding side-candidate
-  side-same e = rw (eq-eqb v a e)
+module _ (m : Mesh) (a other : ℕ) (g : List Live) (v : ℕ) where
+  pub view-same : v ≡ a → false ≡ in-view m a other g v
+  unfolding in-view
+  view-same e = rw (eq-eqb v a e)
 
-  pub side-other : v ≢ a → v ≡ other → false ≡ side-candidate y m a other n target g (walls m g) v
-  unfolding side-candidate
-  side-other d e = rw (ne-eqb v a d, eq-eqb v other e)
+  pub view-other : v ≢ a → v ≡ other → false ≡ in-view m a other g v
+  unfolding in-view
+  view-other d e = rw (ne-eqb v a d, eq-eqb v other e)
 
-  pub side-outside : v ≢ a → v ≢ other → false ≡ any (has-node v) g → false ≡ side-candidate y m a other n target g (walls m g) v
-  unfolding side-candidate
-  side-outside d e f = rw (ne-eqb v a d, ne-eqb v other e, ← f)
+  pub view-outside : v ≢ a → v ≢ other → false ≡ any (has-node v) g → false ≡ in-view m a other g v
+  unfolding in-view
+  view-outside d e f = rw (ne-eqb v a d, ne-eqb v other e, ← f)
 
-  pub side-behind : v ≢ a → v ≢ other → true ≡ any (has-node v) g → false ≡ ahead y n (from-to (node-at m a) (node-at m v)) target
-      → false ≡ side-candidate y m a other n target g (walls m g) v
-  unfolding side-candidate
-  side-behind d e f h = rw (ne-eqb v a d, ne-eqb v other e, ← f, ← h)
+  pub view-inside : (x : Bool) → v ≢ a → v ≢ other → true ≡ any (has-node v) g → x ≡ segment-inside m a v (walls m g) → x ≡ in-view m a other g v
+  unfolding in-view
+  view-inside x d e f k = rw (ne-eqb v a d, ne-eqb v other e, ← f) k
 
-  pub side-inside : (x : Bool) → v ≢ a → v ≢ other → true ≡ any (has-node v) g → true ≡ ahead y n (from-to (node-at m a) (node-at m v)) target
-      → x ≡ segment-inside m a v (walls m g) → x ≡ side-candidate y m a other n target g (walls m g) v
-  unfolding side-candidate
-  side-inside x d e f h k = rw (ne-eqb v a d, ne-eqb v other e, ← f, ← h) k
+  -- a side candidate, where it is ahead
+  pub side-ahead : (y : Quality) (n : Vec) (target : Float) → true ≡ ahead y n (from-to (node-at m a) (node-at m v)) target
+      → in-view m a other g v ≡ side-candidate y m a other n target g (walls m g) v
+  unfolding in-view side-candidate
+  side-ahead y n target h = rw (← h, and-true (not (eqb v a) && not (eqb v other) && any (has-node v) g))

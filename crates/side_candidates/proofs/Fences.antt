@@ -1,9 +1,9 @@
 -- A segment and the edges of a region: edge after edge, cell after cell.
 use mathlib.Core.Path.{_≡_, refl, ap, sym, _∙_}
 use mathlib.Core.Logic.{_≢_}
-use mathlib.Core.Bool.{Bool, true, false, not, _&&_, _||_, and-true, or-false, or-true}
+use mathlib.Core.Bool.{Bool, true, false, not, _&&_, _||_, and-true, or-false}
 use mathlib.Core.List.{List, [], _∷_, _++_}
-use Prim.Native.Nat.{ℕ, _≤_, _<_}
+use Prim.Native.Nat.{ℕ, _+_, _/_, _%_, _≤_, _<_}
 use native.Mathlib.Omega.{arith}
 use lib.Dec.{eqb}
 use lib.ListN.{length}
@@ -18,6 +18,8 @@ use Rattle.definition.specs.Call.{point-at}
 use Rattle.laws.specs.Numbers.{eqb-swap}
 use Rattle.cells.specs.Rep.{Pts}
 use Rattle.plane.specs.Points.{node-of}
+use Rattle.live_regions.specs.Walls.{counted, wall-mark}
+use Rattle.live_regions.proofs.Tallies.{mark-is}
 use Rattle.side_candidates.specs.Hand.{Ends, open-edge}
 
 -- ---- one edge
@@ -51,15 +53,75 @@ crosses-read q p m k a b u v e f =
     rw (r a (e .first), r b (e .second), r u (f .first), r v (f .second))
 
 module _ (m : Mesh) (a b : ℕ) (e : Edge) where
-  pub open-clear : true ≡ passes-by m a b e → true ≡ open-edge m a b e
+  pub open-shared : true ≡ shared-by-tris m e → true ≡ open-edge m a b e
   unfolding open-edge
-  open-clear h = rw (← h, or-true (shared-by-tris m e))
+  open-shared h = rw (← h)
 
-  pub open-crossed : (x : Bool) → false ≡ passes-by m a b e → x ≡ shared-by-tris m e → x ≡ open-edge m a b e
+  pub open-wall : (x : Bool) → false ≡ shared-by-tris m e → x ≡ passes-by m a b e → x ≡ open-edge m a b e
   unfolding open-edge
-  open-crossed x h k = rw (← h, ← k, or-false x)
+  open-wall x h k = rw (← h) k
 
 -- ---- one triangle
+
+-- the mark as a number, by which edges are shared
+marked : Bool → Bool → Bool → ℕ
+marked a b c = 8 + counted a 1 + counted b 2 + counted c 4
+
+bit-0 : (a b c : Bool) → eqb (marked a b c % 2) 0 ≡ a
+unfolding marked
+bit-0 true true true = refl
+bit-0 true true false = refl
+bit-0 true false true = refl
+bit-0 true false false = refl
+bit-0 false true true = refl
+bit-0 false true false = refl
+bit-0 false false true = refl
+bit-0 false false false = refl
+
+bit-1 : (a b c : Bool) → eqb (marked a b c / 2 % 2) 0 ≡ b
+unfolding marked
+bit-1 true true true = refl
+bit-1 true true false = refl
+bit-1 true false true = refl
+bit-1 true false false = refl
+bit-1 false true true = refl
+bit-1 false true false = refl
+bit-1 false false true = refl
+bit-1 false false false = refl
+
+bit-2 : (a b c : Bool) → eqb (marked a b c / 4 % 2) 0 ≡ c
+unfolding marked
+bit-2 true true true = refl
+bit-2 true true false = refl
+bit-2 true false true = refl
+bit-2 true false false = refl
+bit-2 false true true = refl
+bit-2 false true false = refl
+bit-2 false false true = refl
+bit-2 false false false = refl
+
+module _ (m : Mesh) (i f : ℕ) (t : Tri) (h : f ≡ wall-mark m (new-live i (tri t))) where
+  told : f ≡ marked (shared-by-tris m (key (t .n0) (t .n1))) (shared-by-tris m (key (t .n1) (t .n2))) (shared-by-tris m (key (t .n2) (t .n0)))
+  unfolding marked
+  told = h ∙ mark-is m i t
+
+  pub shared-0 : eqb (f % 2) 0 ≡ shared-by-tris m (key (t .n0) (t .n1))
+  shared-0 = ap (λ (j : ℕ). eqb (j % 2) 0) told ∙ bit-0 (shared-by-tris m (key (t .n0) (t .n1))) (shared-by-tris m (key (t .n1) (t .n2))) (shared-by-tris m (key (t .n2) (t .n0)))
+
+  pub shared-1 : eqb (f / 2 % 2) 0 ≡ shared-by-tris m (key (t .n1) (t .n2))
+  shared-1 = ap (λ (j : ℕ). eqb (j / 2 % 2) 0) told ∙ bit-1 (shared-by-tris m (key (t .n0) (t .n1))) (shared-by-tris m (key (t .n1) (t .n2))) (shared-by-tris m (key (t .n2) (t .n0)))
+
+  pub shared-2 : eqb (f / 4 % 2) 0 ≡ shared-by-tris m (key (t .n2) (t .n0))
+  shared-2 = ap (λ (j : ℕ). eqb (j / 4 % 2) 0) told ∙ bit-2 (shared-by-tris m (key (t .n0) (t .n1))) (shared-by-tris m (key (t .n1) (t .n2))) (shared-by-tris m (key (t .n2) (t .n0)))
+
+  -- without a wall
+  pub cell-clear : (a b : ℕ) → f ≡ 8 → true ≡ all (open-edge m a b) (tri-edges t)
+  unfolding all tri-edges
+  cell-clear a b e =
+      let x = open-shared m a b (key (t .n0) (t .n1)) (ap (λ (j : ℕ). eqb (j % 2) 0) (sym e) ∙ shared-0) in
+      let y = open-shared m a b (key (t .n1) (t .n2)) (ap (λ (j : ℕ). eqb (j / 2 % 2) 0) (sym e) ∙ shared-1) in
+      let z = open-shared m a b (key (t .n2) (t .n0)) (ap (λ (j : ℕ). eqb (j / 4 % 2) 0) (sym e) ∙ shared-2) in
+      rw (← x, ← y, ← z)
 
 module _ (m : Mesh) (a b : ℕ) (t : Tri) where
   pub cell-0 : false ≡ open-edge m a b (key (t .n0) (t .n1)) → false ≡ all (open-edge m a b) (tri-edges t)

@@ -1,4 +1,3 @@
-pub mod Shared
 pub mod Fences
 pub mod Scans
 pub mod Aheads

@@ -7,14 +7,15 @@ use native.Mathlib.Omega.{arith}
 use lib.ListN.{length, getD}
 use lib.Ieee.{Float}
 use Rattle.definition.specs.Lists.{all, any}
-use Rattle.definition.specs.Cells.{Live, Mesh, new-live, edges, tri-edges, has-node, tri-has}
+use Rattle.definition.specs.Cells.{Live, Mesh, tri, new-live, edges, tri-edges, has-node, tri-has}
 use Rattle.definition.specs.Candidates.{walls, segment-inside}
 use Rattle.laws.specs.Lists.{Stored}
 use Rattle.live_regions.proofs.Scratches.{scratch-rep}
-use Rattle.cells.specs.Layout.{list-at}
+use Rattle.cells.specs.Layout.{marks-at, list-at}
 use Rattle.cells.specs.Rep.{Rep, slots}
 use Rattle.cells.proofs.Slots.{rep-held}
-use Rattle.live_regions.specs.Stack.{Inner, Lent, LiveTo}
+use Rattle.live_regions.specs.Walls.{wall-mark}
+use Rattle.live_regions.specs.Stack.{Inner, Noted, Lent, LiveTo}
 use Rattle.live_regions.proofs.Steps.{TopTri, tri-top}
 use Rattle.side_candidates.specs.Hand.{InHand, open-edge}
 use Rattle.side_candidates.proofs.Fences.{open-cell, inside-cells, has-tri}
@@ -23,6 +24,7 @@ use Rattle.side_candidates.proofs.Fences.{open-cell, inside-cells, has-
 pub record Scan (w : List ℕ) (s p n k : ℕ) (m : Mesh) (rest : List Live) : Type 0 where
   pub stored : Stored w (list-at s p + k) (slots rest)
   pub inner : Inner m rest
+  pub noted : Noted w s p m rest
   pub len : k + length rest ≡ n
 
 pub scan-start : (w : List ℕ) (q : List Float) (s p n : ℕ) (m : Mesh) (region : List Live) → InHand w q s p n m region → Scan w s p n 0 m region
@@ -30,6 +32,7 @@ scan-start w q s p n m region h =
     record {
       stored = (let e : list-at s p ≡ list-at s p + 0 = omega arith in subst (λ (b : ℕ). Stored w b (slots region)) e (h .stored));
       inner = h .inner;
+      noted = h .noted;
       len = omega (arith, h .len);
     }
 
@@ -39,6 +42,7 @@ pub record Spot (w : List ℕ) (s p n k i : ℕ) (m : Mesh) (rest : List Live) :
   pub more : List Live
   pub is : rest ≡ x ∷ more
   pub top : TopTri m i x
+  pub walls : getD w (marks-at s p + i) 0 ≡ wall-mark m x
   pub inside : i < s
   pub next : Scan w s p n (k + 1) m more
 
@@ -52,8 +56,9 @@ scan-here w s p n k i m (x ∷ more) r h l e =
       more = more;
       is = refl;
       top = tri-top m i x z (h .inner .0) (h .inner .1);
+      walls = ap (λ (j : ℕ). getD w (marks-at s p + j) 0) z ∙ h .noted .0;
       inside = omega (arith, rep-held w s p m r (h .inner .0) .inside, r .used);
-      next = record { stored = subst (λ (c : ℕ). Stored w c (slots more)) b (h .stored .1); inner = h .inner .2; len = omega (arith, h .len) };
+      next = record { stored = subst (λ (c : ℕ). Stored w c (slots more)) b (h .stored .1); inner = h .inner .2; noted = h .noted .1; len = omega (arith, h .len) };
     }
 
 -- all cells pass so far: those from k on decide
@@ -102,6 +107,10 @@ module _ (w : List ℕ) (s p n k : ℕ) (m : Mesh) (f : Live → Bool) (total : 
     unfolding any
     failing-more h g e = let z : any f (g .x ∷ g .more) ≡ any f (g .more) = rw e in record { rest = g .more; scan = g .next; same = h .same ∙ ap (any f) (g .is) ∙ z }
 
+-- the mark at a place, by its triangle
+pub spot-walls : (w : List ℕ) (s p n k i : ℕ) (m : Mesh) (rest : List Live) (g : Spot w s p n k i m rest) → getD w (marks-at s p + i) 0 ≡ wall-mark m (new-live i (tri (g .top .t .t)))
+spot-walls w s p n k i m rest g = g .walls ∙ ap (wall-mark m) (g .top .is)
+
 -- the tests of the cell at a place, by its triangle
 pub spot-open : (m : Mesh) (i a b : ℕ) (x : Live) (g : TopTri m i x) → open-cell m a b x ≡ all (open-edge m a b) (tri-edges (g .t .t))
 unfolding edges new-live
@@ -120,4 +129,4 @@ failing-start w q s p n v m region h = record { rest = region; scan = scan-start
 -- the region of a search in hand
 pub in-hand : (w w' : List ℕ) (q : List Float) (s p used k : ℕ) (m : Mesh) (region : List Live) → Lent w q s p used m → LiveTo w w' s p k m region → InHand w' q s p k m region
 in-hand w w' q s p used k m region l h =
-    record { rep = scratch-rep w w' s p m (h .scratch) (l .rep); pts = l .pts; len = h .len; few = h .few; stored = h .stored; inner = h .inner }
+    record { rep = scratch-rep w w' s p m (h .scratch) (l .rep); pts = l .pts; len = h .len; few = h .few; stored = h .stored; inner = h .inner; noted = h .noted }

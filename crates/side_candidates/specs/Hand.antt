@@ -1,19 +1,21 @@
 -- The region in hand, and what the tests on it ask.
 use mathlib.Core.Path.{_≡_}
-use mathlib.Core.Bool.{Bool, _||_}
+use mathlib.Core.Bool.{Bool, not, _&&_, _||_}
 use mathlib.Core.List.{List}
 use Prim.Native.Nat.{ℕ, _<_, _≤_}
+use lib.Dec.{eqb}
 use lib.ListN.{length}
 use lib.Ieee.{Float}
 use Rattle.definition.specs.Plane.{Edge}
-use Rattle.definition.specs.Cells.{Live, Mesh}
-use Rattle.definition.specs.Candidates.{shared-by-tris, passes-by}
+use Rattle.definition.specs.Lists.{any}
+use Rattle.definition.specs.Cells.{Live, Mesh, has-node}
+use Rattle.definition.specs.Candidates.{shared-by-tris, passes-by, walls, segment-inside}
 use Rattle.laws.specs.Lists.{Stored}
 use Rattle.cells.specs.Layout.{list-at}
 use Rattle.cells.specs.Rep.{Rep, Pts, slots}
-use Rattle.live_regions.specs.Stack.{Inner}
+use Rattle.live_regions.specs.Stack.{Inner, Noted}
 
--- the slices stand for the mesh, and the list has the n triangles of the region
+-- the slices stand for the mesh, and the list has the n triangles of the region, whose marks tell their walls
 pub record InHand (w : List ℕ) (q : List Float) (s p n : ℕ) (m : Mesh) (region : List Live) : Type 0 where
   pub rep : Rep w s p m
   pub pts : Pts q p m
@@ -21,6 +23,7 @@ pub record InHand (w : List ℕ) (q : List Float) (s p n : ℕ) (m : Mesh) (regi
   pub few : n ≤ s
   pub stored : Stored w (list-at s p) (slots region)
   pub inner : Inner m region
+  pub noted : Noted w s p m region
 
 -- the ends of a segment are nodes of the mesh
 pub record Ends (m : Mesh) (a b : ℕ) : Type 0 where
@@ -30,3 +33,7 @@ pub record Ends (m : Mesh) (a b : ℕ) : Type 0 where
 -- two triangles share the edge, or the segment a b does not cross it
 unfoldable pub open-edge : Mesh → ℕ → ℕ → Edge → Bool
 open-edge m a b e = shared-by-tris m e || passes-by m a b e
+
+-- v is a node of the region, other than the two ends, and its segment from a stays inside
+unfoldable pub in-view : Mesh → ℕ → ℕ → List Live → ℕ → Bool
+in-view m a other region v = not (eqb v a) && not (eqb v other) && any (has-node v) region && segment-inside m a v (walls m region)

@@ -1,7 +1,4 @@
 // The segment between two nodes stays inside the region in hand.
-use cells::find::first_owner;
-use cells::find::kind;
-use cells::find::next_owner;
 use cells::find::node;
 use plane::sides::segments_cross;
 use rings::wide;
@@ -10,37 +7,12 @@ ghost use mathlib.Core.List.{List};
 ghost use Prim.Native.Nat.{_*_, _<_};
 ghost use lib.ListN.{length};
 ghost use Rattle.definition.specs.Lists.{all, any};
-ghost use Rattle.definition.specs.Cells.{Live, Mesh, tri, key, tri-edges, has-node, tri-has};
+ghost use Rattle.definition.specs.Cells.{Live, Mesh, tri, new-live, key, tri-edges, has-node, tri-has};
 ghost use Rattle.definition.specs.Candidates.{shared-by-tris, passes-by, walls, segment-inside};
 ghost use Rattle.cells.specs.Rep.{Rep, Pts, TriIn};
 ghost use Rattle.cells.specs.Walk.{IsEdge};
+ghost use Rattle.live_regions.specs.Walls.{wall-mark};
 ghost use Rattle.side_candidates.specs.Hand.{InHand, Ends, open-edge};
-
-// Exactly two own the edge u-v, and both are triangles.
-fn shared_by_tris(w: &[u32], s: usize, p: usize, u: usize, v: usize) -> bool
-    requires { ⌜ ((m : Mesh) × Rep (now w) s p m) ⌝ }
-    requires { ⌜ IsEdge p u v ⌝ }
-    ensures { λ r. ⌜ ((m : Mesh) → Rep (now (w .entry)) s p m → r ≡ shared-by-tris m (key u v)) ⌝ }
-{
-    let c = first_owner(w, s, p, u, v);
-    if c >= 4 * s {
-        return false;
-    }
-    if kind(w, s, c / 4) != 3 {
-        return false;
-    }
-    let d = next_owner(w, s, p, u, v, c);
-    if d >= 4 * s {
-        return false;
-    }
-    if kind(w, s, d / 4) != 3 {
-        return false;
-    }
-    if next_owner(w, s, p, u, v, d) < 4 * s {
-        return false;
-    }
-    true
-}
 
 // The segment a b does not cross the edge from u to v, unless they share a node.
 fn passes_by(q: &[f64], p: usize, a: usize, b: usize, u: usize, v: usize) -> bool
@@ -74,43 +46,37 @@ fn clears(q: &[f64], p: usize, a: usize, b: usize, u: usize, v: usize) -> bool
     passes_by(q, p, a, b, v, u)
 }
 
-// Two triangles share the edge u-v, or the segment a b does not cross it, which is tried first: it needs no walk.
-fn open_edge(
-    w: &[u32],
-    q: &[f64],
-    s: usize,
-    p: usize,
-    a: usize,
-    b: usize,
-    u: usize,
-    v: usize,
-) -> bool
-    requires { ⌜ ((m : Mesh) × Rep (now w) s p m × Pts (now q) p m × Ends m a b × Ends m u v) ⌝ }
+// Two triangles share the edge u-v, as is told, or the segment a b does not cross it.
+fn open_edge(q: &[f64], p: usize, a: usize, b: usize, u: usize, v: usize, shared: bool) -> bool
+    requires { ⌜ ((m : Mesh) × Pts (now q) p m × Ends m a b × Ends m u v) ⌝ }
     requires { ⌜ IsEdge p u v ⌝ }
-    ensures { λ r. ⌜ ((m : Mesh) → Rep (now (w .entry)) s p m → Pts (now (q .entry)) p m → Ends m a b → Ends m u v → r ≡ open-edge m a b (key u v)) ⌝ }
+    ensures { λ r. ⌜ ((m : Mesh) → Pts (now (q .entry)) p m → Ends m a b → Ends m u v → shared ≡ shared-by-tris m (key u v) → r ≡ open-edge m a b (key u v)) ⌝ }
 {
-    if clears(q, p, a, b, u, v) {
+    if shared {
         return true;
     }
-    shared_by_tris(w, s, p, u, v)
+    clears(q, p, a, b, u, v)
 }
 
-// So for each edge of the triangle in slot i.
-fn open_cell(w: &[u32], q: &[f64], s: usize, p: usize, a: usize, b: usize, i: usize) -> bool
+// So for each edge of the triangle in slot i, whose mark f tells its walls.
+fn open_cell(w: &[u32], q: &[f64], s: usize, p: usize, a: usize, b: usize, i: usize, f: u32) -> bool
     requires { ⌜ ((m : Mesh) × Rep (now w) s p m × Pts (now q) p m × Ends m a b × TriIn m i) ⌝ }
     requires { ⌜ i < s ⌝ }
-    ensures { λ r. ⌜ ((m : Mesh) → Rep (now (w .entry)) s p m → Pts (now (q .entry)) p m → Ends m a b → (t : TriIn m i) → r ≡ all (open-edge m a b) (tri-edges (t .t))) ⌝ }
+    ensures { λ r. ⌜ ((m : Mesh) → Rep (now (w .entry)) s p m → Pts (now (q .entry)) p m → Ends m a b → (t : TriIn m i) → f ≡ wall-mark m (new-live i (tri (t .t))) → r ≡ all (open-edge m a b) (tri-edges (t .t))) ⌝ }
 {
+    if f == 8 {
+        return true;
+    }
     let x = node(w, s, i, 0);
     let y = node(w, s, i, 1);
     let z = node(w, s, i, 2);
-    if !open_edge(w, q, s, p, a, b, x, y) {
+    if !open_edge(q, p, a, b, x, y, f % 2 == 0) {
         return false;
     }
-    if !open_edge(w, q, s, p, a, b, y, z) {
+    if !open_edge(q, p, a, b, y, z, f / 2 % 2 == 0) {
         return false;
     }
-    open_edge(w, q, s, p, a, b, z, x)
+    open_edge(q, p, a, b, z, x, f / 4 % 2 == 0)
 }
 
 // The segment a b crosses none of the edges of the region in hand that two triangles do not share.
@@ -128,7 +94,8 @@ pub fn segment_inside(
 {
     let mut k: usize = 0;
     while k < n {
-        if !open_cell(w, q, s, p, a, b, wide(w[21 * s + 3 * p + k])) {
+        let i = wide(w[21 * s + 3 * p + k]);
+        if !open_cell(w, q, s, p, a, b, i, w[20 * s + 3 * p + i]) {
             return false;
         }
         k += 1;

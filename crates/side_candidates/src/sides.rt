@@ -4,16 +4,15 @@ use crate::inside::segment_inside;
 use plane::floats::abs;
 use plane::vectors::Vec;
 use plane::vectors::dot;
-use plane::vectors::from_to;
 use plane::vectors::norm;
 use rules::Quality;
 ghost use mathlib.Core.Path.{_≡_};
 ghost use mathlib.Core.List.{List};
 ghost use Rattle.definition.specs.Cells.{Live, Mesh};
-ghost use Rattle.definition.specs.Candidates.{ahead, walls, side-candidate};
+ghost use Rattle.definition.specs.Candidates.{ahead};
 ghost use Rattle.plane.specs.Vectors.{vec};
 ghost use Rattle.rules.specs.Settings.{quality-of};
-ghost use Rattle.side_candidates.specs.Hand.{InHand, Ends};
+ghost use Rattle.side_candidates.specs.Hand.{InHand, Ends, in-view};
 
 // A side node: its way along the normal in targets, its way across in ways along.
 pub const SIDE_ALONG: f64 = 0.25;
@@ -38,8 +37,8 @@ pub fn ahead(y: Quality, n: Vec, d: Vec, target: f64) -> bool
     !(abs(d.dx * n.dy - d.dy * n.dx) > SIDE_ACROSS * along)
 }
 
-// v is a node of the region in hand, ahead of a, and the segment from a stays inside.
-pub fn side_candidate(
+// v is a node of the region in hand, other than the two ends, and the segment from a stays inside.
+pub fn in_view(
     w: &[u32],
     q: &[f64],
     s: usize,
@@ -47,13 +46,10 @@ pub fn side_candidate(
     k: usize,
     a: usize,
     other: usize,
-    n: Vec,
-    target: f64,
     v: usize,
-    y: Quality,
 ) -> bool
     requires { ⌜ ((m : Mesh) × (region : List Live) × InHand (now w) (now q) s p k m region × Ends m a v) ⌝ }
-    ensures { λ r. ⌜ ((m : Mesh) (region : List Live) → InHand (now (w .entry)) (now (q .entry)) s p k m region → Ends m a v → r ≡ side-candidate (quality-of y) m a other (vec n) target region (walls m region) v) ⌝ }
+    ensures { λ r. ⌜ ((m : Mesh) (region : List Live) → InHand (now (w .entry)) (now (q .entry)) s p k m region → Ends m a v → r ≡ in-view m a other region v) ⌝ }
 {
     if v == a {
         return false;
@@ -62,9 +58,6 @@ pub fn side_candidate(
         return false;
     }
     if !in_region(w, q, s, p, k, v) {
-        return false;
-    }
-    if !ahead(y, n, from_to(q, a, v), target) {
         return false;
     }
     segment_inside(w, q, s, p, k, a, v)

@@ -14,7 +14,7 @@ use Rattle.candidates.specs.Choice.{too-far}
 use Rattle.candidates.proofs.Tests.{choice-far, choice-edge, choice-behind, choice-side}
 use Rattle.candidates.proofs.Roots.{norm-root, square-fits}
 use borrow.Author.Needs.{needs}
-use borrow.Author.Tests.{not-true}
+use borrow.Author.Tests.{not-true, not-false}
 use Rattle.candidates.proofs.is_choice.Statement.{statement}
 use Rattle.candidates.proofs.is_choice.Tie as tie
 
@@ -67,8 +67,8 @@ returns-3 c =
     (sym (e2 .if2 .left) ∙ ec .edge-candidate .ensures m (h .rep) (h .pts) y (record { node = e .first; end = e .second }))
     (sym (not-true (ah .ahead .result) (c .if3 .taken)) ∙ ah .ahead .ensures ∙ ahead-read (quality-of (a .y)) (a .q .now) (a .p) m (h .pts) (a .a) (a .v) e (vec (a .normal)) (vec (ft .from-to .result)) (a .target) (ft .from-to .ensures))
 
-side-candidate-requires : tie.Need-side-candidate-requires
-side-candidate-requires c κs =
+in-view-requires : tie.Need-in-view-requires
+in-view-requires c κs =
     let ec = c .before .before .before in
     let ft = ec .before .before .before in
     let t = ft .before .before .before in
@@ -84,12 +84,13 @@ returns-4 c =
     let t = ft .before .before .before in
     let a = t .args in
     λ m g h y e.
-    choice-side (quality-of (a .y)) (turn (a .left)) m (a .a) (a .other) (vec (a .normal)) (a .target) g (a .v) (c .side-candidate .result)
+    choice-side (quality-of (a .y)) (turn (a .left)) m (a .a) (a .other) (vec (a .normal)) (a .target) g (a .v) (c .in-view .result)
     (sym (e2 .if2 .left) ∙ ec .edge-candidate .ensures m (h .rep) (h .pts) y (record { node = e .first; end = e .second }))
-    (c .side-candidate .ensures m g h e)
+    (sym (not-false (ah .ahead .result) (e3 .if3 .left)) ∙ ah .ahead .ensures ∙ ahead-read (quality-of (a .y)) (a .q .now) (a .p) m (h .pts) (a .a) (a .v) e (vec (a .normal)) (vec (ft .from-to .result)) (a .target) (ft .from-to .ensures))
+    (c .in-view .ensures m g h e)
 
 pub is-choice-spec : {M : Type 1} → statement M
 is-choice-spec =
     tie.close
     (tie.spec
-    from-to-requires (λ c κs. search needs) returns edge-candidate-requires returns-2 (λ c κs. search needs) returns-3 side-candidate-requires returns-4)
+    from-to-requires (λ c κs. search needs) returns edge-candidate-requires returns-2 (λ c κs. search needs) returns-3 in-view-requires returns-4)

@@ -25,8 +25,8 @@ is-near-requires c κs =
     let f1 = tk .take .ensures m out seen st x (h .top) in
     ((m, f1 .hold .rep, pts, k .t), h .top .inside)
 
-list-one-requires : tie.Need-list-one-requires
-list-one-requires c κs =
+push-around-requires : tie.Need-push-around-requires
+push-around-requires c κs =
     let nr = c .before .before in
     let tk = nr .before .before .before .before in
     let t = tk .before .before .before .before in
@@ -42,12 +42,12 @@ list-one-requires c κs =
     let h = t .pre .6 in
     let k = top-tri w (a .s) (a .p) (a .n) (a .i) m out seen st x h in
     let f1 = tk .take .ensures m out seen st x (h .top) in
-    (m, out, x ∷ seen, st, x, can-list w (a .s) (a .p) (a .n) (a .i) m out seen st x h w1 f1)
+    ((m, out, x ∷ seen, st, f1 .hold, k .t), h .top .inside)
 
-push-around-requires : tie.Need-push-around-requires
-push-around-requires c κs =
-    let lo = c .before .before .before in
-    let nr = lo .before .before .before in
+list-one-requires : tie.Need-list-one-requires
+list-one-requires c κs =
+    let pa = c .before .before .before in
+    let nr = pa .before .before .before in
     let tk = nr .before .before .before .before in
     let t = tk .before .before .before .before in
     let a = t .args in
@@ -62,16 +62,17 @@ push-around-requires c κs =
     let h = t .pre .6 in
     let k = top-tri w (a .s) (a .p) (a .n) (a .i) m out seen st x h in
     let f1 = tk .take .ensures m out seen st x (h .top) in
-    let cl = can-list w (a .s) (a .p) (a .n) (a .i) m out seen st x h w1 f1 in
-    let w2 = lo .list-one .last .0 in
-    let f2 = lo .list-one .ensures m out (x ∷ seen) st x cl in
-    ((m, out ++ x ∷ [], x ∷ seen, st, f2 .hold, k .t), h .top .inside)
+    let w2 = pa .push-around .last .0 in
+    let f2 = pa .push-around .ensures m out (x ∷ seen) st x (f1 .hold) (k .t) (k .is) in
+    let st2 = foldl (on-top (x ∷ seen)) st (neighbours m x) in
+    let cl = can-list w (a .s) (a .p) (a .n) (a .i) m out seen st x h w2 st2 (pa .push-around .result) (push-trans w w1 w2 (a .s) (a .p) m out (x ∷ seen) st2 (f1 .scratch) (f2 .to)) (f2 .walls) in
+    (m, out, x ∷ seen, st2, x, cl)
 
 add-result : tie.Need-add-result
 add-result c =
-    let pa = c .before .before in
-    let lo = pa .before .before .before .before in
-    let nr = lo .before .before .before in
+    let lo = c .before .before in
+    let pa = lo .before .before .before .before in
+    let nr = pa .before .before .before in
     let tk = nr .before .before .before .before in
     let t = tk .before .before .before .before in
     let a = t .args in
@@ -88,9 +89,9 @@ add-result c =
 
 returns : tie.Need-returns
 returns c =
-    let pa = c .before .before in
-    let lo = pa .before .before .before .before in
-    let nr = lo .before .before .before in
+    let lo = c .before .before in
+    let pa = lo .before .before .before .before in
+    let nr = pa .before .before .before in
     let tk = nr .before .before .before .before in
     let t = tk .before .before .before .before in
     let a = t .args in
@@ -99,14 +100,14 @@ returns c =
     λ m out seen st x pts h.
     let k = top-tri w (a .s) (a .p) (a .n) (a .i) m out seen st x h in
     let f1 = tk .take .ensures m out seen st x (h .top) in
-    let cl = can-list w (a .s) (a .p) (a .n) (a .i) m out seen st x h w1 f1 in
-    let w2 = lo .list-one .last .0 in
-    let f2 = lo .list-one .ensures m out (x ∷ seen) st x cl in
-    let w3 = pa .push-around .last .0 in
-    let f3 = pa .push-around .ensures m (out ++ x ∷ []) (x ∷ seen) st x (f2 .hold) (k .t) (k .is) in
-    let st3 = foldl (on-top (x ∷ seen)) st (neighbours m x) in
-    step-near w (a .s) (a .p) (a .n) (a .i) m out seen st x h (a .x) (a .y) (a .r) w3 (sym (lo .before .before .if1 .taken) ∙ nr .is-near .ensures m (f1 .hold .rep) pts (k .t))
-    (push-trans w w1 w3 (a .s) (a .p) m (out ++ x ∷ []) (x ∷ seen) st3 (f1 .scratch) (push-trans w1 w2 w3 (a .s) (a .p) m (out ++ x ∷ []) (x ∷ seen) st3 (f2 .scratch) f3))
+    let w2 = pa .push-around .last .0 in
+    let f2 = pa .push-around .ensures m out (x ∷ seen) st x (f1 .hold) (k .t) (k .is) in
+    let st2 = foldl (on-top (x ∷ seen)) st (neighbours m x) in
+    let cl = can-list w (a .s) (a .p) (a .n) (a .i) m out seen st x h w2 st2 (pa .push-around .result) (push-trans w w1 w2 (a .s) (a .p) m out (x ∷ seen) st2 (f1 .scratch) (f2 .to)) (f2 .walls) in
+    let w3 = lo .list-one .last .0 in
+    let f3 = lo .list-one .ensures m out (x ∷ seen) st2 x cl in
+    step-near w (a .s) (a .p) (a .n) (a .i) m out seen st x h (a .x) (a .y) (a .r) w3 (sym (pa .before .before .if1 .taken) ∙ nr .is-near .ensures m (f1 .hold .rep) pts (k .t))
+    (push-trans w w1 w3 (a .s) (a .p) m (out ++ x ∷ []) (x ∷ seen) st2 (f1 .scratch) (push-trans w1 w2 w3 (a .s) (a .p) m (out ++ x ∷ []) (x ∷ seen) st2 (f2 .to .scratch) f3))
 
 returns-2 : tie.Need-returns-2
 returns-2 c =
@@ -125,4 +126,4 @@ pub step-spec : {M : Type 1} → statement M
 step-spec =
     tie.close
     (tie.spec
-    (λ c κs. search needs) is-near-requires list-one-requires push-around-requires add-result (λ c. search needs) returns (λ c. search needs) returns-2)
+    (λ c κs. search needs) is-near-requires push-around-requires list-one-requires add-result (λ c. search needs) returns (λ c. search needs) returns-2)

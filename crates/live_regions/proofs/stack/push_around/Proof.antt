@@ -1,9 +1,14 @@
 use mathlib.Core.Path.{_≡_, sym, _∙_, subst}
 use mathlib.Core.List.{List, foldl}
+use mathlib.Core.Bool.{Bool}
+use Prim.Native.Nat.{ℕ, _+_, _≤_}
+use native.Mathlib.Omega.{arith}
 use lib.ListN.{length}
 use Rattle.definition.specs.Cells.{Live, key, owners}
 use Rattle.definition.specs.Candidates.{on-top}
+use Rattle.live_regions.specs.Walls.{counted}
 use Rattle.live_regions.specs.Stack.{PushTo}
+use Rattle.live_regions.proofs.Tallies.{counted-few, mark-read}
 use Rattle.live_regions.proofs.Steps.{corners-of, edge-is, around-read, push-trans}
 use borrow.Author.Needs.{needs}
 use Rattle.live_regions.proofs.stack.push_around.Statement.{statement}
@@ -34,7 +39,7 @@ push-edge-requires c κs =
 
 push-edge-requires-2 : tie.Need-push-edge-requires-2
 push-edge-requires-2 c κs =
-    let o1 = c .before .before .before in
+    let o1 = c .before .before .before .before in
     let z3 = o1 .before .before in
     let z2 = z3 .before .before in
     let z1 = z2 .before .before in
@@ -57,12 +62,12 @@ push-edge-requires-2 c κs =
     let w1 = o1 .push-edge .last .0 in
     let f1 = o1 .push-edge .ensures m out seen st h in
     let st1 = foldl (on-top seen) st (owners m (key u v)) in
-    ((m, out, seen, st1, f1 .hold), edge-is (a .p) (length (m .points)) (k .t .n1) (k .t .n2) v y ev ey (d .k1) (h .rep .points) (d .d12))
+    ((m, out, seen, st1, f1 .to .hold), edge-is (a .p) (length (m .points)) (k .t .n1) (k .t .n2) v y ev ey (d .k1) (h .rep .points) (d .d12))
 
 push-edge-requires-3 : tie.Need-push-edge-requires-3
 push-edge-requires-3 c κs =
-    let o2 = c .before .before .before in
-    let o1 = o2 .before .before .before .before in
+    let o2 = c .before .before .before .before in
+    let o1 = o2 .before .before .before .before .before in
     let z3 = o1 .before .before in
     let z2 = z3 .before .before in
     let z1 = z2 .before .before in
@@ -86,15 +91,30 @@ push-edge-requires-3 c κs =
     let f1 = o1 .push-edge .ensures m out seen st h in
     let st1 = foldl (on-top seen) st (owners m (key u v)) in
     let w2 = o2 .push-edge2 .last .0 in
-    let f2 = o2 .push-edge2 .ensures m out seen st1 (f1 .hold) in
+    let f2 = o2 .push-edge2 .ensures m out seen st1 (f1 .to .hold) in
     let st2 = foldl (on-top seen) st1 (owners m (key v y)) in
-    ((m, out, seen, st2, f2 .hold), edge-is (a .p) (length (m .points)) (k .t .n2) (k .t .n0) y u ey eu (d .k2) (h .rep .points) (d .d20))
+    ((m, out, seen, st2, f2 .to .hold), edge-is (a .p) (length (m .points)) (k .t .n2) (k .t .n0) y u ey eu (d .k2) (h .rep .points) (d .d20))
+
+-- the mark stays small
+small : (a b c : ℕ) (x y z : Bool) → a ≡ counted x 1 → b ≡ counted y 2 → c ≡ counted z 4 → 8 + a + b + c ≤ 15
+small a b c x y z e f g = omega (arith, counted-few x 1, counted-few y 2, counted-few z 4)
+
+sum-small : (c : tie.After-counted3) → 8 + c .before .before .before .before .before .before .before .before .before .before .counted .result + c .before .before .before .before .before .counted2 .result + c .counted3 .result ≤ 15
+sum-small c =
+    let o3 = c .before .before .before in
+    let c2 = o3 .before .before in
+    let o2 = c2 .before .before .before in
+    let c1 = o2 .before .before in
+    let o1 = c1 .before .before .before in
+    small (c1 .counted .result) (c2 .counted2 .result) (c .counted3 .result) (o1 .push-edge .result) (o2 .push-edge2 .result) (o3 .push-edge3 .result) (c1 .counted .ensures) (c2 .counted2 .ensures) (c .counted3 .ensures)
 
 returns : tie.Need-returns
 returns c =
-    let o3 = c .before .before in
-    let o2 = o3 .before .before .before .before in
-    let o1 = o2 .before .before .before .before in
+    let o3 = c .before .before .before in
+    let c2 = o3 .before .before in
+    let o2 = c2 .before .before .before in
+    let c1 = o2 .before .before in
+    let o1 = c1 .before .before .before in
     let z3 = o1 .before .before in
     let z2 = z3 .before .before in
     let z1 = z2 .before .before in
@@ -113,17 +133,22 @@ returns c =
     let f1 = o1 .push-edge .ensures m out seen st h in
     let st1 = foldl (on-top seen) st (owners m (key u v)) in
     let w2 = o2 .push-edge2 .last .0 in
-    let f2 = o2 .push-edge2 .ensures m out seen st1 (f1 .hold) in
+    let f2 = o2 .push-edge2 .ensures m out seen st1 (f1 .to .hold) in
     let st2 = foldl (on-top seen) st1 (owners m (key v y)) in
     let w3 = o3 .push-edge3 .last .0 in
-    let f3 = o3 .push-edge3 .ensures m out seen st2 (f2 .hold) in
+    let f3 = o3 .push-edge3 .ensures m out seen st2 (f2 .to .hold) in
     let st3 = foldl (on-top seen) st2 (owners m (key y u)) in
-    subst (λ (l : List Live). PushTo w w3 (a .s) (a .p) m out seen l) (sym (around-read m (a .i) x k e seen st u v y eu ev ey))
-    (push-trans w w1 w3 (a .s) (a .p) m out seen st3 (f1 .scratch) (push-trans w1 w2 w3 (a .s) (a .p) m out seen st3 (f2 .scratch) f3))
+    record {
+      to = subst (λ (l : List Live). PushTo w w3 (a .s) (a .p) m out seen l) (sym (around-read m (a .i) x k e seen st u v y eu ev ey))
+          (push-trans w w1 w3 (a .s) (a .p) m out seen st3 (f1 .to .scratch) (push-trans w1 w2 w3 (a .s) (a .p) m out seen st3 (f2 .to .scratch) (f3 .to)));
+      walls = mark-read m (a .i) (k .t) x e u v y (c1 .counted .result) (c2 .counted2 .result) (c .counted3 .result) (o1 .push-edge .result) (o2 .push-edge2 .result) (o3 .push-edge3 .result)
+          eu ev ey (c1 .counted .ensures) (c2 .counted2 .ensures) (c .counted3 .ensures) (f1 .shared) (f2 .shared) (f3 .shared);
+    }
 
 pub push-around-spec : {M : Type 1} → statement M
 push-around-spec =
     tie.close
     (tie.spec
-    (λ c κs. search needs) (λ c κs. search needs) (λ c κs. search needs) push-edge-requires push-edge-requires-2 push-edge-requires-3 (λ c. search needs)
-    returns)
+    (λ c κs. search needs) (λ c κs. search needs) (λ c κs. search needs) push-edge-requires (λ c κs. search needs) push-edge-requires-2 (λ c κs. search needs)
+    push-edge-requires-3 (λ c κs. search needs) (λ c. omega (arith, sum-small c)) (λ c. omega (arith, sum-small c)) (λ c. omega (arith, sum-small c))
+    (λ c. search needs) returns)

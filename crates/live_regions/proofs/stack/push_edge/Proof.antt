@@ -1,6 +1,8 @@
--- The loop's invariant: the owners still to come, pushed onto the stack as it is now, give what all give. The measure is how many links are left.
-use mathlib.Core.Path.{_≡_, refl, _∙_}
+-- The loop's invariant: the owners still to come, pushed onto the stack as it is now, give what all give, and so does their tally. The measure is how many links are left.
+use mathlib.Core.Path.{_≡_, refl, sym, _∙_, subst}
 use mathlib.Core.List.{List}
+use Prim.Native.Nat.{ℕ}
+use native.Mathlib.Omega.{arith}
 use lib.ListN.{length}
 use Rattle.definition.specs.Cells.{Live, Mesh}
 use Rattle.cells.specs.Walk.{left}
@@ -11,10 +13,10 @@ use Rattle.live_regions.proofs.stack.push_edge.Statement.{statement}
 use Rattle.live_regions.proofs.stack.push_edge.Tie as tie
 
 abbrev Inv-loop : tie.InvT-loop
-Inv-loop w₀ s p u v c₀ w c = (length w ≡ length w₀) × ((m : Mesh) (out seen st : List Live) → Hold w₀ s p m out seen st → Going w₀ w s p u v c m out seen st)
+Inv-loop w₀ s p u v k₀ c₀ w k c = (length w ≡ length w₀) × ((m : Mesh) (out seen st : List Live) → Hold w₀ s p m out seen st → Going w₀ w s p u v k c m out seen st)
 
 abbrev μ-loop : tie.MeasureT-loop
-μ-loop w₀ s p u v c₀ w c = left w s p c
+μ-loop w₀ s p u v k₀ c₀ w k c = left w s p c
 
 first-owner-requires : tie.Need-first-owner-requires Inv-loop μ-loop
 first-owner-requires c κs =
@@ -27,13 +29,27 @@ loop-holds c =
     let a = t .args in
     (refl, λ m out seen st h. going-start (a .w .now) (a .s) (a .p) (a .u) (a .v) (c .first-owner .result) m out seen st h (c .first-owner .ensures m (h .rep)))
 
-push-one-requires : tie.Need-push-one-requires Inv-loop μ-loop
-push-one-requires c κs =
+tallied-requires : tie.Need-tallied-requires Inv-loop μ-loop
+tallied-requires c κs =
     let i = c .before in
     let l = i .before in
     let x = l .loop in
     let t = l .before .before .before .before in
     let a = t .args in
+    let m = t .pre .0 .0 in
+    let out = t .pre .0 .1 in
+    let seen = t .pre .0 .2 in
+    let st = t .pre .0 .3 in
+    let g = x .inv .1 m out seen st (t .pre .0 .4) in
+    omega (arith, going-met (a .w .now) (x .w) (a .s) (a .p) (a .u) (a .v) (x .k) (x .c) m out seen st g (i .loop-test .taken) .inside, g .hold .fits)
+
+push-one-requires : tie.Need-push-one-requires Inv-loop μ-loop
+push-one-requires c κs =
+    let i = c .before .before .before in
+    let l = i .before in
+    let x = l .loop in
+    let t = l .before .before .before .before in
+    let a = t .args in
     let hh = i .loop-test .taken in
     let m = t .pre .0 .0 in
     let out = t .pre .0 .1 in
@@ -41,12 +57,12 @@ push-one-requires c κs =
     let st = t .pre .0 .3 in
     let h = t .pre .0 .4 in
     let g = x .inv .1 m out seen st h in
-    (m, out, seen, g .now, going-here (a .w .now) (x .w) (a .s) (a .p) (a .u) (a .v) (x .c) m out seen st g hh .x, going-met (a .w .now) (x .w) (a .s) (a .p) (a .u) (a .v) (x .c) m out seen st g hh)
+    (m, out, seen, g .now, going-here (a .w .now) (x .w) (a .s) (a .p) (a .u) (a .v) (x .k) (x .c) m out seen st g hh .x, going-met (a .w .now) (x .w) (a .s) (a .p) (a .u) (a .v) (x .k) (x .c) m out seen st g hh)
 
 next-owner-requires : tie.Need-next-owner-requires Inv-loop μ-loop
 next-owner-requires c κs =
     let o = c .before .before .before in
-    let i = o .before .before in
+    let i = o .before .before .before .before in
     let l = i .before in
     let x = l .loop in
     let t = l .before .before .before .before in
@@ -58,13 +74,13 @@ next-owner-requires c κs =
     let st = t .pre .0 .3 in
     let h = t .pre .0 .4 in
     let g = x .inv .1 m out seen st h in
-    let f = o .push-one .ensures m out seen (g .now) (going-here (a .w .now) (x .w) (a .s) (a .p) (a .u) (a .v) (x .c) m out seen st g hh .x) (going-met (a .w .now) (x .w) (a .s) (a .p) (a .u) (a .v) (x .c) m out seen st g hh) in
-    ((g .xs, going-at (a .w .now) (x .w) (a .s) (a .p) (a .u) (a .v) (x .c) m out seen st g hh (o .push-one .last .0) f), (t .pre .1, hh))
+    let f = o .push-one .ensures m out seen (g .now) (going-here (a .w .now) (x .w) (a .s) (a .p) (a .u) (a .v) (x .k) (x .c) m out seen st g hh .x) (going-met (a .w .now) (x .w) (a .s) (a .p) (a .u) (a .v) (x .k) (x .c) m out seen st g hh) in
+    ((g .xs, going-at (a .w .now) (x .w) (a .s) (a .p) (a .u) (a .v) (x .k) (x .c) m out seen st g hh (o .push-one .last .0) f), (t .pre .1, hh))
 
 loop-less : tie.Need-loop-less Inv-loop μ-loop
 loop-less c =
     let o = c .before .before .before .before in
-    let i = o .before .before in
+    let i = o .before .before .before .before in
     let l = i .before in
     let x = l .loop in
     let t = l .before .before .before .before in
@@ -76,13 +92,13 @@ loop-less c =
     let st = t .pre .0 .3 in
     let h = t .pre .0 .4 in
     let g = x .inv .1 m out seen st h in
-    let f = o .push-one .ensures m out seen (g .now) (going-here (a .w .now) (x .w) (a .s) (a .p) (a .u) (a .v) (x .c) m out seen st g hh .x) (going-met (a .w .now) (x .w) (a .s) (a .p) (a .u) (a .v) (x .c) m out seen st g hh) in
-    going-less (a .w .now) (x .w) (a .s) (a .p) (a .u) (a .v) (x .c) m out seen st g hh (o .push-one .last .0) f (c .next-owner .result) (c .next-owner .ensures)
+    let f = o .push-one .ensures m out seen (g .now) (going-here (a .w .now) (x .w) (a .s) (a .p) (a .u) (a .v) (x .k) (x .c) m out seen st g hh .x) (going-met (a .w .now) (x .w) (a .s) (a .p) (a .u) (a .v) (x .k) (x .c) m out seen st g hh) in
+    going-less (a .w .now) (x .w) (a .s) (a .p) (a .u) (a .v) (x .k) (x .c) m out seen st g hh (o .push-one .last .0) f (c .next-owner .result) (c .next-owner .ensures)
 
 loop-again : tie.Need-loop-again Inv-loop μ-loop
 loop-again c =
     let o = c .before .before .before .before in
-    let i = o .before .before in
+    let i = o .before .before .before .before in
     let l = i .before in
     let x = l .loop in
     let t = l .before .before .before .before in
@@ -91,8 +107,9 @@ loop-again c =
       o .push-one .kept .0 ∙ x .inv .0,
       λ m out seen st h.
           let g = x .inv .1 m out seen st h in
-          let f = o .push-one .ensures m out seen (g .now) (going-here (a .w .now) (x .w) (a .s) (a .p) (a .u) (a .v) (x .c) m out seen st g hh .x) (going-met (a .w .now) (x .w) (a .s) (a .p) (a .u) (a .v) (x .c) m out seen st g hh) in
-          going-on (a .w .now) (x .w) (a .s) (a .p) (a .u) (a .v) (x .c) m out seen st g hh (o .push-one .last .0) f (c .next-owner .result) (c .next-owner .ensures),
+          let f = o .push-one .ensures m out seen (g .now) (going-here (a .w .now) (x .w) (a .s) (a .p) (a .u) (a .v) (x .k) (x .c) m out seen st g hh .x) (going-met (a .w .now) (x .w) (a .s) (a .p) (a .u) (a .v) (x .k) (x .c) m out seen st g hh) in
+          subst (λ (j : ℕ). Going (a .w .now) (o .push-one .last .0) (a .s) (a .p) (a .u) (a .v) j (c .next-owner .result) m out seen st) (sym (o .before .before .tallied .ensures))
+          (going-on (a .w .now) (x .w) (a .s) (a .p) (a .u) (a .v) (x .k) (x .c) m out seen st g hh (o .push-one .last .0) f (c .next-owner .result) (c .next-owner .ensures)),
     )
 
 same-length : tie.Need-same-length Inv-loop μ-loop
@@ -105,10 +122,10 @@ returns c =
     let x = l .loop in
     let t = l .before .before .before .before in
     let a = t .args in
-    λ m out seen st h. going-end (a .w .now) (x .w) (a .s) (a .p) (a .u) (a .v) (x .c) m out seen st (x .inv .1 m out seen st h) (c .loop-test .left)
+    λ m out seen st h. going-end (a .w .now) (x .w) (a .s) (a .p) (a .u) (a .v) (x .k) (x .c) m out seen st (x .inv .1 m out seen st h) (c .loop-test .left)
 
 pub push-edge-spec : {M : Type 1} → statement M
 push-edge-spec =
     tie.close
     (tie.spec
-    Inv-loop μ-loop first-owner-requires loop-holds (λ c. search needs) push-one-requires next-owner-requires loop-less loop-again same-length returns)
+    Inv-loop μ-loop first-owner-requires loop-holds (λ c. search needs) tallied-requires push-one-requires next-owner-requires loop-less loop-again same-length returns)
