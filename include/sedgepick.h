@@ -6,6 +6,8 @@
  *
  * Link target/staticlib/liblibrary.a (x86-64, written by `rt staticlib library`), or libsedgepick, which tools/install makes of it; sedgepick_mesh.h has a
  * call that lends the memory itself.
+ *
+ * SPDX-License-Identifier: MIT
  */
 #ifndef SEDGEPICK_H
 #define SEDGEPICK_H

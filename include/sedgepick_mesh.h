@@ -3,6 +3,8 @@
  * called from several threads at once.
  *
  * Link libsedgepick.a or libsedgepick.so, which tools/install writes: cc mesh.c $(pkg-config --cflags --libs sedgepick)
+ *
+ * SPDX-License-Identifier: MIT
  */
 #ifndef SEDGEPICK_MESH_H
 #define SEDGEPICK_MESH_H

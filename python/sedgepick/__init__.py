@@ -71,6 +71,7 @@ from .sheets import Sheet, Worst, sheet
 from .traces import Flip, Insertion, Placed, Replayed, entries, replay
 
 __version__ = VERSION
+__license__ = 'MIT'
 __all__ = ['Counts', 'EVEN_COMPONENTS', 'EXHAUST', 'FAR', 'Flip', 'GRID_LINES', 'Insertion', 'Job', 'KINDS', 'LARGEST_SIZE', 'LEAST_SIZE', 'MOST_ALLOWANCE', 'MOST_CAPACITY', 'MOST_GIVEN', 'MOST_JOINTS',
            'MOST_MESHES', 'MOST_SLOTS', 'MOST_TRACE', 'Mesh', 'NoLibrary', 'Placed', 'Preview', 'Quad', 'Quads', 'Quality', 'RANGES', 'REFUSALS', 'Refused', 'Replayed', 'Sheet', 'Slab',
            'Worst', 'commit', 'cosine_of', 'entries', 'preview', 'preview_front', 'replay', 'run_front', 'sheet']

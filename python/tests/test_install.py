@@ -75,6 +75,34 @@ class Install(unittest.TestCase):
         self.assertEqual(ran.returncode, 0, ran.stderr)
         self.assertEqual(ran.stdout.split()[:2], [os.path.join(packages, 'sedgepick', '__init__.py'), '1'])
 
+    def test_licence(self):
+        with open(os.path.join(ROOT, 'LICENSE')) as file:
+            text = file.read()
+        self.assertIn('MIT License', text)
+        for place in ('share/doc/sedgepick/LICENSE', 'lib/python3/dist-packages/sedgepick-%s.dist-info/LICENSE' % VERSION):
+            with open(os.path.join(self.prefix, place)) as file:
+                self.assertEqual(file.read(), text)
+        for place in ('include/sedgepick.h', 'include/sedgepick_mesh.h', 'lib/cmake/Sedgepick/SedgepickConfig.cmake'):
+            with open(os.path.join(self.prefix, place)) as file:
+                self.assertIn('SPDX-License-Identifier: MIT', file.read())
+        with open(os.path.join(self.lib, 'pkgconfig', 'sedgepick.pc')) as file:
+            self.assertIn('\nLicense: MIT\n', file.read())
+        code = 'import sedgepick; from importlib.metadata import metadata; m = metadata("sedgepick"); print(m["Version"], m["License"], sedgepick.__license__)'
+        ran = run(sys.executable, '-c', code, env=dict(os.environ, PYTHONPATH=os.path.join(self.lib, 'python3', 'dist-packages')), cwd=self.folder)
+        self.assertEqual(ran.stdout.split(), [VERSION, 'MIT', 'MIT'], ran.stderr)
+        self.assertTrue(os.path.exists(os.path.join(self.prefix, 'share/doc/sedgepick/NOTICE')))
+
+    def test_installed_again(self):
+        """What an earlier version left is gone."""
+        packages = os.path.join(self.lib, 'python3', 'dist-packages')
+        os.mkdir(os.path.join(packages, 'sedgepick-0.0.1.dist-info'))
+        with open(os.path.join(packages, 'sedgepick', 'gone.py'), 'w'):
+            pass
+        made = run(os.path.join(ROOT, 'tools', 'install'), self.prefix, ARCHIVE)
+        self.assertEqual(made.returncode, 0, made.stderr)
+        self.assertFalse(os.path.exists(os.path.join(packages, 'sedgepick', 'gone.py')))
+        self.assertEqual([name for name in os.listdir(packages) if name.endswith('.dist-info')], ['sedgepick-%s.dist-info' % VERSION])
+
     def test_words_where_the_archive_is_missing(self):
         made = run(os.path.join(ROOT, 'tools', 'install'), os.path.join(self.folder, 'none'), '/nowhere/liblibrary.a')
         self.assertEqual(made.returncode, 1)
