@@ -1,8 +1,9 @@
 """A mesh as SVG: quads by scaled Jacobian, leftover triangles by least angle, the worst marked; axes and a scale in the file's units. A long mesh is
 shown in rows, or columns, one after the other."""
 import math
-from dataclasses import dataclass
+from dataclasses import dataclass, replace
 import numpy
+from . import axes
 
 # quads: classes of a tenth; the better the lighter. Those below 0.3, the least that a run takes where it is not set, are listed only where there are such
 QUADS = [(0.0, '#0b1238'), (0.1, '#131f57'), (0.2, '#1b3479'), (0.3, '#254f9c'), (0.4, '#2176b4'), (0.5, '#2f9ec2'), (0.6, '#5bbfc0'), (0.7, '#97d6b9'), (0.8, '#d3edb3'), (0.9, '#ffffd9')]
@@ -11,7 +12,8 @@ TRIANGLES = [(0, '#b10026'), (5, '#e31a1c'), (10, '#fd8d3c'), (20, '#fdbe85'), (
 INK, GREY, LOST, KEPT = '#1a1a1a', '#666666', '#9e0dd3', '#000000'
 LONG = 6          # times as long as wide: a mesh beyond it is shown in pieces
 PLOT = 900        # the longer side of a piece
-LEFT, TOP, GAP, RIGHT, BOTTOM, LEGEND = 70, 16, 64, 24, 80, 240
+TOP, GAP, RIGHT, BOTTOM, LEGEND = 16, 64, 24, 80, 240
+OFF = 9           # from a window to the labels of its y-axis
 
 
 @dataclass
@@ -33,7 +35,7 @@ class Piece:
 
 
 def pieces(points):
-    """The windows, at one scale."""
+    """The windows, at one scale, and their axes."""
     low, high = points.min(axis=0), points.max(axis=0)
     extent = numpy.maximum(high - low, max(high - low) * 1e-3)
     pad = 0.02 * min(extent.max(), LONG * extent.min())
@@ -42,27 +44,19 @@ def pieces(points):
     long, short = (high - low)[axis], (high - low)[1 - axis]
     count = max(1, math.ceil(long / short / LONG - 1e-9)) if long / short > LONG * 1.5 else 1
     step, scale = long / count, PLOT / (long / count)
-    found, place = [], [LEFT, TOP]
+    found = []
     for i in range(count):
         a, b = low.copy(), high.copy()
         a[axis], b[axis] = low[axis] + i * step, low[axis] + (i + 1) * step
-        found.append(Piece(tuple(a), tuple(b), tuple(place), scale))
-        place[1 - axis] += short * scale + GAP
-    return found
+        found.append(Piece(tuple(a), tuple(b), (0, 0), scale))
+    drawn = axes.axes_of(found, RIGHT)
+    left = drawn.left + OFF
+    away = (short * scale + max(GAP, left + 6), 0) if axis else (0, short * scale + GAP)
+    return [replace(piece, at=(left + i * away[0], TOP + i * away[1])) for i, piece in enumerate(found)], drawn
 
 
 def colour(classes, value):
     return max(0, sum(value >= least for least, _ in classes) - 1)
-
-
-def round_step(value):
-    """The least of 1, 2 and 5 times a power of ten that is not below the value."""
-    power = 10.0 ** math.floor(math.log10(value))
-    return next(power * factor for factor in (1, 2, 5, 10) if power * factor >= value * (1 - 1e-9))
-
-
-def ticks(low, high, step):
-    return [i * step for i in range(math.ceil(low / step - 1e-9), math.floor(high / step + 1e-9) + 1)]
 
 
 def outline(piece, points, cells):
@@ -113,18 +107,19 @@ def marks_of(mesh, piece, lines):
                          % (x + 10, y - 6, INK, label))
 
 
-def axes_of(piece, step, lines):
+def frame_of(piece, step, lines):
+    """The frame of a window with its ticks."""
     width, height = piece.size()
     left, top = piece.at
     lines.append('<rect x="%.1f" y="%.1f" width="%.1f" height="%.1f" fill="none" stroke="%s"/>' % (left, top, width, height, GREY))
-    for tick in ticks(piece.low[0], piece.high[0], step):
+    for tick in axes.ticks(piece.low[0], piece.high[0], step):
         x = piece.x(tick)
-        lines.append('<path d="M%.1f %.1fv6" stroke="%s"/><text x="%.1f" y="%.1f" text-anchor="middle" fill="%s">%.10g</text>'
-                     % (x, top + height, GREY, x, top + height + 20, GREY, tick))
-    for tick in ticks(piece.low[1], piece.high[1], step):
+        lines.append('<path d="M%.1f %.1fv6" stroke="%s"/><text x="%.1f" y="%.1f" text-anchor="middle" fill="%s">%s</text>'
+                     % (x, top + height, GREY, x, top + height + 20, GREY, axes.label(tick, step)))
+    for tick in axes.ticks(piece.low[1], piece.high[1], step):
         y = piece.y(tick)
-        lines.append('<path d="M%.1f %.1fh-6" stroke="%s"/><text x="%.1f" y="%.1f" text-anchor="end" fill="%s">%.10g</text>'
-                     % (left, y, GREY, left - 9, y + 4, GREY, tick))
+        lines.append('<path d="M%.1f %.1fh-6" stroke="%s"/><text x="%.1f" y="%.1f" text-anchor="end" fill="%s">%s</text>'
+                     % (left, y, GREY, left - OFF, y + 4, GREY, axes.label(tick, step)))
 
 
 def legend(mesh, left, step, scale, lines):
@@ -162,9 +157,8 @@ def legend(mesh, left, step, scale, lines):
 def draw(mesh):
     """The SVG of a mesh with points, quads, triangles, jacobians, angles, marks, lost_edges, lost_points, kept_edges and kept_points."""
     used = numpy.unique(numpy.concatenate([mesh.quads.ravel(), mesh.triangles.ravel()]))
-    windows = pieces(mesh.points[used])
-    step = round_step(max(70 / windows[0].scale, 1e-300))
-    right = max(piece.at[0] + piece.size()[0] for piece in windows)
+    windows, drawn = pieces(mesh.points[used])
+    right = max(piece.at[0] + piece.size()[0] for piece in windows) + drawn.right
     lines = []
     for i, piece in enumerate(windows):
         width, height = piece.size()
@@ -174,10 +168,10 @@ def draw(mesh):
         kept_of(mesh, piece, lines)
         marks_of(mesh, piece, lines)
         lines.append('</g>')
-        axes_of(piece, step, lines)
-    foot = legend(mesh, right + RIGHT, step, windows[0].scale, lines)
+        frame_of(piece, drawn.step, lines)
+    foot = legend(mesh, right, drawn.scale, windows[0].scale, lines)
     bottom = max(foot, max(piece.at[1] + piece.size()[1] for piece in windows) + 36)
-    size = (right + RIGHT + LEGEND, bottom)
+    size = (right + LEGEND, bottom)
     head = ('<svg xmlns="http://www.w3.org/2000/svg" viewBox="0 0 %.0f %.0f" width="%.0f" height="%.0f" font-size="13" '
             'font-family="DejaVu Sans, Verdana, Arial, sans-serif"><rect width="100%%" height="100%%" fill="#ffffff"/>' % (*size, *size))
     return '\n'.join([head, *lines, '</svg>']) + '\n'

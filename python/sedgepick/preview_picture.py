@@ -6,7 +6,7 @@ from dataclasses import dataclass
 from html import escape
 import numpy
 from . import picture
-from .picture import GREY, INK, KEPT, LEFT, QUADS, RIGHT, TOP
+from .picture import GREY, INK, KEPT, QUADS, TOP
 from .previews import KINDS
 
 # of each kind: what the legend says, the fill, and the dashes in units. Also as readers see them who lack red, green or blue (simulated) the fills differ from each
@@ -147,6 +147,7 @@ def hot_of(front, piece, window, says, lines):
 @dataclass
 class Says:
     """The room under the picture where words are shown."""
+    x: float
     y: float
     letters: int  # in a line
 
@@ -154,7 +155,7 @@ class Says:
         return textwrap.wrap(words, self.letters)
 
     def text(self, words):
-        spans = ''.join('<tspan x="%d" y="%.0f">%s</tspan>' % (LEFT, self.y + LINE * i, escape(line)) for i, line in enumerate(self.split(words)))
+        spans = ''.join('<tspan x="%d" y="%.0f">%s</tspan>' % (self.x, self.y + LINE * i, escape(line)) for i, line in enumerate(self.split(words)))
         return '<text class="would" font-size="15" fill="%s">%s</text>' % (INK, spans)
 
 
@@ -224,19 +225,18 @@ def window_of(front, piece, place, drawn, lines):
 
 def draw(front):
     """The SVG of a Front."""
-    windows = picture.pieces(front.points[numpy.unique(front.triangles)])
-    step = picture.round_step(max(70 / windows[0].scale, 1e-300))
+    windows, axes = picture.pieces(front.points[numpy.unique(front.triangles)])
     drawn, lines = pen(front, windows[0].scale), []
-    right = max(piece.at[0] + piece.size()[0] for piece in windows)
+    right = max(piece.at[0] + piece.size()[0] for piece in windows) + axes.right
     for place, piece in enumerate(windows):
         window_of(front, piece, place, drawn, lines)
-        picture.axes_of(piece, step, lines)
-    foot = legend(front, right + RIGHT, drawn, step, windows[0].scale, lines)
+        picture.frame_of(piece, axes.step, lines)
+    foot = legend(front, right, drawn, axes.scale, windows[0].scale, lines)
     bottom = max(foot, max(piece.at[1] + piece.size()[1] for piece in windows) + 36)
-    says = Says(bottom + LINE - 4, int((right + RIGHT + LEGEND - LEFT) / LETTER))
+    says = Says(windows[0].at[0], bottom + LINE - 4, int((right + LEGEND - windows[0].at[0]) / LETTER))
     for place, piece in enumerate(windows):
         hot_of(front, piece, place, says, lines)
-    size = (right + RIGHT + LEGEND, bottom + LINE * max((len(says.split(words)) for words in front.words), default=0) + 6)
+    size = (right + LEGEND, bottom + LINE * max((len(says.split(words)) for words in front.words), default=0) + 6)
     head = ('<svg xmlns="http://www.w3.org/2000/svg" viewBox="0 0 %.0f %.0f" width="%.0f" height="%.0f" font-size="13" '
             'font-family="DejaVu Sans, Verdana, Arial, sans-serif"><style>%s</style><rect width="100%%" height="100%%" fill="#ffffff"/>' % (*size, *size, STYLE))
     return '\n'.join([head, *lines, '</svg>']) + '\n'

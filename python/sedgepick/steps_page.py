@@ -4,7 +4,7 @@ import json, math, os
 from html import escape
 import numpy
 from . import picture, report
-from .picture import GREY, INK, QUADS, RIGHT, TOP, TRIANGLES
+from .picture import GREY, INK, QUADS, TOP, TRIANGLES
 
 SCRIPT = os.path.join(os.path.dirname(os.path.abspath(__file__)), 'steps.js')
 SPEEDS = (1, 2, 5, 20, 100)  # steps a second
@@ -94,15 +94,15 @@ def legend(left, least_jacobian, step, scale, lines):
 def drawn(work):
     """(svg, window, room): the picture without its cells, which the script draws, its first window, and about how wide a triangle is there."""
     points, cells = work.surface.points[:, :2], work.surface.triangles.cells
-    windows = picture.pieces(points[numpy.unique(cells)])
-    step, first, lines = picture.round_step(max(70 / windows[0].scale, 1e-300)), windows[0], []
+    windows, axes = picture.pieces(points[numpy.unique(cells)])
+    first, lines = windows[0], []
     room = math.sqrt(sum(numpy.prod(piece.size()) for piece in windows) / max(len(cells), 1))
-    right = max(piece.at[0] + piece.size()[0] for piece in windows)
+    right = max(piece.at[0] + piece.size()[0] for piece in windows) + axes.right
     for place, piece in enumerate(windows):
         window_of(piece, place, first, min(1.0, max(0.15, room / 40)), lines)
-        picture.axes_of(piece, step, lines)
-    bottom = max(legend(right + RIGHT, work.options.quality.least_jacobian, step, first.scale, lines), max(piece.at[1] + piece.size()[1] for piece in windows) + 36)
-    size = (right + RIGHT + LEGEND, bottom)
+        picture.frame_of(piece, axes.step, lines)
+    bottom = max(legend(right, work.options.quality.least_jacobian, axes.scale, first.scale, lines), max(piece.at[1] + piece.size()[1] for piece in windows) + 36)
+    size = (right + LEGEND, bottom)
     head = ('<svg xmlns="http://www.w3.org/2000/svg" viewBox="0 0 %.0f %.0f" width="%.0f" height="%.0f" font-size="13" '
             'font-family="DejaVu Sans, Verdana, Arial, sans-serif"><rect width="100%%" height="100%%" fill="#ffffff"/>' % (*size, *size))
     return '\n'.join([head, *lines, '</svg>']) + '\n', first, room

@@ -1,8 +1,10 @@
 """A mesh as SVG: quads filled by their scaled Jacobian or by their round, leftover triangles, front edges, added points and points of no cell, a legend."""
-import math
+import math, os, sys
 from dataclasses import dataclass
 from xml.sax.saxutils import escape
 from mesh.metrics import front_edges, min_scaled_jacobian
+sys.path.append(os.path.join(os.path.dirname(os.path.abspath(__file__)), '..', '..', 'python'))
+from sedgepick.axes import label, round_step, ticks
 
 # the lightness rises with the value: classes of a tenth, from 0.3, the least that a run takes, to 1
 LEAST = 0.3
@@ -20,7 +22,9 @@ GREY = '#666666'
 
 PLOT = 720        # the longer side of the frame
 SHORT = 150       # the least of the shorter one
-LEFT, TOP, BOTTOM, RIGHT = 64, 76, 52, 24
+LEFT, TOP, BOTTOM, RIGHT = 64, 76, 52, 24  # at the left at least
+DIGIT = 9         # the width of a digit of 14 points
+APART = 14        # between two labels at least
 LEGEND = 220      # its width
 ROW = 24
 PAD = 0.04        # of the longer side, between frame and mesh
@@ -90,9 +94,16 @@ class Frame:
         self.height = max((max(ys) - min(ys)) * self.scale + 2 * PAD * PLOT, SHORT)
         self.middle = (max(xs) / 2 + min(xs) / 2, max(ys) / 2 + min(ys) / 2)
         self.step = round_step(extent / 8)
+        while self.widest(0) + APART > self.step * self.scale:
+            self.step = round_step((self.widest(0) + APART) / self.scale)
+        self.left = max(LEFT, 34 + self.widest(1))
+
+    def widest(self, axis):
+        """The width of the widest label."""
+        return DIGIT * max((len(label(tick, self.step)) for tick in self.ticks(axis)), default=0)
 
     def x(self, x):
-        return LEFT + self.width / 2 + (x - self.middle[0]) * self.scale
+        return self.left + self.width / 2 + (x - self.middle[0]) * self.scale
 
     def y(self, y):
         return TOP + self.height / 2 - (y - self.middle[1]) * self.scale
@@ -103,15 +114,7 @@ class Frame:
     def ticks(self, axis):
         """The multiples of the step inside the frame."""
         half = (self.width, self.height)[axis] / 2 / self.scale
-        first = math.ceil((self.middle[axis] - half) / self.step)
-        last = math.floor((self.middle[axis] + half) / self.step)
-        return [i * self.step for i in range(first, last + 1)]
-
-
-def round_step(value):
-    """The least of 1, 2 and 5 times a power of ten that is not below the value."""
-    power = 10.0 ** math.floor(math.log10(value))
-    return next(power * factor for factor in (1, 2, 5, 10) if power * factor >= value * (1 - 1e-9))
+        return ticks(self.middle[axis] - half, self.middle[axis] + half, self.step)
 
 
 class Picture:
@@ -140,20 +143,20 @@ def draw(mesh, title, given=None, by='jacobian'):
     loose = sorted(set(range(len(mesh.points))) - {node for cell in mesh.cells() for node in cell})
     picture = Picture()
     below = summary(mesh, len(added))
-    width = max(LEFT + frame.width + RIGHT + LEGEND, LEFT + 8 * len(below), LEFT + 13 * len(title)) + RIGHT  # by the mean width of a letter
+    width = frame.left + max(frame.width + RIGHT + LEGEND, 8 * len(below), 13 * len(title)) + RIGHT  # by the mean width of a letter
     height = TOP + max(frame.height + BOTTOM, legend_height(mesh, shades))
     picture.add('<svg xmlns="http://www.w3.org/2000/svg" width="%s" height="%s" viewBox="0 0 %s %s" font-family="DejaVu Sans, Verdana, Arial, sans-serif">',
                 *map(number, (width, height, width, height)))
     picture.add('<title>%s</title>', escape(title))
     picture.add('<rect width="100%" height="100%" fill="#ffffff"/>')
-    picture.text(LEFT, 32, title, size=18, weight='bold')
-    picture.text(LEFT, 56, below, fill=GREY)
+    picture.text(frame.left, 32, title, size=18, weight='bold')
+    picture.text(frame.left, 56, below, fill=GREY)
     axes(picture, frame)
     cells(picture, frame, mesh, shades)
     edges(picture, frame, mesh, front)
     numbers(picture, frame, mesh, shades)
     marks(picture, frame, mesh, added, loose)
-    legend(picture, LEFT + frame.width + RIGHT, mesh, shades, (len(front), len(added), len(loose)))
+    legend(picture, frame.left + frame.width + RIGHT, mesh, shades, (len(front), len(added), len(loose)))
     picture.add('</svg>')
     return '\n'.join(picture.lines) + '\n'
 
@@ -171,7 +174,7 @@ def summary(mesh, added):
 
 
 def axes(picture, frame):
-    left, right, top, bottom = LEFT, LEFT + frame.width, TOP, TOP + frame.height
+    left, right, top, bottom = frame.left, frame.left + frame.width, TOP, TOP + frame.height
     picture.add('<g id="axes" stroke="%s" fill="none">', GREY)
     picture.add('<rect x="%s" y="%s" width="%s" height="%s"/>', *map(number, (left, top, frame.width, frame.height)))
     for tick in frame.ticks(0):
@@ -182,9 +185,9 @@ def axes(picture, frame):
         picture.add('<line x1="%s" y1="%s" x2="%s" y2="%s"/>', number(left - 6), y, number(left), y)
     picture.add('</g>')
     for tick in frame.ticks(0):
-        picture.text(frame.x(tick), bottom + 22, '%.10g' % tick, anchor='middle', fill=GREY)
+        picture.text(frame.x(tick), bottom + 22, label(tick, frame.step), anchor='middle', fill=GREY)
     for tick in frame.ticks(1):
-        picture.text(left - 10, frame.y(tick) + 5, '%.10g' % tick, anchor='end', fill=GREY)
+        picture.text(left - 10, frame.y(tick) + 5, label(tick, frame.step), anchor='end', fill=GREY)
     picture.text((left + right) / 2, bottom + 42, 'x', anchor='middle', fill=GREY)
     picture.text(16, (top + bottom) / 2 + 5, 'y', anchor='middle', fill=GREY)
 
