@@ -53,11 +53,21 @@ class Work:
 
 
 def check_folders(options):
-    """That the files to write can be, before a long run."""
+    """That the files to write can be, before a long run, and that none is written over another or over the one that is read."""
     from .surfaces import Fault
-    for path in [options.output, options.node_map, options.steps, *options.report, *options.sheet, *options.preview]:
-        if path and not os.path.isdir(os.path.dirname(path) or '.'):
-            raise Fault('cannot write %s: there is no folder %s' % (path, os.path.dirname(path)))
+    paths = [path for path in [options.output, options.node_map, options.steps, *options.report, *options.sheet, *options.preview] if path]
+    for place, path in enumerate(paths):
+        folder = os.path.dirname(path) or '.'
+        if not os.path.isdir(folder):
+            raise Fault('cannot write %s: there is no folder %s' % (path, folder))
+        if os.path.isdir(path):
+            raise Fault('cannot write %s: it is a folder; name a file in it' % path)
+        if not os.access(path if os.path.exists(path) else folder, os.W_OK):
+            raise Fault('cannot write %s: you have no permission' % path)
+        if os.path.exists(path) and os.path.exists(options.input) and os.path.samefile(path, options.input):
+            raise Fault('%s is the file that is read, and would be written over: name another' % path)
+        if os.path.abspath(path) in map(os.path.abspath, paths[:place]):
+            raise Fault('%s would be written twice: name different files' % path)
 
 
 def main(words=None):
@@ -91,9 +101,9 @@ def say(words):
 def worked(options):
     from . import files, library
     library.load()
-    if options.output:
-        files.writing_form(options.output, options.to)
     check_folders(options)
+    if options.output:
+        files.check_form(options.output, options.to)
     begin = time.perf_counter()
     work = prepared(options)
     if options.output or options.steps:
@@ -154,7 +164,7 @@ def prepared(options, whole=False):
     cells = surface.triangles.cells
     work.given_components = int(quality.components(cells).max()) + 1
     hard = joints.Hard() if options.free else losses.hard(surface)
-    work.plan = parts.planned(surface.points, cells, 0.0 if options.grid else options.size, hard, options.grid, whole)
+    work.plan = parts.planned(surface.points, cells, 0.0 if options.grid else options.size, hard, options.grid, whole, options.stop == 1)
     return work
 
 
@@ -225,8 +235,8 @@ def written(work):
     left = groups.grouped(surface, work.points, result.triangles, result.of_triangles, result.parts)
     blocks = [('quad', groups.renumbered(quads, work.number, surface.clockwise)), ('triangle', groups.renumbered(left, work.number, surface.clockwise)),
               ('line', groups.renumbered(lines, work.number)), ('vertex', groups.renumbered(vertices, work.number))]
-    sets = {name.replace(' ', '_'): work.number[own][work.number[own] >= 0] for name, own in surface.hard.items() if name != 'point of the geometry'}
-    surface.notes += files.write(work.options.output, work.options.to, work.points[nodes], blocks, surface.field_data, sets)
+    sets = {name: work.number[own][work.number[own] >= 0] for name, own in surface.hard.items() if name != 'point of the geometry'}
+    surface.notes += files.write(work.options.output, work.options.to, work.points[nodes], blocks, surface.names, sets)
     if work.options.node_map:
         with open(work.options.node_map, 'w') as file:
             file.write('node,given\n')

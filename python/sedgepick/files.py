@@ -1,15 +1,20 @@
 """Mesh files in and out, by meshio."""
-import contextlib, io, os, re
+import contextlib, io, os, re, tempfile
 import meshio
 import numpy
 from meshio import _helpers as meshio_forms
+from . import abaqus, names
+from .reading import Watched, fault_words, lacking, xml_words
 from .surfaces import Fault, Marked, Surface
 
-# integer arrays of cells that stand for groups
-TAGS = ('gmsh:physical', 'gmsh:geometrical', 'medit:ref', 'cell_tags', 'CellEntityIds', 'nastran:ref', 'netgen:index', 'avsucd:material', 'tetgen:ref')
+WIDTHS = {'vertex': 1, 'line': 2, 'line3': 3, 'triangle': 3}
 SECOND_ORDER = {'triangle6', 'triangle7', 'quad8', 'quad9', 'triangle10'}
 # of several formats that a suffix may mean, the one that is written
 WRITTEN = {'.msh': 'gmsh22', '.vtk': 'vtk42'}
+SETS = ('abaqus', 'med')  # formats with sets of cells and of nodes
+OPTIONS = {'gmsh22': {'binary': False}, 'xdmf': {'data_format': 'XML'}}  # one file; meshio's other ways put the numbers into a second one
+ONE_ARRAY = ('medit', 'su2', 'ugrid', 'netgen', 'avsucd', 'nastran', 'flac3d')  # formats that take one array of numbers
+XML = ('vtu', 'xdmf', 'dolfin-xml')
 INP = {'quad': 'S4', 'triangle': 'S3', 'line': 'B31'}  # element types of shells and beams
 ROUNDED = 1e-6  # of the extent: a file that moves a node farther does not hold the mesh
 GOOD = '.msh (Gmsh), .vtk, .vtu, .inp (Abaqus, CalculiX), .med, .xdmf, .bdf'
@@ -31,45 +36,72 @@ def form_of(path, given):
     return form
 
 
+def suffix_of(path):
+    """The end of the name that says the format, such as .vol.gz."""
+    words = os.path.basename(path).lower().split('.')
+    ends = ['.' + '.'.join(words[-n:]) for n in (2, 1) if len(words) > n]
+    return next((end for end in ends if end in meshio_forms.extension_to_filetypes), ends[-1] if ends else '')
+
+
 def named_form(path, given):
     known = set(meshio_forms.reader_map) | set(meshio_forms._writer_map)
     if given:
         if given not in known:
             raise Fault('unknown format %s; the formats are: %s' % (given, ', '.join(sorted(known))))
         return given
-    suffix = os.path.splitext(path)[1].lower()
-    found = meshio_forms.extension_to_filetypes.get(suffix)
+    found = meshio_forms.extension_to_filetypes.get(suffix_of(path))
     if not found:
-        raise Fault("unknown format: nothing is known of the suffix '%s'; rename the file, say the format with --from or --to, or convert it to one of %s"
-                    % (suffix, GOOD))
+        raise Fault("unknown format of %s: nothing is known of the suffix '%s'; rename it, say the format with --from or --to, or take one of %s"
+                    % (os.path.basename(path), suffix_of(path), GOOD))
     return 'gmsh' if 'gmsh' in found else found[0]
+
+
+def check_readable(path):
+    if os.path.isdir(path):
+        raise Fault('it is a folder; name a mesh file')
+    if not os.path.exists(path):
+        raise Fault('there is no such file')
+    if not os.access(path, os.R_OK):
+        raise Fault('it may not be read: you have no permission')
+    if not os.path.getsize(path):
+        raise Fault('it is empty: write the mesh anew')
 
 
 def read(path, form=None):
     """The surface of a file."""
-    if not os.path.isfile(path):
-        raise Fault('there is no such file')
+    check_readable(path)
     form = form_of(path, form)
     try:
-        with quiet() as said:
+        with quiet() as said, Watched(path, '**' if form == 'abaqus' else None) as watched, numpy.errstate(all='ignore'):
             mesh = meshio.read(path, file_format=form)
+            mesh = abaqus.repaired(path, mesh) if form == 'abaqus' else mesh
     except ModuleNotFoundError as error:
-        raise Fault('meshio needs %s for %s files: install python3-%s' % (error.name, form, error.name.lower()))
+        raise Fault(missing(error, form))
     except (Exception, SystemExit) as error:
-        words = ' '.join(said.getvalue().split()) or ' '.join(str(error).split()) or type(error).__name__
-        raise Fault('meshio cannot read it as %s: %s. If it has another format, say it with --from' % (form, words[:300]))
+        words = (form in XML and xml_words(path)) or '; '.join(filter(None, (watched.place(), fault_words(error, said.getvalue())))) or type(error).__name__
+        raise Fault('meshio cannot read it as %s: %s. Mend the file or write it anew; if it has another format, say it with --from' % (form, words))
+    words = lacking(path, form, sum(len(block.data) for block in mesh.cells))
+    if words:
+        raise Fault('it breaks off: %s. Write it anew' % words)
     return surface_of(path, mesh)
+
+
+def missing(error, form):
+    return ('meshio needs the Python module %s for %s files: install it (Debian: apt install python3-%s; elsewhere: pip install %s)'
+            % (error.name, form, error.name.lower(), error.name))
 
 
 def surface_of(path, mesh):
     kinds = {}
     for block in mesh.cells:
         kinds[block.type] = kinds.get(block.type, 0) + len(block.data)
+        if numpy.ndim(block.data) != 2 or numpy.shape(block.data)[1] != WIDTHS.get(block.type, numpy.shape(block.data)[1]):
+            raise Fault('cells of type %s have %d nodes each: mend the file or write it anew' % (block.type, numpy.size(block.data) // max(len(block.data), 1)))
     for kind in SECOND_ORDER & set(kinds):
         raise Fault("%d cells of second order (%s): only triangles of three nodes are taken; write the mesh with order 1 (Gmsh: Mesh.ElementOrder = 1)"
                     % (kinds[kind], kind))
     if not kinds.get('triangle'):
-        raise Fault('no triangles; the file has %s. Mesh its surface with triangles first' % (', '.join('%d %s' % (n, k) for k, n in kinds.items()) or 'no cells'))
+        raise Fault('no triangles; the file has %s. Mesh its surface with triangles first' % (', '.join('%d cells of type %s' % (n, k) for k, n in kinds.items()) or 'no cells'))
     others = {kind: count for kind, count in kinds.items() if kind not in ('triangle', 'line', 'line3', 'vertex')}
     if others:
         raise Fault('the file has %s beside its triangles, and they would be lost: write a file with the triangles alone'
@@ -77,29 +109,38 @@ def surface_of(path, mesh):
     points = numpy.array(mesh.points, dtype=float)
     if points.shape[1] == 2:
         points = numpy.column_stack([points, numpy.zeros(len(points))])
-    triangles, lines, vertices = (gathered(mesh, names, width) for names, width in ((('triangle',), 3), (('line', 'line3'), 2), (('vertex',), 1)))
-    if triangles.cells.max() >= len(points) or triangles.cells.min() < 0:
-        raise Fault('a triangle names a node that is not there')
-    surface = Surface(os.path.basename(path), points, triangles, lines, vertices, hard_nodes(mesh, triangles.cells), dict(mesh.field_data or {}))
-    return surface
+    sets = names.cell_sets(mesh)
+    triangles, lines, vertices = (gathered(mesh, sets, some, width) for some, width in ((('triangle',), 3), (('line', 'line3'), 2), (('vertex',), 1)))
+    for word, cells in (('triangle', triangles.cells), ('line', lines.cells), ('point', vertices.cells)):
+        check_nodes(word, cells, len(points))
+    return Surface(os.path.basename(path), points, triangles, lines, vertices, hard_nodes(mesh, triangles.cells), names.physical(mesh))
 
 
-def gathered(mesh, kinds, width):
+def check_nodes(word, cells, count):
+    """Every node of the cells is there."""
+    wrong = numpy.argwhere((cells >= count) | (cells < 0))
+    if len(wrong):
+        raise Fault('%s %d names node %d, and the file has the nodes 1 to %d: mend that cell or write the file anew' % (word, wrong[0, 0] + 1, cells[tuple(wrong[0])] + 1, count))
+
+
+def gathered(mesh, named, kinds, width):
     """The cells of these kinds in the file's order, with tags and sets."""
     places = [i for i, block in enumerate(mesh.cells) if block.type in kinds]
     stack = lambda rows, empty: numpy.concatenate(rows) if rows else empty
     cells = stack([numpy.asarray(mesh.cells[i].data)[:, :width].astype(numpy.int64) for i in places], numpy.zeros((0, width), dtype=numpy.int64))
-    tags = {name: stack([numpy.asarray(mesh.cell_data[name][i]).astype(numpy.int64).reshape(len(mesh.cells[i].data), -1)[:, 0] for i in places],
-                        numpy.zeros(0, dtype=numpy.int64)) for name in TAGS if name in mesh.cell_data}
-    sets = {}
-    for name, members in (mesh.cell_sets or {}).items():
-        if not name.startswith('gmsh:'):
-            sets[name] = stack([numpy.isin(numpy.arange(len(mesh.cells[i].data)), members[i] if members[i] is not None else []) for i in places],
-                               numpy.zeros(0, dtype=bool))
-    for name, value in (mesh.field_data or {}).items():
-        if name not in sets and 'gmsh:physical' in tags and len(numpy.atleast_1d(value)) == 2:
-            sets[name] = (tags['gmsh:physical'] == value[0]) & (int(value[1]) == width - 1)
+    tags = {name: stack([whole(mesh.cell_data[name][i], len(mesh.cells[i].data)) for i in places], numpy.zeros(0, dtype=numpy.int64))
+            for name in names.TAGS if name in mesh.cell_data}
+    sets = {name: stack([rows[i] for i in places], numpy.zeros(0, dtype=bool)) for name, rows in named.items()}
+    for name, (number, dimension) in names.physical(mesh).items():
+        if name not in sets and 'gmsh:physical' in tags:
+            sets[name] = (tags['gmsh:physical'] == number) & (dimension == width - 1)
     return Marked(cells, tags, sets)
+
+
+def whole(numbers, count):
+    """A whole number for each cell; 0 where it is none."""
+    numbers = numpy.asarray(numbers, dtype=float).reshape(count, -1)[:, 0] if count else numpy.zeros(0)
+    return numpy.where(abs(numbers) < 2.0 ** 53, numbers, 0).astype(numpy.int64)
 
 
 def hard_nodes(mesh, triangles):
@@ -108,64 +149,97 @@ def hard_nodes(mesh, triangles):
     place = (mesh.point_data or {}).get('gmsh:dim_tags')
     if place is not None:
         hard['point of the geometry'] = numpy.intersect1d(numpy.flatnonzero(numpy.asarray(place)[:, 0] == 0), used)
-    for name, nodes in (mesh.point_sets or {}).items():
-        nodes = numpy.intersect1d(numpy.asarray(nodes).astype(numpy.int64), used)
+    for name, nodes in names.node_sets(mesh).items():
+        nodes = numpy.intersect1d(nodes, used)
         if 0 < len(nodes) < len(used):
             hard[name] = nodes
     return hard
 
 
-def write(path, form, points, blocks, field_data, point_sets):
-    """Writes the cells (kind, Marked), reads them back and compares; returns notes."""
+def check_form(path, form):
+    """That the format takes quads, before a long run."""
+    points = numpy.array([[0.0, 0, 0], [1, 0, 0], [1, 1, 0], [0, 1, 0], [2, 0, 0]])
+    cells, fault = [('quad', Marked(numpy.array([[0, 1, 2, 3]]))), ('triangle', Marked(numpy.array([[1, 4, 2]])))], None
+    with tempfile.TemporaryDirectory() as folder:
+        made = os.path.join(folder, os.path.basename(path))
+        for some, nodes in ((cells[:1], 4), (cells, 5)):  # a few take cells of one kind alone
+            try:
+                return write(made, form, points[:nodes], some, {}, {})
+            except Fault as found:
+                fault = found
+    raise Fault(str(fault).replace(made, path))
+
+
+def write(path, form, points, blocks, named, point_sets):
+    """Writes the cells (kind, Marked), reads them back and compares; returns notes. A file that is there stays until the new one is whole."""
     form, notes = writing_form(path, form), []
     blocks = [block for block in blocks if len(block[1].cells)]
-    for left_out in ((), ('vertex',), ('vertex', 'line')):
-        kept = [block for block in blocks if block[0] not in left_out]
-        fault = written(path, form, points, kept, field_data, point_sets, notes)
-        if fault is None or len(kept) == len(blocks) == 0:
-            break
-    if fault is not None:
-        if os.path.exists(path):
-            os.remove(path)
-        raise Fault('cannot write %s as %s: %s. Formats that take quads: %s' % (path, form, fault, GOOD))
+    if form in SETS:
+        blocks, point_sets = names.as_node_sets(blocks, point_sets)
+    else:
+        blocks, point_sets = names.as_vertices(blocks, point_sets), {}
+    try:
+        with tempfile.TemporaryDirectory(prefix='.sedgepick-', dir=os.path.dirname(path) or '.') as folder:
+            made = os.path.join(folder, os.path.basename(path))
+            for left_out in ((), ('vertex',), ('vertex', 'line')):
+                kept = [block for block in blocks if block[0] not in left_out]
+                fault = written(made, form, points, kept, named, point_sets, notes)
+                if fault is None or len(kept) == len(blocks) == 0:
+                    break
+            if fault is not None:
+                raise Fault('cannot write %s as %s: %s. Formats that take quads: %s' % (path, form, fault, GOOD))
+            for name in os.listdir(folder):  # some formats have other files beside it
+                os.replace(os.path.join(folder, name), os.path.join(os.path.dirname(path), name))
+    except OSError as error:
+        raise Fault('cannot write %s: %s' % (path, error.strerror or error))
     if len(kept) < len(blocks):
         notes.append('%s does not take cells of type %s; they are left out of the file' % (form, ' and '.join(k for k, _ in blocks if k in left_out)))
     return notes
 
 
 def writing_form(path, form):
-    suffix = os.path.splitext(path)[1].lower()
-    return (not form and WRITTEN.get(suffix)) or form_of(path, form)
+    return (not form and WRITTEN.get(suffix_of(path))) or form_of(path, form)
 
 
-def written(path, form, points, blocks, field_data, point_sets, notes):
+def mesh_of(form, points, blocks, named, point_sets):
+    """(mesh, words on the numbers of groups) as meshio takes it for the format."""
+    cells, words = [(kind, marked.cells) for kind, marked in blocks], []
+    if form == 'med':
+        mesh = meshio.Mesh(points, cells)
+        names.med_groups(mesh, blocks, point_sets)
+    elif form == 'abaqus':
+        full = [(kind, names.with_sets(marked)) for kind, marked in blocks]
+        sets = {names.plain(name): [numpy.flatnonzero(marked.sets.get(name, [])) for _, marked in full] for name in sorted({name for _, marked in full for name in marked.sets})}
+        mesh = meshio.Mesh(points, cells, cell_sets=sets, point_sets={names.plain(name): nodes for name, nodes in point_sets.items()})
+    elif form == 'gmsh22':
+        tags, found = names.gmsh_groups(blocks, named)
+        mesh = meshio.Mesh(points, cells, cell_data=tags, field_data=found)
+    else:
+        tags, words = names.numbered(blocks, named)
+        mesh = meshio.Mesh(points, cells, cell_data=dict(list(tags.items())[:1] if form in ONE_ARRAY else tags))
+    return mesh, words
+
+
+def written(path, form, points, blocks, named, point_sets, notes):
     """None, or why the file does not hold the mesh."""
-    tags = {name: [marked.tags.get(name, numpy.zeros(len(marked.cells), dtype=numpy.int64)) for _, marked in blocks]
-            for name in {name for _, marked in blocks for name in marked.tags}}
-    if form == 'gmsh22':  # an element has these two and no other
-        other = next(iter(tags.values()), [numpy.ones(len(marked.cells), dtype=numpy.int64) for _, marked in blocks])
-        tags = {name: tags.get(name, other) for name in TAGS[:2]}
-    sets = {re.sub(r'\s+', '_', name): [numpy.flatnonzero(marked.sets.get(name, [])) for _, marked in blocks]
-            for name in {name for _, marked in blocks for name in marked.sets}}
+    mesh, words = mesh_of(form, points, blocks, named, point_sets)
     try:
-        mesh = meshio.Mesh(points, [(kind, marked.cells) for kind, marked in blocks], cell_data=tags, field_data=field_data,
-                           cell_sets=sets if form == 'abaqus' else None, point_sets=point_sets if form == 'abaqus' else None)
         with quiet() as said:
-            meshio.write(path, mesh, file_format=form, **({'binary': False} if form == 'gmsh22' else {}))
+            meshio.write(path, mesh, file_format=form, **OPTIONS.get(form, {}))
         if form == 'abaqus':
             for_calculix(path, points)
     except ModuleNotFoundError as error:
-        return 'meshio needs %s for it: install python3-%s' % (error.name, error.name.lower())
-    except OSError as error:
-        raise Fault('cannot write %s: %s' % (path, error.strerror or error))
+        return missing(error, form)
+    except OSError:
+        raise
     except (Exception, SystemExit) as error:
-        return ' '.join(said.getvalue().split())[:200] or ' '.join(str(error).split())[:200] or type(error).__name__
-    return parted(path, form, points, blocks, notes)
+        return 'meshio fails: %s' % (' '.join(str(error).split())[:200] or ' '.join(said.getvalue().split())[:200] or type(error).__name__)
+    return parted(path, form, mesh, blocks, words, notes)
 
 
-def parted(path, form, points, blocks, notes):
-    """Reads the file back: None where it has the same cells and points, or where meshio cannot read the format; a note where it rounds."""
-    reader = {'gmsh22': 'gmsh', 'vtk42': 'vtk', 'vtk51': 'vtk'}.get(form, form)
+def parted(path, form, given, blocks, words, notes):
+    """Reads the file back: None where it has the same cells and points, or where meshio cannot read the format; notes on what it rounds or leaves out."""
+    reader, points = {'gmsh22': 'gmsh', 'vtk42': 'vtk', 'vtk51': 'vtk'}.get(form, form), given.points
     if reader not in meshio_forms.reader_map:
         return None
     try:
@@ -187,7 +261,21 @@ def parted(path, form, points, blocks, notes):
     changed = int((mesh.points[:, :2] != points[:, :2]).sum())
     if changed:
         notes.append('%s rounds %d of %d coordinates, by up to %.3g' % (form, changed, 2 * len(points), far))
+    if words:
+        notes.append(names_words(form, given, mesh, words))
     return None
+
+
+def names_words(form, given, mesh, words):
+    """What became of the names of groups in a format that has none."""
+    stacked = lambda mesh, name: {kind: numpy.concatenate([numpy.asarray(mesh.cell_data[name][i]).ravel() for i, block in enumerate(mesh.cells) if block.type == kind])
+                                  for kind in {block.type for block in mesh.cells}}
+    wanted = stacked(given, next(iter(given.cell_data)))
+    for name in mesh.cell_data:
+        came = stacked(mesh, name)
+        if all(kind in came and numpy.array_equal(came[kind], numbers) for kind, numbers in wanted.items()):
+            return '%s holds no names of groups; in its numbers (%s) %s' % (form, name, ', '.join(words))
+    return '%s holds no groups; left out are %s' % (form, ', '.join(word.split(' is ', 1)[1] for word in words))
 
 
 def for_calculix(path, points):

@@ -7,15 +7,18 @@ PAGES = ('.html', '.htm')
 def size_of(word):
     if word == 'auto':
         return None
-    value = float(word)
+    try:
+        value = float(word)
+    except ValueError:
+        value = math.nan
     if not 0.0 <= value < math.inf:
-        raise ValueError(word)
+        raise argparse.ArgumentTypeError('%r is no size: a length in the units of the file, 0 or auto' % word)
     return value
 
 
 def count_of(word):
-    if int(word) < 1:
-        raise ValueError(word)
+    if not word.isdecimal() or int(word) < 1:
+        raise argparse.ArgumentTypeError('%r is not a whole number from 1 on' % word)
     return int(word)
 
 

@@ -8,8 +8,9 @@ from concurrent.futures import ThreadPoolExecutor, as_completed
 from dataclasses import dataclass
 import numpy
 from . import joints, quality, sheets
+from .evening import evened
 from .fitting import fit, grid_fit
-from .front import LARGEST_SIZE, LEAST_SIZE, MOST_GIVEN, MOST_JOINTS, Quality
+from .front import EVEN_COMPONENTS, LARGEST_SIZE, LEAST_SIZE, MOST_GIVEN, MOST_JOINTS, Quality
 from .sizes import best_run
 from .slits import opened
 from .surfaces import Fault
@@ -146,14 +147,16 @@ def halved(points, triangles, part):
     return numpy.unique(part, return_inverse=True)[1]
 
 
-def planned(points, triangles, size, hard=joints.Hard(), grid=False, whole=False):
-    """The parts of the mesh, slit along what is hard where that is too much to lock; whole: one part, however large."""
+def planned(points, triangles, size, hard=joints.Hard(), grid=False, whole=False, even=False):
+    """The parts of the mesh, slit along what is hard where that is too much to lock; whole: one part, however large; even: with even components, where they can be."""
     part, cutter = (numpy.zeros(len(triangles), dtype=int), 'one part') if whole else cut(points, triangles)
     slit, notes = joints.to_slit(points, triangles, part, hard)
     origin, cells = opened(triangles, slit)
     doubled = points[origin]
     if not whole and any(len(numpy.unique(cells[part == which])) > MOST_GIVEN for which in range(int(part.max()) + 1)):
         part = halved(doubled, cells, part)
+    if even and part.any():
+        part = evened(cells, part)
     return Plan(len(points), doubled, cells, origin, part, cutter, notes, hard, size, grid)
 
 
@@ -193,7 +196,7 @@ def ran(plan, stop, quality=Quality(), progress=None, jobs=None, call=best_run, 
 
 def run(points, triangles, size, stop, hard=joints.Hard(), progress=None, jobs=None, quality=Quality(), grid=False):
     """Meshes the triangles, what is hard locked or slit, in parts where there are too many."""
-    return ran(planned(points, triangles, size, hard, grid), stop, quality, progress, jobs)
+    return ran(planned(points, triangles, size, hard, grid, even=stop == EVEN_COMPONENTS), stop, quality, progress, jobs)
 
 
 def odd_components(triangles):

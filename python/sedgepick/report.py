@@ -1,4 +1,5 @@
 """The report of a run, as text and as a page with the picture."""
+import hashlib, os
 from dataclasses import dataclass
 from html import escape
 import meshio, numpy
@@ -29,9 +30,14 @@ def summary(work):
     """A line on the cells, and one on the file's lines, points and borders where it has such."""
     result, given = work.result, work.surface
     left, quads = len(result.triangles), len(result.quads)
-    cells = ('%s: %d triangles to %d quads and %d triangles, %s nodes added, %d nodes left out, %.1f s'
-             % (given.name, len(given.triangles.cells), quads, left, len(result.added), orphans(work), work.seconds))
+    cells = ('%s: %s to %s and %s, %s added, %s left out, %.1f s'
+             % (given.name, many(len(given.triangles.cells), 'triangle'), many(quads, 'quad'), many(left, 'triangle'), many(len(result.added), 'node'), many(orphans(work), 'node'),
+                work.seconds))
     return '\n'.join([cells] + ['; '.join(loss.words() for loss in work.losses)] * bool(work.losses))
+
+
+def many(count, word):
+    return '%d %s%s' % (count, word, '' if count == 1 else 's')
 
 
 def slab_words(work):
@@ -85,11 +91,11 @@ def sections(work):
     replaced = ('triangles that a quad replaced', '%d to %d, %.2f on average' % (result.replaced.min(), result.replaced.max(), result.replaced.mean())) \
         if len(result.quads) else None
     return [
-        ('Run', [('file', surface.name), ('given', given_words(surface)),
+        ('Run', [('file', surface.name), *digests(work), ('given', given_words(surface)),
                  ('profile', 'grid' if work.options.grid else 'none'),
                  ('size', size_words(work.options, result.sizes)),
                  *([('in the job', account(work.slab))] if work.slab else []), ('stop rule', work.options.stop), ('quality', quality_words(work.options.quality)),
-                 ('parts', '%d (%s), %d edges between them, all found' % (len(result.sizes), result.cutter, work.cuts)),
+                 ('parts', 'one' if len(result.sizes) == 1 else '%d (%s), %d edges between them, all found' % (len(result.sizes), result.cutter, work.cuts)),
                  ('coordinates rounded', '%d of given nodes on their way to the library, %d of added ones on their way back' % result.rounded),
                  ('library', 'sedgepick %s' % library.VERSION), ('commit', library.commit()), ('meshio', meshio.__version__), ('seconds', '%.1f' % work.seconds)]),
         ('Result', counted),
@@ -97,7 +103,7 @@ def sections(work):
         ('Area', [('before', '%.15g' % work.areas[0]), ('after', '%.15g' % work.areas[1]), ('boundary', 'every edge found')] + exact_words(work)),
         ('Quads', [('least scaled Jacobian', '%.4f' % jacobians.min()), ('least angle', '%.2f degrees' % least.min()), replaced] + list(map(place, quad_rows))
          if len(result.quads) else [('none', '')]),
-        ('Quality sheet', sheets.worst_words(result.sheet) + [('scaled Jacobian ' * (i < sheets.STEPS) + name, bar) for i, (name, bar) in enumerate(sheets.histogram(result.sheet))]),
+        ('Quality sheet', sheets.worst_words(result.sheet) + steps(work)),
         ('Leftover triangles', [('under 10 degrees', int((angles < 10).sum()))] + list(map(place, triangle_rows)) if len(angles) else [('none', '')]),
         ('Lines, points and borders of the file', lost + [(loss.what, at(points, nodes)) for loss in work.losses for nodes in loss.lost[:LISTED]]
          or [('none in the file', '')]),
@@ -105,6 +111,11 @@ def sections(work):
     ], Drawn(points[:, :2], result.quads, result.triangles, jacobians, angles, [row[:2] for row in quad_rows[:5] + triangle_rows[:5]],
              [points[nodes, :2] for loss in work.losses for nodes in loss.lost if numpy.ndim(nodes)],
              [points[nodes, :2] for loss in work.losses for nodes in loss.lost if not numpy.ndim(nodes)], *kept(work))
+
+
+def steps(work):
+    """The rows of the histogram."""
+    return [('scaled Jacobian ' * (i < sheets.STEPS) + name, bar) for i, (name, bar) in enumerate(sheets.histogram(work.result.sheet))]
 
 
 def kept(work):
@@ -122,6 +133,15 @@ def job_rows(works, job):
                      ('charged', '%d attempts' % job.charged), ('left', '%d attempts, behind the last file' % job.left),
                      ('each file', 'run once, whole, with all memory that the library takes')]),
             ('Files', [('%d of %d' % (place, len(works)), slab_words(work) + outcome(work)) for place, work in enumerate(works, 1)])]
+
+
+def digests(work):
+    """By which the file that was read and the one that was written can be told from others."""
+    found = []
+    for path in (work.options.input, work.options.output):
+        with open(path, 'rb') as file:
+            found.append(('SHA-256 of %s' % os.path.basename(path), hashlib.sha256(file.read()).hexdigest()))
+    return found
 
 
 def given_words(surface):
@@ -163,16 +183,17 @@ def job_text(works, job):
 
 
 def lines(head, titled):
-    out = [head, '']
+    out, wide = [head, ''], max(len(name) for _, rows in titled for name, _ in rows)
     for title, rows in titled:
-        out += [title] + ['  %-46s %s' % (name, value) for name, value in rows] + ['']
+        out += [title] + ['  %-*s  %s' % (wide, name, value) for name, value in rows] + ['']
     return '\n'.join(line.rstrip() for line in out)
 
 
 STYLE = """body { font: 15px/1.45 'DejaVu Sans', Verdana, Arial, sans-serif; color: #1a1a1a; margin: 24px auto; max-width: 1240px; padding: 0 16px; }
 h1 { font-size: 22px; } h2 { font-size: 16px; margin: 22px 0 6px; } svg { max-width: 100%; height: auto; }
 .lists { columns: 2; column-gap: 36px; } section { break-inside: avoid; } table { border-collapse: collapse; width: 100%; }
-td { border-top: 1px solid #dddddd; padding: 3px 8px 3px 0; vertical-align: top; } td:first-child { color: #555555; width: 34%; }
+td { border-top: 1px solid #dddddd; padding: 3px 8px 3px 0; vertical-align: top; overflow-wrap: anywhere; } td:first-child { color: #555555; width: 34%; }
+.lists h2 { margin-top: 0; padding-top: 22px; }
 .warning { background: #fff3cd; border-left: 4px solid #d39e00; padding: 6px 12px; margin: 4px 0; }
 @media print { body { max-width: none; } }"""
 
@@ -185,9 +206,11 @@ def tables(titled):
 def body(work):
     """A file's name, summary, warnings, picture and lists."""
     rows, drawn = sections(work)
+    bars = steps(work)  # drawn above
+    rows = [(title, [row for row in own if row not in bars]) for title, own in rows]
     warnings = ''.join('<p class="warning">%s</p>' % escape(words) for words in work.warnings)
     return ('<h1>%s</h1>\n<p>%s</p>%s\n%s<h2>Quads by scaled Jacobian</h2>\n%s\n<div class="lists">%s</div>'
-            % (escape(work.surface.name), escape(summary(work)), warnings, picture.draw(drawn), sheets.drawn(work.result.sheet), tables(rows)))
+            % (escape(work.surface.name), escape(summary(work)).replace('\n', '<br>\n'), warnings, picture.draw(drawn), sheets.drawn(work.result.sheet), tables(rows)))
 
 
 def bodied(title, content):

@@ -40,8 +40,8 @@ def read(options):
     for options.input, out in zip(options.files, outputs(options)):  # the file that a fault is told of
         own = copy.copy(options)
         own.output = out
-        files.writing_form(out, own.to)
         check_folders(own)
+        files.check_form(out, own.to)
         work = prepared(own, whole=True)
         work.plan.fitted(0)
         works.append(work)

@@ -41,7 +41,7 @@ class Surface:
     lines: Marked
     vertices: Marked
     hard: dict = field(default_factory=dict)      # name: nodes that must stay, beside the vertices
-    field_data: dict = field(default_factory=dict)
+    names: dict = field(default_factory=dict)     # name: (number, dimension) of Gmsh's groups
     clockwise: bool = False        # every triangle was, and was turned
     notes: list = field(default_factory=list)
 
@@ -56,7 +56,7 @@ def checked(surface, flatten=False):
     used = numpy.unique(cells)
     wrong = numpy.flatnonzero(~numpy.isfinite(points[used]).all(axis=1))
     if len(wrong):
-        raise Fault('%s of %d is not finite: mend the file' % ('node %d' % (used[wrong[0]] + 1), len(points)))
+        raise Fault('node %d of %d lies at (%g, %g, %g), which is not finite (%d such): mend it' % (used[wrong[0]] + 1, len(points), *points[used[wrong[0]]], len(wrong)))
     check_plane(surface, used, flatten)
     keep = numpy.sort(numpy.unique(numpy.sort(cells, axis=1), axis=0, return_index=True)[1])
     if len(keep) < len(cells):

@@ -1,67 +1,28 @@
 """Tests of sedgepick-mesh with files that Gmsh and meshio wrote (examples/files), and of what it says of bad ones."""
-import glob, os, re, shutil, subprocess, sys, tempfile, unittest
+import glob, os, re, shutil, subprocess, sys, unittest
 import xml.etree.ElementTree as xml
-from common import FILES, PACKAGES, ROOT, grid, make_library
+from importlib.util import find_spec
+from case import COMMAND, Case, meshio, set_up
+from common import FILES, ROOT, grid
 
-try:
-    import meshio, numpy
-    from sedgepick import command, files, fitting, joints, losses, parts, quality, slits, surfaces
-except ImportError:
-    meshio = None
+if meshio:
+    import numpy
+    from sedgepick import command, evening, files, fitting, joints, losses, parts, quality, slits, surfaces
 
-COMMAND = os.path.join(PACKAGES, 'sedgepick-mesh')
+HDF = find_spec('h5py') is not None  # which meshio needs for MED, and to write XDMF
 
 
 def setUpModule():
-    if meshio is None:
-        raise unittest.SkipTest('numpy and meshio are not installed for %s' % sys.executable)
-    make_library()
-
-
-class Case(unittest.TestCase):
-    def setUp(self):
-        self.folder = tempfile.mkdtemp()
-        self.addCleanup(shutil.rmtree, self.folder)
-        self.out = os.path.join(self.folder, 'out.msh')
-
-    def path(self, name):
-        return os.path.join(self.folder, name)
-
-    def run_command(self, *words):
-        return subprocess.run([sys.executable, COMMAND, *words], capture_output=True, text=True)
-
-    def good(self, *words, status=0):
-        ran = self.run_command(*words)
-        self.assertEqual(ran.returncode, status, ran.stderr)
-        self.assertNotIn('Traceback', ran.stderr)
-        return ran
-
-    def refused(self, pattern, *words):
-        ran = self.run_command(*words)
-        self.assertEqual(ran.returncode, 1, ran.stdout + ran.stderr)
-        self.assertNotIn('Traceback', ran.stderr)
-        self.assertNotIn('a fault of the command itself', ran.stderr)
-        self.assertRegex(ran.stderr, pattern)
-        self.assertFalse(os.path.exists(self.out))
-
-    def mesh(self, path=None, form='gmsh'):
-        with files.quiet():
-            mesh = meshio.read(path or self.out, file_format=form)
-        stack = lambda kind: [tuple(map(int, cell)) for block in mesh.cells if block.type == kind for cell in block.data]
-        return mesh, stack('quad'), stack('triangle')
-
-    def stored(self, points, cells, name='in.vtk', **more):
-        path = self.path(name)
-        with files.quiet():
-            meshio.write(path, meshio.Mesh(numpy.array(points, dtype=float), [(kind, numpy.array(rows)) for kind, rows in cells], **more), file_format='vtk')
-        return path
+    set_up()
 
 
 class Formats(Case):
     def test_every_stored_file(self):
-        """The same slab in thirteen forms gives the same quads."""
+        """The same slab in fifteen forms gives the same quads."""
         names = [name for name in sorted(os.listdir(FILES)) if name.startswith('l-slab')]
-        self.assertEqual(len(names), 13)
+        self.assertEqual(len(names), 15)
+        if not HDF:
+            names.remove('l-slab-meshio.med')
         for name in names:
             with self.subTest(name):
                 self.good(os.path.join(FILES, name), '-o', self.out)
@@ -69,7 +30,7 @@ class Formats(Case):
                 self.assertEqual((len(quads), len(triangles)), (68, 10))
 
     def test_written_forms(self):
-        for suffix in ('msh', 'vtk', 'vtu', 'inp', 'obj', 'bdf', 'mesh'):
+        for suffix in ('msh', 'vtk', 'vtu', 'inp', 'obj', 'bdf', 'mesh', 'vol.gz') + ('med', 'xdmf') * HDF:
             with self.subTest(suffix):
                 out = self.path('out.' + suffix)
                 self.good(os.path.join(FILES, 'l-slab-41.msh'), '-o', out)
@@ -95,23 +56,8 @@ class Formats(Case):
         self.good(os.path.join(FILES, 'columns.msh'), '-o', out)
         with open(out) as file:
             text = file.read()
-        self.assertEqual(re.findall(r'TYPE=(\w+)', text), ['S4', 'S3', 'B31', 'B31'][:len(re.findall(r'TYPE=(\w+)', text))])
+        self.assertEqual(re.findall(r'TYPE=(\w+)', text), ['S4', 'S3', 'B31'])
         self.assertIn('ELSET=wall', text)
-
-    @unittest.skipUnless(shutil.which('ccx'), 'CalculiX is not installed')
-    def test_calculix_reads_it(self):
-        out = self.path('mesh.inp')
-        self.good(os.path.join(FILES, 'l-slab-41.msh'), '-o', out)
-        with open(out) as file:
-            text = file.read().replace('TYPE=S4', 'TYPE=S4, ELSET=SQ').replace('TYPE=S3', 'TYPE=S3, ELSET=ST')
-        text = re.sub(r'\*ELEMENT, TYPE=B31\n(\d.*\n)*', '', text)
-        text = re.sub(r'\*ELSET.*\n(\d.*\n)*', '', text)
-        deck = text + ('*MATERIAL, NAME=M\n*ELASTIC\n3e10, 0.2\n*SHELL SECTION, ELSET=SQ, MATERIAL=M\n0.2\n*SHELL SECTION, ELSET=ST, MATERIAL=M\n0.2\n'
-                       '*BOUNDARY\n1,1,6\n2,1,6\n3,1,6\n*STEP\n*STATIC\n*CLOAD\n5,3,-1000.\n*NODE FILE\nU\n*END STEP\n')
-        with open(self.path('deck.inp'), 'w') as file:
-            file.write(deck)
-        ran = subprocess.run(['ccx', 'deck'], capture_output=True, text=True, cwd=self.folder)
-        self.assertIn('Job finished', ran.stdout, ran.stdout[-800:])
 
     @unittest.skipUnless(shutil.which('gmsh'), 'Gmsh is not installed')
     def test_gmsh_writes_and_reads(self):
@@ -374,35 +320,41 @@ class Parts(Case):
     def test_metis(self):
         self.check('METIS')
 
+    def test_even_parts(self):
+        """Under rule 1 the parts of an even mesh are even, however it is cut; those of an odd component are so but for one."""
+        points, triangles = map(numpy.array, grid(60, 70, 0.1))
+        for cut in (lambda x: x // 901, lambda x: x // 701, lambda x: (x % 97 > 40) + 2 * (x // 3000), lambda x: (x * 7919) % 5):
+            part = numpy.unique(cut(numpy.arange(len(triangles))), return_inverse=True)[1]
+            odd = lambda part, cells: sum(parts.odd_components(cells[part == which]) for which in numpy.unique(part))
+            made = evening.evened(triangles, part)
+            if cut(1) != cut(2):  # crumbs of a triangle or two: not all can be
+                self.assertLess(odd(made, triangles), odd(part, triangles) / 4)
+                continue
+            self.assertGreater(odd(part, triangles), 0)
+            self.assertEqual(odd(made, triangles), 0)
+            self.assertLess((made != part).sum(), 200)
+            self.assertEqual(odd(evening.evened(triangles[1:], part[1:]), triangles[1:]), 1)
+
+    def test_rule_1(self):
+        """A mesh in parts gets about as many quads under rule 1 as without it."""
+        points, triangles = map(numpy.array, grid(75, 61, 0.1))
+        found = [len(parts.run(points, triangles, 0.1, stop).quads) for stop in (0, 1)]
+        self.assertGreater(found[1], 0.9 * found[0])
+
 
 class Bad(Case):
     SQUARE = [(0, 0, 0), (1, 0, 0), (1, 1, 0), (0, 1, 0)]
 
     def test_files(self):
         given = lambda name: os.path.join(FILES, name)
-        self.refused('no triangles; the file has 36 line', given('lines-only.msh'), '-o', self.out)
+        self.refused('no triangles; the file has 36 cells of type line', given('lines-only.msh'), '-o', self.out)
         self.refused('second order .*ElementOrder', given('second-order.msh'), '-o', self.out)
-        self.refused('no such file', self.path('nothing.msh'), '-o', self.out)
-        with open(self.path('mesh.xyz'), 'w') as file:
-            file.write('hello')
-        self.refused("unknown format.*'.xyz'", self.path('mesh.xyz'), '-o', self.out)
         self.refused('unknown format gmesh', given('l-slab-41.msh'), '--from', 'gmesh', '-o', self.out)
-        for name in ('broken.msh', 'broken.vtk', 'broken.vtu', 'broken.inp', 'broken.obj', 'empty.stl'):
-            with open(self.path(name), 'w') as file:
-                file.write('' if name.startswith('empty') else 'not a mesh\n1 2 3\n')
-            self.refused('meshio cannot read it|no triangles', self.path(name), '-o', self.out)
-        with open(given('l-slab-41.msh')) as file:
-            half = file.read()[:3000]
-        with open(self.path('half.msh'), 'w') as file:
-            file.write(half)
-        self.refused('meshio cannot read it|no triangles', self.path('half.msh'), '-o', self.out)
-        self.refused('unknown format', given('l-slab-41.msh'), '-o', self.path('out.xyz'))
         self.refused('TetGen', given('l-slab-41.msh'), '-o', self.path('out.node'))
         with open(self.path('half.node'), 'w') as file:
             file.write('4 2 0 0\n')
         self.refused('TetGen', self.path('half.node'), '-o', self.out)
         self.refused('unknown format nothing', given('l-slab-41.msh'), '-o', self.out, '--to', 'nothing')
-        self.refused('cannot write', given('l-slab-41.msh'), '-o', os.path.join(self.folder, 'no', 'out.msh'))
 
     def test_meshes(self):
         bad = lambda points, cells: self.stored(points, cells)
@@ -411,7 +363,7 @@ class Bad(Case):
         self.refused('has no area', bad(self.SQUARE, [('triangle', [(0, 1, 1)])]), '-o', self.out)
         self.refused('cells of type quad beside', bad(self.SQUARE, [('triangle', [(0, 1, 2)]), ('quad', [(0, 1, 2, 3)])]), '-o', self.out)
         self.refused('an edge has 3 triangles', bad(self.SQUARE + [(0.5, -1, 0)], [('triangle', [(0, 1, 2), (0, 1, 3), (1, 0, 4)])]), '-o', self.out)
-        self.refused('not finite', bad([(float('nan'), 0, 0)] + self.SQUARE[1:], [('triangle', [(0, 1, 2)])]), '-o', self.out)
+        self.refused(r'node 1 of 4 lies at \(nan, 0, 0\), which is not finite', bad([(float('nan'), 0, 0)] + self.SQUARE[1:], [('triangle', [(0, 1, 2)])]), '-o', self.out)
 
     def test_odd_component(self):
         path = self.stored(self.SQUARE, [('triangle', [(0, 1, 2)])])

@@ -1,0 +1,71 @@
+"""The sets of an Abaqus file. meshio 5.0.0 gives the ELSET of an *ELEMENT line to other cells where an earlier line has none, drops a set's cells in blocks that
+come behind it, and does not know sets of sets; so the sets are read here, and the rest by meshio."""
+import numpy
+
+
+def statements(lines):
+    """(keyword, {parameter: value}, rows of words) of each keyword line."""
+    found = []
+    for line in map(str.strip, lines):
+        if line.startswith('**') or not line:
+            continue
+        if line.startswith('*'):
+            keyword, *words = [word.strip() for word in line[1:].split(',')]
+            pairs = [word.partition('=') for word in words]
+            found.append((keyword.upper(), {name.strip().upper(): value.strip() for name, _, value in pairs}, []))
+        elif found:
+            found[-1][2].append([word.strip() for word in line.split(',') if word.strip()])
+    return found
+
+
+def members(parameters, rows, known):
+    """The numbers that a set's rows list, by themselves, in steps or as other sets."""
+    numbers = set()
+    for row in rows:
+        if 'GENERATE' in parameters:
+            first, last, step = [*map(int, row), 1][:3]
+            numbers |= set(range(first, last + 1, step))
+            continue
+        for word in row:
+            numbers |= {int(word)} if word.lstrip('-').isdigit() else known.get(word.upper(), set())
+    return numbers
+
+
+def read_sets(lines, widths):
+    """(cell sets, node sets): {name: places in each block of cells}, {name: nodes}. `widths` are the numbers of nodes of the cells, block by block."""
+    nodes, blocks, cells, points, names = {}, [], {}, {}, {}
+    for keyword, parameters, rows in statements(lines):
+        own = None
+        if keyword == 'NODE':
+            own = {int(row[0]) for row in rows}
+            nodes.update({int(row[0]): len(nodes) + i for i, row in enumerate(rows)})
+        elif keyword == 'ELEMENT':
+            flat = [word for row in rows for word in row]
+            ids = [int(word) for word in flat[::widths[len(blocks)] + 1]]
+            blocks.append({number: place for place, number in enumerate(ids)})
+            own = set(ids)
+        for kind, sets in (('ELSET', cells), ('NSET', points)):
+            name = parameters.get(kind)
+            if name and (keyword == kind or own is not None and kind == {'NODE': 'NSET', 'ELEMENT': 'ELSET'}[keyword]):
+                more = members(parameters, rows, sets) if own is None else own
+                sets[name.upper()] = sets.get(name.upper(), set()) | more
+                names.setdefault((kind, name.upper()), name)
+    if len(blocks) != len(widths):
+        raise ValueError('other blocks')
+    placed = lambda numbers, block: numpy.array(sorted(block[n] for n in numbers if n in block), dtype=numpy.int64)
+    return ({names['ELSET', name]: [placed(numbers, block) for block in blocks] for name, numbers in cells.items()},
+            {names['NSET', name]: placed(numbers, nodes) for name, numbers in points.items()})
+
+
+def repaired(path, mesh):
+    """The mesh that meshio read with its sets; as it is where the file is made of several."""
+    from .reading import encoding_of
+    with open(path, encoding=encoding_of(path) or 'latin-1') as file:
+        lines = file.readlines()
+    if any(line.strip().upper().startswith('*INCLUDE') for line in lines):
+        return mesh
+    try:
+        mesh.cell_sets, mesh.point_sets = read_sets(lines, [numpy.shape(block.data)[1] for block in mesh.cells])
+    except (ValueError, IndexError, KeyError):
+        pass
+    return mesh

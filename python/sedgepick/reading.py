@@ -1,0 +1,147 @@
+"""A file while meshio reads it: the line where it stops, where it cannot read it, and an end to reading beyond the end."""
+import builtins, io, os, re
+import xml.etree.ElementTree as xml
+
+BEYOND = 1000  # lines asked for behind the last one: a reader that asks for more would never end
+SHOWN = 60     # characters of a line that words show
+
+
+class Beyond(Exception):
+    """A reader goes on behind the end of the file."""
+
+
+class Ending:
+    """Lines that end: a reader that goes on and on behind the last one is stopped."""
+    line, words, beyond = 0, '', 0
+    comment = None  # what lines begin with that are passed over
+
+    def noted(self, words):
+        if words:
+            self.line, self.words, self.beyond = self.line + 1, words, 0
+            return self.readline() if self.comment and words.startswith(self.comment) else words
+        self.beyond += 1
+        if self.beyond > BEYOND:
+            raise Beyond()
+        return words
+
+    def readline(self, *size):
+        return self.noted(super().readline(*size))
+
+    def __next__(self):
+        return self.noted(super().__next__())
+
+
+class Text(Ending, io.TextIOWrapper):
+    """A text file that knows the line that was read last."""
+
+    def __init__(self, path, encoding):
+        super().__init__(io.BufferedReader(io.FileIO(path)), encoding=encoding)
+
+
+class Bytes(Ending, io.BufferedReader):
+    """A binary file that knows, once it is closed, how far it was read."""
+    at = 0
+
+    def __init__(self, path):
+        super().__init__(io.FileIO(path))
+
+    def close(self):
+        if not self.closed:
+            self.at = self.tell()
+        super().close()
+
+
+def content_of(path):
+    with io.FileIO(path) as raw:
+        return raw.readall()
+
+
+def encoding_of(path):
+    """Of a text file: UTF-8, or Latin-1 where it is not that; None where it has zero bytes, which no text has."""
+    content = content_of(path)
+    if b'\0' in content:
+        return None
+    try:
+        content.decode('utf-8')
+        return 'utf-8'
+    except UnicodeDecodeError:
+        return 'latin-1'
+
+
+class Watched:
+    """Files that are opened for reading while this is entered are watched; `file` is the last one of the path."""
+
+    def __init__(self, path, comment=None):
+        self.path, self.comment, self.file = os.path.abspath(path), comment, None
+
+    def __enter__(self):
+        self.plain = builtins.open
+
+        def opened(file, mode='r', *more, **options):
+            if not isinstance(file, (str, os.PathLike)) or mode not in ('r', 'rt', 'rb') or os.path.abspath(file) != self.path:
+                return self.plain(file, mode, *more, **options)
+            encoding = None if 'b' in mode else encoding_of(file)
+            self.file = Bytes(file) if 'b' in mode else Text(file, encoding) if encoding else self.plain(file, mode, *more, **options)
+            if isinstance(self.file, Text):
+                self.file.comment = self.comment
+            return self.file
+        builtins.open = opened
+        return self
+
+    def __exit__(self, *fault):
+        builtins.open = self.plain
+
+    def place(self):
+        """Words on where the reading stopped, '' where that is not known."""
+        if isinstance(self.file, Text):
+            return line_words(self.file.line, self.file.words)
+        if not isinstance(self.file, Bytes):
+            return ''
+        content = content_of(self.path)
+        if len(content) - self.file.at < 2:
+            return 'it ends too early, %s, or what it has does not fit together' % ('after %d bytes' % len(content) if b'\0' in content else 'after %d lines' % content.count(b'\n'))
+        head, rest = content[:self.file.at], content[self.file.at:].split(b'\n', 1)[0]
+        if b'\0' in content[:self.file.at + 1]:
+            return 'it stops at byte %d of %d' % (self.file.at, len(content))
+        begin = head.rfind(b'\n') + 1
+        return line_words(head.count(b'\n') + 1, (head[begin:] + rest).decode('utf-8', 'replace'))
+
+
+def line_words(line, words):
+    words = ''.join(c if c.isprintable() else '?' for c in words.strip())
+    return "it stops at line %d, '%s'" % (line, words if len(words) <= SHOWN else words[:SHOWN] + ' ..')
+
+
+def fault_words(error, said):
+    """What an error of meshio's reader means."""
+    if isinstance(error, Beyond):
+        return 'it ends too early'
+    said = ' '.join(re.sub(r"(Error|Warning): ?(Couldn't read file .*)?", '', said).split()).rstrip('.')
+    if said or isinstance(error, (AssertionError, SystemExit)):
+        return said[:300]
+    if isinstance(error, KeyError) and len(str(error).split()) == 1:
+        return '%s is not known there' % error
+    if isinstance(error, IndexError):
+        return 'a number there is missing or too large'
+    if isinstance(error, UnicodeDecodeError):
+        return 'it is not a text file'
+    words = ' '.join(str(error).split())
+    return 'numbers are missing there, or are too many' if re.match('cannot reshape|could not broadcast|setting an array|buffer size|not enough values', words) else words[:300]
+
+
+def xml_words(path):
+    """Where an XML file is broken; '' where it is whole."""
+    try:
+        xml.parse(path)
+    except (xml.ParseError, OSError, ValueError) as error:
+        return str(error)
+    return ''
+
+
+def lacking(path, form, cells):
+    """What a file lacks of which meshio has read so many cells without a word; '' where nothing is known to be missing."""
+    content = content_of(path) if form in ('vtk', 'stl') else b''
+    if form == 'vtk':
+        found = re.search(rb'^CELL_TYPES\s+(\d+)', content, re.M)
+        return 'it should have %d cells, and %d are there' % (int(found[1]), cells) if found and int(found[1]) != cells else ''
+    return "its last line, 'endsolid', is missing" if content.startswith(b'solid') and b'\0' not in content and b'endsolid' not in content else ''

@@ -1,0 +1,129 @@
+"""Tests of what the command says of files that it cannot read or write: the file, the line where it stops, and what to do."""
+import os, signal, subprocess, sys, unittest
+from case import COMMAND, Case, meshio, set_up
+from common import FILES
+
+if meshio:
+    from sedgepick import files, surfaces
+
+L_SLAB = os.path.join(FILES, 'l-slab-41.msh')
+
+
+def setUpModule():
+    set_up()
+
+
+class Reading(Case):
+    def put(self, name, content):
+        with open(self.path(name), 'wb') as file:
+            file.write(content if isinstance(content, bytes) else content.encode())
+        return self.path(name)
+
+    def given(self, name):
+        with open(os.path.join(FILES, name), 'rb') as file:
+            return file.read()
+
+    def says(self, pattern, name, content):
+        """A Fault with these words within ten seconds."""
+        before = signal.signal(signal.SIGALRM, lambda *_: self.fail('%s is read without an end' % name))
+        signal.alarm(10)
+        try:
+            with self.assertRaisesRegex(surfaces.Fault, pattern):
+                surfaces.checked(files.read(self.put(name, content)))
+        finally:
+            signal.alarm(0)
+            signal.signal(signal.SIGALRM, before)
+
+    def test_the_line(self):
+        """A wrong word is found where it stands."""
+        for name, line in (('l-slab-22.msh', 40), ('l-slab-41.msh', 215), ('l-slab.inp', 20), ('l-slab-meshio.obj', 20)):
+            with self.subTest(name):
+                lines = self.given(name).split(b'\n')
+                lines[line - 1] = b' '.join(lines[line - 1].split(b' ')[:-1] + [b'wrong'])
+                self.says("it stops at line %d, '.*wrong" % line, name, b'\n'.join(lines))
+
+    def test_cut_short(self):
+        for name in ('l-slab-22.msh', 'l-slab-41.msh', 'l-slab-22-binary.msh', 'l-slab-41-binary.msh', 'l-slab.vtk', 'l-slab.stl', 'l-slab-meshio.vtu', 'l-slab-meshio.off',
+                     'l-slab-meshio.mesh'):
+            content = self.given(name)
+            for share in (0.1, 0.35, 0.6, 0.75, 0.8):
+                with self.subTest(name, share=share):
+                    self.says(r'meshio cannot read it as \w+: .*(it ends too early|it stops at (line|byte) \d|line \d+, column \d)|no triangles|nodes each|it breaks off', name, content[:int(len(content) * share)])
+
+    def test_reading_ends(self):
+        """meshio 5.0.0 goes on for ever behind the end of such files."""
+        self.says('it ends too early', 'a.dat', 'VARIABLES = "X", "Y"\nZONE T="a", N=3, E=1, F=FEPOINT, ET=TRIANGLE\n0 0\n1 0\n')
+        self.says('it ends too early', 'a.mdpa', 'Begin Nodes\n1 0 0 0\n2 1 0 0\n3 0 1 0\nEnd Nodes\nBegin Elements Element2D3N\n')
+
+    def test_not_a_mesh(self):
+        wild = bytes((i * 7919 + i // 13) % 256 for i in range(3000))
+        for suffix in ('msh', 'inp', 'vtk', 'vtu', 'stl', 'obj', 'off', 'mesh', 'bdf', 'xdmf', 'med', 'ply', 'dat', 'vol', 'avs'):
+            with self.subTest(suffix):
+                self.says('meshio (cannot read it as|needs the Python module h5py)|no triangles', 'wild.' + suffix, wild)
+                self.says('meshio (cannot read it as|needs the Python module h5py)|no triangles', 'words.' + suffix, 'not a mesh\n1 2 3\n')
+
+    def test_a_cell_with_a_wrong_node(self):
+        self.says('triangle 2 names node 9, and the file has the nodes 1 to 4: mend that cell', 'a.off', 'OFF\n4 2 0\n0 0 0\n1 0 0\n1 1 0\n0 1 0\n3 0 1 2\n3 0 2 8\n')
+        self.says("it stops at line 9, '2, 1, 3, 9'; 9 is not known there", 'a.inp', '*NODE\n1, 0, 0, 0\n2, 1, 0, 0\n3, 1, 1, 0\n4, 0, 1, 0\n*ELEMENT, TYPE=S3\n1, 1, 2, 3\n** the next\n2, 1, 3, 9\n')
+
+    def test_latin_1(self):
+        words = '** für Stützen\n*NODE\n1, 0, 0, 0\n2, 1, 0, 0\n3, 1, 1, 0\n4, 0, 1, 0\n*ELEMENT, TYPE=S3, ELSET=Träger\n1, 1, 2, 3\n2, 1, 3, 4\n'
+        for encoding in ('utf-8', 'latin-1'):
+            self.assertEqual(list(files.read(self.put('a.inp', words.encode(encoding))).triangles.sets), ['Träger'])
+
+    def test_no_file(self):
+        self.refused('nothing.msh: there is no such file', self.path('nothing.msh'), '-o', self.out)
+        self.refused('it is a folder', self.folder, '-o', self.out)
+        self.refused('it is empty', self.put('empty.msh', ''), '-o', self.out)
+        self.refused("unknown format of mesh.xyz: .*'.xyz'", self.put('mesh.xyz', 'hello'), '-o', self.out)
+
+    @unittest.skipIf(hasattr(os, 'geteuid') and os.geteuid() == 0, 'root may read everything')
+    def test_no_permission(self):
+        os.chmod(self.put('closed.msh', self.given('l-slab-41.msh')), 0)
+        self.refused('you have no permission', self.path('closed.msh'), '-o', self.out)
+
+    def test_no_module(self):
+        """meshio without h5py, as Debian installs it."""
+        code = 'import sys, runpy; sys.modules["h5py"] = None; sys.argv = %r; runpy.run_path(%r, run_name="__main__")'
+        for words in ([L_SLAB, '-o', self.path('out.med')], [L_SLAB, '-o', self.path('out.xdmf')], [os.path.join(FILES, 'l-slab-meshio.med'), '-o', self.out],
+                      [os.path.join(FILES, 'l-slab-meshio.xdmf'), '-o', self.out]):
+            ran = subprocess.run([sys.executable, '-c', code % ([COMMAND, *words], COMMAND)], capture_output=True, text=True)
+            self.assertEqual(ran.returncode, 1, ran.stderr)
+            self.assertRegex(ran.stderr, 'meshio needs the Python module h5py for (med|xdmf) files: install it .*python3-h5py')
+
+
+class Writing(Case):
+    def test_where_it_cannot(self):
+        given = L_SLAB
+        self.refused('cannot write .*: there is no folder', given, '-o', os.path.join(self.folder, 'no', 'out.msh'))
+        self.refused('it is a folder', given, '-o', self.folder)
+        self.refused("unknown format of out.xyz: .*'.xyz'", given, '-o', self.path('out.xyz'))
+        self.refused('out.msh would be written twice', given, '-o', self.out, '--report', self.out)
+        with open(given, 'rb') as file, open(self.path('own.msh'), 'wb') as own:
+            own.write(file.read())
+        before = os.path.getmtime(self.path('own.msh'))
+        for words in (['-o', self.path('own.msh')], ['-o', self.out, '--report', self.path('own.msh')], ['--preview', self.path('p.svg'), '-o', self.path('own.msh')]):
+            self.refused('is the file that is read', self.path('own.msh'), *words)
+        self.assertEqual(os.path.getmtime(self.path('own.msh')), before)
+
+    def test_a_file_that_is_there_stays(self):
+        with open(self.path('out.stl'), 'w') as file:
+            file.write('mine')
+        self.assertEqual(self.run_command(L_SLAB, '-o', self.path('out.stl')).returncode, 1)
+        with open(self.path('out.stl')) as file:
+            self.assertEqual(file.read(), 'mine')
+        self.assertEqual(os.listdir(self.folder), ['out.stl'])
+
+    def test_forms_without_quads_are_told_before_the_run(self):
+        with self.assertRaisesRegex(surfaces.Fault, 'cannot write out.stl as stl: .* Formats that take quads'):
+            files.check_form('out.stl', None)
+        files.check_form(self.out, None)
+
+    def test_sizes_in_words(self):
+        for word in ('small', 'nan', '-1', 'inf'):
+            self.assertIn("'%s' is no size: a length in the units of the file, 0 or auto" % word, self.run_command(L_SLAB, '-o', self.out, '--size=' + word).stderr)
+        self.assertIn("'0' is not a whole number from 1 on", self.run_command(L_SLAB, '-o', self.out, '--jobs', '0').stderr)
+
+
+if __name__ == '__main__':
+    unittest.main()
