@@ -154,16 +154,16 @@ def legend(mesh, left, step, scale, lines):
     return y + 40
 
 
-def draw(mesh):
-    """The SVG of a mesh with points, quads, triangles, jacobians, angles, marks, lost_edges, lost_points, kept_edges and kept_points."""
+def draw(mesh, place=0):
+    """The SVG of a mesh with points, quads, triangles, jacobians, angles, marks, lost_edges, lost_points, kept_edges and kept_points; `place` is its place on a page with
+    several."""
     used = numpy.unique(numpy.concatenate([mesh.quads.ravel(), mesh.triangles.ravel()]))
     windows, drawn = pieces(mesh.points[used])
     right = max(piece.at[0] + piece.size()[0] for piece in windows) + drawn.right
     lines = []
     for i, piece in enumerate(windows):
-        width, height = piece.size()
-        lines.append('<clipPath id="window%d"><rect x="%.1f" y="%.1f" width="%.1f" height="%.1f"/></clipPath><g clip-path="url(#window%d)">'
-                     % (i, *piece.at, width, height, i))
+        name = 'window%d' % i + '-%d' % place * bool(place)
+        lines.append('<clipPath id="%s"><rect x="%.1f" y="%.1f" width="%.1f" height="%.1f"/></clipPath><g clip-path="url(#%s)">' % (name, *piece.at, *piece.size(), name))
         cells_of(mesh, piece, lines)
         kept_of(mesh, piece, lines)
         marks_of(mesh, piece, lines)

@@ -203,14 +203,14 @@ def tables(titled):
     return ''.join('<section><h2>%s</h2><table>%s</table></section>\n' % (escape(title), cells(pairs)) for title, pairs in titled)
 
 
-def body(work):
-    """A file's name, summary, warnings, picture and lists."""
+def body(work, place=0):
+    """A file's name, summary, warnings, picture and lists; `place` is its place on a page with several."""
     rows, drawn = sections(work)
     bars = steps(work)  # drawn above
     rows = [(title, [row for row in own if row not in bars]) for title, own in rows]
     warnings = ''.join('<p class="warning">%s</p>' % escape(words) for words in work.warnings)
     return ('<h1>%s</h1>\n<p>%s</p>%s\n%s<h2>Quads by scaled Jacobian</h2>\n%s\n<div class="lists">%s</div>'
-            % (escape(work.surface.name), escape(summary(work)).replace('\n', '<br>\n'), warnings, picture.draw(drawn), sheets.drawn(work.result.sheet), tables(rows)))
+            % (escape(work.surface.name), escape(summary(work)).replace('\n', '<br>\n'), warnings, picture.draw(drawn, place), sheets.drawn(work.result.sheet), tables(rows)))
 
 
 def bodied(title, content):
@@ -226,4 +226,4 @@ def page(work):
 def job_page(works, job):
     faults = ''.join('<p class="warning">%s</p>' % escape(slab_words(work)) for work in works if work.fault)
     return bodied('Job', '<h1>Job</h1>\n<p>%s</p>%s\n%s%s' % (escape(job_words(job)), faults, tables(job_rows(works, job)),
-                                                              ''.join(body(work) for work in works if not work.fault)))
+                                                              ''.join(body(work, place) for place, work in enumerate(works) if not work.fault)))

@@ -84,6 +84,14 @@ class Job(Case):
         self.assertIn('--size 1e+09 is out of range', ran.stderr)
         self.assertEqual(os.listdir(self.out), [])
 
+    def test_pictures_of_a_page(self):
+        """Each picture is cut at windows of its own."""
+        self.good('--job', '2000', *given('l-slab-41.msh', 'columns.msh'), '-o', self.out, '--report', self.path('job.html'))
+        with open(self.path('job.html')) as file:
+            names = re.findall(r'<clipPath id="([^"]+)"', file.read())
+        self.assertEqual(len(names), 2)
+        self.assertEqual(len(set(names)), 2)
+
     def test_names(self):
         slab = given('l-slab-41.msh')
         self.good('--job', '2000', *slab, '-o', os.path.join(self.out, '*-quads.vtu'))
