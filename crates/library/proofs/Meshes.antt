@@ -1,26 +1,20 @@
--- The five numbers of a job as five stores, and the promise by which of the slices has room.
+-- The promise of a mesh of a job by which of the slices has room.
 use mathlib.Core.Path.{_≡_, refl, subst}
-use mathlib.Core.List.{List, [], _∷_}
+use mathlib.Core.List.{List}
 use Prim.{absurd}
 use Prim.Native.Nat.{ℕ, _<_, _≤_}
 use native.Mathlib.Omega.{arith}
-use lib.ListN.{length, set}
-use lib.Seq.{sets-eq}
+use lib.ListN.{length}
 use Rattle.definition.specs.Call.{Asked, Lent, onto}
 use Rattle.definition.specs.Job as defined
 use Rattle.definition.specs.Job.{job-limit, job}
 use Rattle.refusals.specs.Refusals.{first-refusal}
-use Rattle.mesher.specs.declared.job.Job.{Job}
-use Rattle.mesher.specs.declared.job.Mesh.{Mesh}
 use Rattle.mesher.specs.Promise.{Kept-account-within, Kept-joints, Kept-area}
-use Rattle.mesher.specs.Jobs.{Job-returns}
+use Rattle.jobs.specs.declared.Mesh.{Mesh}
+use Rattle.jobs.specs.Jobs.{Job-returns}
+use Rattle.answer_numbers.specs.Jobs.{state-in, short-number}
 use Rattle.library.specs.Exported.{handed}
-use Rattle.library.specs.Jobs.{state-in, job-numbers, short-number, Meshed, Exported-job}
-
-pub written : (xs : List ℕ) (j : Job) (n : ℕ) → 5 ≤ length xs
-    → set (set (set (set (set xs 0 (j .meshes)) 1 (j .allowance)) 2 (j .done)) 3 (j .left)) 4 n ≡ onto (j .meshes ∷ j .allowance ∷ j .done ∷ j .left ∷ n ∷ []) xs
-unfolding onto
-written xs j n h = sets-eq (j .meshes ∷ j .allowance ∷ j .done ∷ j .left ∷ n ∷ []) xs 0 (omega (arith, h))
+use Rattle.library.specs.Jobs.{job-numbers, Meshed, Exported-job}
 
 -- no room for the state
 pub without-state : (a : Asked) (l : Lent) (js old : List ℕ) → length js < 5 → Exported-job a l js old 4 js old l

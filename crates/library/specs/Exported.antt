@@ -1,7 +1,7 @@
 -- The promise of the exported function: the call of the definition, with the numbers of a finished run in a slice of their own.
 use mathlib.Core.Path.{_≡_}
 use mathlib.Core.Bool.{cond}
-use mathlib.Core.List.{List, [], _∷_}
+use mathlib.Core.List.{List}
 use Prim.Native.Nat.{ℕ, _<_, _≤_}
 use lib.Dec.{eqb}
 use lib.ListN.{length}
@@ -11,26 +11,7 @@ use Rattle.definition.specs.Call.{Asked, Lent, call, onto}
 use Rattle.refusals.specs.Refusals.{first-refusal}
 use Rattle.mesher.specs.declared.Answer.{Answer}
 use Rattle.mesher.specs.Promise.{Returns, Kept-account, Kept-joints, Kept-area}
-
--- the numbers of a finished run in their order
-abbrev pub numbers : Answer → List ℕ
-numbers r =
-    r .«front_empty»
-    ∷ r .attempts
-    ∷ r .placement
-    ∷ r .«invalid_quad»
-    ∷ r .recovery
-    ∷ r .region
-    ∷ r .«odd_region»
-    ∷ r .«mismatch_insertions»
-    ∷ r .limit
-    ∷ r .quads
-    ∷ r .triangles
-    ∷ r .points
-    ∷ r .components
-    ∷ r .trials
-    ∷ r .words
-    ∷ []
+use Rattle.answer_numbers.specs.Runs.{numbers, up-to-4}
 
 -- a quality set by its five numbers
 abbrev pub set-of : Float → Float → Float → Float → ℕ → Quality
@@ -40,10 +21,6 @@ set-of least-jacobian largest-cosine side-low side-high pairs =
 -- what the answer's slice holds: the numbers of a finished run before what was there, and after a refusal what was there
 abbrev pub handed : Answer → List ℕ → List ℕ
 handed r old = cond (eqb (r .refusal) 0) (onto (numbers r) old) old
-
--- the number of a call whose answer is too short: 1 to 3 and 14 come before 4
-abbrev pub up-to-4 : ℕ → ℕ
-up-to-4 k = cond (eqb k 1) 1 (cond (eqb k 2) 2 (cond (eqb k 3) 3 (cond (eqb k 14) 14 4)))
 
 -- With room for the numbers: r is all that the definition's call answers, k is its number, and the slice has its numbers.
 pub record Roomy (a : Asked) (l : Lent) (old : List ℕ) (k : ℕ) (new : List ℕ) (exit : Lent) (r : Answer) : Type 0 where

@@ -1,20 +1,16 @@
 -- The promise of the exported mesh of a job: the job of the definition, with the state in a slice of its own and the attempts charged behind it.
 use mathlib.Core.Path.{_≡_}
-use mathlib.Core.Bool.{cond}
 use mathlib.Core.List.{List, [], _∷_}
 use Prim.Native.Nat.{ℕ, _<_, _≤_}
-use lib.ListN.{length, getD}
+use lib.ListN.{length}
 use Rattle.definition.specs.Call.{Asked, Lent, onto}
-use Rattle.definition.specs.Job.{Job, bad-job, job-limit, job}
+use Rattle.definition.specs.Job.{job-limit, job}
 use Rattle.refusals.specs.Refusals.{first-refusal}
-use Rattle.mesher.specs.declared.job.Mesh.{Mesh}
 use Rattle.mesher.specs.Promise.{Kept-account-within, Kept-joints, Kept-area}
-use Rattle.mesher.specs.Jobs.{Job-returns}
-use Rattle.library.specs.Exported.{handed, up-to-4}
-
--- the state in a job's slice
-abbrev pub state-in : List ℕ → Job
-state-in js = record { meshes = getD js 0 0; allowance = getD js 1 0; done = getD js 2 0; left = getD js 3 0 }
+use Rattle.jobs.specs.declared.Mesh.{Mesh}
+use Rattle.jobs.specs.Jobs.{Job-returns}
+use Rattle.answer_numbers.specs.Jobs.{state-in, short-number}
+use Rattle.library.specs.Exported.{handed}
 
 -- the state to hand on, then the attempts charged
 abbrev pub job-numbers : Mesh → List ℕ
@@ -36,10 +32,6 @@ pub record Untouched (n : ℕ) (l : Lent) (js old : List ℕ) (k : ℕ) (ks new 
   pub state : ks ≡ js
   pub answer : new ≡ old
   pub lent : exit ≡ l
-
--- the number of a mesh whose answer is too short: 16 comes first, and 1 to 3 and 14 come before 4
-abbrev pub short-number : Job → ℕ → ℕ
-short-number j k = cond (bad-job j) 16 (up-to-4 k)
 
 -- k is returned of a mesh that states a and lends l, with `js` in the job's slice and `old` in the answer's; `ks`, `new` and `exit` are there then
 pub record Exported-job (a : Asked) (l : Lent) (js old : List ℕ) (k : ℕ) (ks new : List ℕ) (exit : Lent) : Type 0 where

@@ -8,10 +8,6 @@ use Rattle.definition.specs.Call.{Lent, onto, over-limit}
 use Rattle.definition.specs.Replay.{Told, as-asked, Replay-answer, rebuilt, unplayed, Replay-returned, replay}
 use Rattle.retrace.specs.Replaying.{answer-number}
 
--- the numbers that the caller states
-abbrev pub told-for : ℕ → ℕ → ℕ → ℕ → ℕ → Told
-told-for given capacity count slots words = record { given = given; capacity = capacity; count = count; slots = slots; words = words }
-
 -- the lengths in their order; a refusal has none
 abbrev pub replay-numbers : Replay-answer → List ℕ
 replay-numbers (rebuilt n) = n .quads ∷ n .triangles ∷ n .points ∷ n .components ∷ []

@@ -1,46 +1,14 @@
 // The mesh of a trace, built again, for programs in C and Rust.
+use answer_numbers::replays::LENGTHS;
+use answer_numbers::replays::put_replayed;
+use answer_numbers::replays::short_replay;
 use refusals::Room;
-use refusals::refusal;
-use refusals::standard;
 use retrace::Told;
-use retrace::ending::Replayed;
 use retrace::replays::replay;
-ghost use mathlib.Core.Path.{_≡_};
-ghost use mathlib.Core.Bool.{cond};
-ghost use mathlib.Core.List.{[], _∷_};
-ghost use lib.ListN.{length};
-ghost use Prim.Native.Nat.{_≤_};
-ghost use Rattle.definition.specs.Call.{over-limit, onto};
-ghost use Rattle.definition.specs.Replay.{as-asked};
+ghost use mathlib.Core.List.{[]};
 ghost use Rattle.mesher.specs.Promise.{lent-of};
-ghost use Rattle.library.specs.Replays.{told-for, Exported-replay};
-
-// Numbers of a replay: the lengths of its four lists.
-const LENGTHS: usize = 4;
-
-// The lengths of the lists come to the front of the slice.
-fn write_lengths(answer: &mut [usize], r: Replayed)
-    requires { ⌜ 4 ≤ length (now answer) ⌝ }
-    ensures { λ x. ⌜ now (answer .exit) ≡ onto (r .quads ∷ r .triangles ∷ r .points ∷ r .components ∷ []) (now (answer .entry)) ⌝ }
-{
-    answer[0] = r.quads;
-    answer[1] = r.triangles;
-    answer[2] = r.points;
-    answer[3] = r.components;
-}
-
-// The number of a replay whose answer is too short: 1 comes before it, and it is 4.
-fn short_replay(points: &[f64], triangles: &[u32], told: Told, n: Room) -> usize
-    ensures { λ r. ⌜ r ≡ cond (over-limit (as-asked (told-for (told .given) (told .capacity) (told .count) (told .slots) (told .words)))) 1 4 ⌝ }
-{
-    let stated = standard(told.given, told.capacity, told.count, told.slots, 0.0, 0);
-    let none = [0u32; 0];
-    let k = refusal(points, triangles, &none, stated, n);
-    if k == 1 {
-        return 1;
-    }
-    4
-}
+ghost use Rattle.answer_numbers.specs.Replays.{told-for};
+ghost use Rattle.library.specs.Replays.{Exported-replay};
 
 // The mesh of the first `words` words of a trace over the given points and triangles: the number of the refusal is returned, 0 where the whole trace was replayed; then the lengths of the four lists come to the front of the answer, and a refusal leaves it as it was.
 #[no_mangle]
@@ -96,10 +64,5 @@ pub extern "C" fn sedgepick_replay(
         float_work,
         told,
     );
-    let k = r.refusal;
-    if k != 0 {
-        return k;
-    }
-    write_lengths(answer, r);
-    0
+    put_replayed(answer, r)
 }

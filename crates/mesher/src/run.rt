@@ -1,6 +1,7 @@
 // The run of a call that is not refused before it.
 use crate::Answer;
 use crate::setup::rules_of;
+use allowances::attempts_made;
 use cells::clear::clear_floats;
 use cells::clear::clear_words;
 use cells::counters::Counters;
@@ -187,6 +188,6 @@ pub fn run(
     );
     clear_words(work);
     clear_floats(float_work);
-    let charged = answer.attempts - answer.limit;
+    let charged = attempts_made(answer.attempts, answer.limit);
     Ran { answer, charged }
 }

@@ -4,8 +4,8 @@ use borrow.Author.Needs.{needs}
 use Rattle.definition.specs.Call.{Lent}
 use Rattle.definition.specs.Replay.{Told}
 use Rattle.mesher.specs.Promise.{lent-of}
-use Rattle.library.specs.Replays.{told-for}
-use Rattle.library.proofs.Replaying.{without-room, with-refusal, with-lengths}
+use Rattle.answer_numbers.specs.Replays.{told-for}
+use Rattle.library.proofs.Replaying.{without-room, with-number}
 use Rattle.library.proofs.replays.sedgepick_replay.Statement.{statement}
 use Rattle.library.proofs.replays.sedgepick_replay.Tie as tie
 
@@ -35,21 +35,15 @@ returns c =
 
 returns-2 : tie.Need-returns-2
 returns-2 c =
-    let x = c .before .before .before .before .before .before .before .before .before .before .before .before .before in
+    let w = c .before .before in
+    let x = w .before .before .before .before .before .before .before .before .before .before .before .before .before .before in
     let t = start x in
-    with-refusal (told t) (held t) (t .args .answer .now) (x .replay .result) (left x) (x .before .before .before .before .before .before .before .if1 .left) (x .replay .ensures) (c .if2 .taken)
-
-returns-3 : tie.Need-returns-3
-returns-3 c =
-    let x = c .before .before .before .before .before .before .before .before .before .before .before .before .before .before .before .before .before in
-    let t = start x in
-    let w = c .before .before .write-lengths in
-    with-lengths (told t) (held t) (t .args .answer .now) (x .replay .result) (left x) (x .before .before .before .before .before .before .before .if1 .left) (x .replay .ensures) (w .last .0) (c .before .before .before .before .if2 .left) (w .ensures)
+    with-number (told t) (held t) (t .args .answer .now) (x .replay .result) (left x) (x .before .before .before .before .before .before .before .if1 .left) (x .replay .ensures)
+    (w .put-replayed .result) (w .put-replayed .last .0) (w .put-replayed .ensures .0) (w .put-replayed .ensures .1)
 
 pub sedgepick-replay-spec : {M : Type 1} → statement M
 sedgepick-replay-spec =
     tie.close
     (tie.spec
-    (λ c κs. search needs) (λ c. search needs) returns (λ c κs. search needs) (λ c. search needs) (λ c. search needs) (λ c. search needs)
-    (λ c. search needs) (λ c. search needs) (λ c. search needs) returns-2 (λ c κs. search needs) (λ c. search needs) (λ c. search needs)
-    (λ c. search needs) (λ c. search needs) (λ c. search needs) (λ c. search needs) (λ c. search needs) returns-3)
+    (λ c κs. search needs) (λ c. search needs) returns (λ c κs. search needs) (λ c κs. search needs) (λ c. search needs) (λ c. search needs) (λ c. search needs)
+    (λ c. search needs) (λ c. search needs) (λ c. search needs) (λ c. search needs) returns-2)

@@ -1,0 +1,4 @@
+pub mod Lengths
+pub mod Numbers
+pub mod Shown
+pub mod States

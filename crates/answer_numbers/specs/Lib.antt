@@ -1,0 +1,5 @@
+-- The numbers that are told.
+pub mod Runs
+pub mod Jobs
+pub mod Previews
+pub mod Replays

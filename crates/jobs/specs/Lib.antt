@@ -1,0 +1,2 @@
+-- What a mesh of a job promises.
+pub mod Jobs
