@@ -71,6 +71,9 @@ module _ (w : List ℕ) (s p n i : ℕ) (m : Mesh) (xs : List Live) (h : Marked 
     pub begun-state : Marked w1 s p (n + 1) m (xs ++ tri-live i (t .t) ∷ [])
     begun-state = subst (λ (v : List ℕ). Marked v s p (n + 1) m (xs ++ tri-live i (t .t) ∷ [])) (sym e) (begun .state)
 
+    pub begun-flood : Flooding w1 w1 s p (n + 1) n m xs (tri-live i (t .t))
+    begun-flood = flood-start w1 s p n m xs (tri-live i (t .t)) begun-state
+
     pub flooded-from : (w2 : List ℕ) (r : ℕ) → Flooded w1 w2 s p r m xs (tri-live i (t .t)) → Flooded w w2 s p r m xs (tri-live i (t .t))
     flooded-from w2 r f =
         record {

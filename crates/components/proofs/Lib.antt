@@ -1,6 +1,7 @@
 pub mod Members
 pub mod Grows
 pub mod Spots
+pub mod Seeks
 pub mod Meets
 pub mod Floods
 pub mod Looks

@@ -1,4 +1,4 @@
--- A look for a triangle that is not listed: at one cell, in the ring of a node, beside a triangle and around a region. Where none is found, as many are listed as before.
+-- A look for a triangle that is not listed, beside a triangle and around a region.
 use mathlib.Core.Path.{_≡_, refl, ap, sym, _∙_, subst}
 use mathlib.Core.Logic.{inl, inr}
 use mathlib.Core.Bool.{true}
@@ -7,41 +7,25 @@ use Prim.Native.Nat.{ℕ, _+_, _≤_, _<_}
 use native.Mathlib.Omega.{arith}
 use native.Mathlib.Decide.{decLe}
 use lib.ListN.{length, getD, length-append}
-use borrow.Author.Tests.{eq-eqb}
 use Rattle.rings.specs.Rings.{Out}
 use Rattle.definition.specs.Cells.{Tri, Live, Mesh, live-tri}
-use Rattle.laws.specs.Lists.{In, in-left, in-right, in-either, Stored}
+use Rattle.laws.specs.Lists.{In, in-right, in-either, Stored}
 use Rattle.regions.proofs.Floods.{stored-at}
 use Rattle.account.specs.Triangles.{Shares}
-use Rattle.cells.specs.Layout.{list-at, marks-at}
+use Rattle.cells.specs.Layout.{list-at}
 use Rattle.cells.specs.Rep.{TriIn, slots}
 use Rattle.regions.specs.Listing.{CanList}
-use Rattle.components.specs.Flood.{body, Marked, Seen, Met, At, Beside}
-use Rattle.components.specs.Near.{BesideOne, Looked, nobody, somebody, Around}
-use Rattle.components.proofs.Members.{Nodes, out-not, out-from, tris-at}
-use Rattle.components.proofs.Grows.{inside, fresh, kind, few, can-list}
-use Rattle.components.proofs.Meets.{met-none, met-both}
+use Rattle.components.specs.Flood.{body, At, Beside}
+use Rattle.components.specs.Seek.{Looked, nobody, somebody}
+use Rattle.components.specs.Near.{BesideOne, Around}
+use Rattle.components.proofs.Members.{Nodes, tris-at, shares-at}
+use Rattle.components.proofs.Grows.{few, can-list}
+use Rattle.components.proofs.Meets.{at-same}
 use Rattle.components.proofs.Floods.{tri-at}
 
 -- ---- found or not
 
--- nothing came: those that P speaks of were listed
-pub met-looked : (w : List ℕ) (s p n r : ℕ) (m : Mesh) (xs : List Live) (P : Live → Type 0) → Marked w s p n m xs → Met w w s p n m xs P → s ≤ r → Looked s r m xs P
-met-looked w s p n r m xs P h f l = nobody l (go (f .new) (omega (arith, h .len, f .state .len, length-append xs (f .new))) (f .all))
-  where
-    go : (new : List Live) → length new ≡ 0 → ((y : Live) → In y (m .live) → live-tri y ≡ true → P y → In y (xs ++ new)) → (y : Live) → In y (m .live) → live-tri y ≡ true → P y → In y xs
-    go [] e g y i t q = rw (append-nil xs) at (g y i t q)
-    go (z ∷ new) e g y i t q = absurd (omega (arith, e))
-
-pub looked-met : (w : List ℕ) (s p n r : ℕ) (m : Mesh) (xs : List Live) (P : Live → Type 0) → Marked w s p n m xs → Looked s r m xs P → s ≤ r → Met w w s p n m xs P
-looked-met w s p n r m xs P h (nobody k f) l = met-none w s p n m xs P h f
-looked-met w s p n r m xs P h (somebody y i t e k o) l = absurd (omega (arith, k, l))
-
--- one found is not among the first of them either
-pub looked-found : (s r : ℕ) (m : Mesh) (xs new : List Live) (P Q : Live → Type 0) → Looked s r m (xs ++ new) P → r < s → Looked s r m xs Q
-looked-found s r m xs new P Q (nobody k f) l = absurd (omega (arith, k, l))
-looked-found s r m xs new P Q (somebody y i t e k o) l = somebody y i t e k (out-from r xs (λ z j. out-not r z (xs ++ new) o (in-left z xs new j)))
-
+-- one found is one, whatever was looked for
 pub looked-other : (s r : ℕ) (m : Mesh) (xs : List Live) (P Q : Live → Type 0) → Looked s r m xs P → r < s → Looked s r m xs Q
 looked-other s r m xs P Q (nobody k f) l = absurd (omega (arith, k, l))
 looked-other s r m xs P Q (somebody y i t e k o) l = somebody y i t e k o
@@ -57,20 +41,15 @@ none-found s r m xs P (nobody k f) l = f
 none-found s r m xs P (somebody y i t e k o) l = absurd (omega (arith, k, l))
 
 -- beside a triangle: none at its first node, then a look at the second
-pub looked-both : (w : List ℕ) (s p n r r2 : ℕ) (m : Mesh) (xs : List Live) (t : Tri) (x y z u v : ℕ) → Nodes p x y z t → u ≡ x → v ≡ y → Marked w s p n m xs → Looked s r m xs (At u y z) → s ≤ r
-    → ((zs : List Live) → Marked w s p n m zs → Looked s r2 m zs (At v z z)) → Looked s r2 m xs (Beside t)
-looked-both w s p n r r2 m xs t x y z u v k eu ev h a l b = elim (decLe s r2) [
-  | yes e ↦
-      let f = looked-met w s p n r m xs (At u y z) h a l in
-      met-looked w s p n r2 m xs (Beside t) h (met-both w w w s p n n m xs t x y z u v k eu ev f (looked-met w s p n r2 m (xs ++ f .new) (At v z z) (f .state) (b (xs ++ f .new) (f .state)) e)) e
-  | no e ↦ looked-other s r2 m xs (At v z z) (Beside t) (b xs h) (omega (arith, e))
+pub looked-both : (s p r r2 : ℕ) (m : Mesh) (xs : List Live) (t : Tri) (x y z u v : ℕ) → Nodes p x y z t → u ≡ x → v ≡ y → Looked s r m xs (At u y z) → s ≤ r → Looked s r2 m xs (At v z z)
+    → Looked s r2 m xs (Beside t)
+looked-both s p r r2 m xs t x y z u v n eu ev a l b = elim (decLe s r2) [
+  | yes e ↦ nobody e (λ k i h o. elim (shares-at t k o) [
+    | inl j ↦ none-found s r m xs (At u y z) a l k i h (at-same k (t .n0) (t .n1) (t .n2) u y z (sym (eu ∙ n .n0)) (sym (n .n1)) (sym (n .n2)) j)
+    | inr j ↦ none-found s r2 m xs (At v z z) b e k i h (at-same k (t .n1) (t .n2) (t .n2) v z z (sym (ev ∙ n .n1)) (sym (n .n2)) (sym (n .n2)) j)
+  ])
+  | no e ↦ looked-other s r2 m xs (At v z z) (Beside t) b (omega (arith, e))
 ]
-
--- at one cell
-pub look-new : (w : List ℕ) (s p n j : ℕ) (m : Mesh) (xs : List Live) (x : Live) → Seen w s p n j m xs x → (P : Live → Type 0) → getD w j 0 ≡ 3 → getD w (marks-at s p + j) 0 ≡ 0 → Looked s j m xs P
-look-new w s p n j m xs x h P k z =
-    somebody x (h .live) (sym (kind w s p n j m xs x h) ∙ eq-eqb (getD w j 0) 3 k) (sym (h .slot)) (inside w s p n j m xs x h)
-    (subst (λ (v : ℕ). Out v (slots xs)) (sym (h .slot)) (fresh w s p n j m xs x h z))
 
 -- ---- around a region
 

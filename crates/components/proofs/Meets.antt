@@ -1,179 +1,117 @@
--- Cells met one after the other: the triangles at one node, and those that share an edge with a triangle.
-use mathlib.Core.Path.{_≡_, refl, ap, sym, _∙_, subst}
-use mathlib.Core.Logic.{_⊎_, inl, inr, _≢_}
-use mathlib.Core.Bool.{Bool, true, false, _||_}
+-- Triangles met: those at one node, one after the other, and those that share an edge with a triangle.
+use mathlib.Core.Path.{_≡_, sym, _∙_, subst}
+use mathlib.Core.Logic.{_⊎_, inl, inr}
+use mathlib.Core.Bool.{true}
 use mathlib.Core.List.{List, [], _∷_, _++_, append-assoc, append-nil}
 use Prim.Native.Nat.{ℕ, _+_, _*_, _/_, _≤_, _<_}
 use native.Mathlib.Omega.{arith}
-use lib.ListN.{getD}
-use borrow.Author.Tests.{eq-eqb, ne-eqb}
-use Rattle.rings.specs.Rings.{nx}
-use Rattle.definition.specs.Cells.{Tri, Cell, tri, Live, Mesh, live-tri, tri-has}
-use Rattle.laws.specs.Bools.{either, never}
-use Rattle.laws.specs.Lists.{In, in-left, in-right, in-either}
-use Rattle.account.specs.Triangles.{Has as Corner, has-test, test-has}
-use Rattle.cells.specs.Layout.{marks-at, rings-at}
-use Rattle.cells.specs.Rep.{CellAt}
-use Rattle.cells.specs.Walk.{Pos, left}
-use Rattle.cells.proofs.Walks.{start}
-use Rattle.cells.proofs.Slots.{rep-held, in-has}
-use Rattle.regions.specs.Listing.{Aside}
+use Rattle.definition.specs.Cells.{Tri, Live, Mesh, live-tri}
+use Rattle.laws.specs.Lists.{In, in-left, in-either}
+use Rattle.account.specs.Triangles.{Has as Corner}
+use Rattle.cells.proofs.Frames.{pos-under}
+use Rattle.regions.specs.Listing.{CanList, Aside}
 use Rattle.regions.proofs.Listings.{aside-refl, aside-trans}
 use Rattle.regions.proofs.Reaches.{appended}
-use Rattle.components.specs.Flood.{body, Marked, Seen, Met, It, At, Beside}
-use Rattle.components.proofs.Members.{Nodes, tri-is, tris-at, shares-at, first-shares, second-shares}
-use Rattle.components.proofs.Grows.{fresh, known, kind, grown}
-use Rattle.components.proofs.Spots.{Spot, spot, spot-end}
-
--- nothing new is listed
-pub met-none : (w : List ℕ) (s p n : ℕ) (m : Mesh) (xs : List Live) (P : Live → Type 0) → Marked w s p n m xs → ((y : Live) → In y (m .live) → live-tri y ≡ true → P y → In y xs)
-    → Met w w s p n m xs P
-met-none w s p n m xs P h k =
-    record {
-      new = [];
-      state = rw (append-nil xs) h;
-      aside = aside-refl w s p;
-      from = λ y i. absurd i;
-      all = λ y i t q. rw (append-nil xs) (k y i t q);
-    }
-
--- ---- the answers of meet_one
-
-or-has : (t : Tri) (y z : ℕ) → (tri-has t y || tri-has t z) ≡ true → Corner t y ⊎ Corner t z
-or-has t y z h = elim (either (tri-has t y) (tri-has t z) h) [ inl e ↦ inl (test-has t y e) | inr e ↦ inr (test-has t z e) ]
-
-has-or : (t : Tri) (y z : ℕ) → Corner t y ⊎ Corner t z → (tri-has t y || tri-has t z) ≡ true
-has-or t y z (inl h) = rw (has-test t y h)
-has-or t y z (inr h) = rw (has-test t z h) (last (tri-has t y))
-  where
-    last : (b : Bool) → (b || true) ≡ true
-    last true = refl
-    last false = refl
-
-module _ (w : List ℕ) (s p n j : ℕ) (m : Mesh) (xs : List Live) (x : Live) (h : Seen w s p n j m xs x) (y z : ℕ) where
-  pub seen-other : getD w j 0 ≢ 3 → Met w w s p n m xs (It x y z)
-  seen-other k =
-      let q : live-tri x ≡ false = sym (kind w s p n j m xs x h) ∙ ne-eqb (getD w j 0) 3 k in
-      met-none w s p n m xs (It x y z) (h .state) (λ e i t o. never (live-tri x) (ap live-tri (sym (o .0)) ∙ t) q)
-
-  pub seen-known : getD w (marks-at s p + j) 0 ≢ 0 → Met w w s p n m xs (It x y z)
-  seen-known k = met-none w s p n m xs (It x y z) (h .state) (λ e i t o. subst (λ (v : Live). In v xs) (sym (o .0)) (known w s p n j m xs x h k))
-
-  module _ (k : getD w j 0 ≡ 3) where
-    is-triangle : live-tri x ≡ true
-    is-triangle = sym (kind w s p n j m xs x h) ∙ eq-eqb (getD w j 0) 3 k
-
-    -- the triangle that is read
-    pub seen-cell : CellAt w s j (tri (body x))
-    seen-cell =
-        subst (λ (i : ℕ). CellAt w s i (tri (body x))) (sym (h .slot))
-        (subst (λ (c : Cell). CellAt w s (x .slot) c) (tri-is x is-triangle) (rep-held w s p m (h .state .rep) (in-has x (m .live) (h .live)) .at))
-
-    pub seen-apart : (tri-has (body x) y || tri-has (body x) z) ≡ false → Met w w s p n m xs (It x y z)
-    seen-apart q =
-        met-none w s p n m xs (It x y z) (h .state)
-        (λ e i t o. never (tri-has (body x) y || tri-has (body x) z) (has-or (body x) y z (subst (λ (v : Live). Corner (body v) y ⊎ Corner (body v) z) (o .0) (o .1))) q)
-
-    pub seen-new : getD w (marks-at s p + j) 0 ≡ 0 → (tri-has (body x) y || tri-has (body x) z) ≡ true → Met w (appended w s p n j) s p (n + 1) m xs (It x y z)
-    seen-new f q =
-        let g = grown w s p n j m xs x h (fresh w s p n j m xs x h f) is-triangle in
-        record {
-          new = x ∷ [];
-          state = g .state;
-          aside = g .aside;
-          from = λ e i. elim i [ inl o ↦ (o, subst (λ (v : Live). Corner (body v) y ⊎ Corner (body v) z) (sym o) (or-has (body x) y z q)) | inr o ↦ absurd o ];
-          all = λ e i t o. in-right e xs (x ∷ []) (inl (o .0));
-        }
+use Rattle.components.specs.Flood.{body, Marked, Seen, Met, At, Beside}
+use Rattle.components.specs.Seek.{Ring, Fresh, Sought}
+use Rattle.components.proofs.Members.{Nodes, shares-at, first-shares, second-shares}
+use Rattle.components.proofs.Grows.{few, more, seen-can, seen-room, Grown, grown}
+use Rattle.components.proofs.Seeks.{sought-none, sought-seen}
 
 -- ---- the ring of a node
 
--- met up to the corner c; the ring is that of the first memory
+-- met up to the corner c, where the next one is
 pub record Going (w₀ w : List ℕ) (s p u y z k c : ℕ) (m : Mesh) (xs : List Live) : Type 0 where
-  pub rest : List Live
-  pub pos : Pos w₀ s p u c rest
-  pub part : (e : Live) → In e rest → In e (m .live)
   pub new : List Live
-  pub state : Marked w s p k m (xs ++ new)
+  pub rest : List Live
+  pub sought : Sought w s p k u y z c m (xs ++ new) rest
   pub aside : Aside w₀ w s p
   pub from : (e : Live) → In e new → At u y z e
   pub all : (e : Live) → In e (m .live) → live-tri e ≡ true → At u y z e → In e (xs ++ new) ⊎ In e rest
 
-pub going-start : (w : List ℕ) (s p u y z n : ℕ) (m : Mesh) (xs : List Live) → Marked w s p n m xs → u < p → Going w w s p u y z n (nx w (rings-at s) (4 * s + u)) m xs
-going-start w s p u y z n m xs h l =
-    record {
-      rest = m .live;
-      pos = start w s p u m (h .rep) l;
-      part = λ e i. i;
-      new = [];
-      state = rw (append-nil xs) h;
-      aside = aside-refl w s p;
-      from = λ e i. absurd i;
-      all = λ e i t o. inr i;
-    }
+pub going-start : {w : List ℕ} {s p u y z n c : ℕ} {m : Mesh} {xs : List Live} → Sought w s p n u y z c m xs (m .live) → Going w w s p u y z n c m xs
+going-start {w} {s} {p} {m = m} {xs = xs} f =
+    record { new = []; rest = m .live; sought = rw (append-nil xs) f; aside = aside-refl w s p; from = λ e i. absurd i; all = λ e i t o. inr i }
 
-module _ (w₀ w : List ℕ) (s p u y z k c : ℕ) (m : Mesh) (xs : List Live) (g : Going w₀ w s p u y z k c m xs) where
+module _ {w₀ w : List ℕ} {s p u y z k c : ℕ} {m : Mesh} {xs : List Live} (g : Going w₀ w s p u y z k c m xs) where
+  pub going-state : Marked w s p k m (xs ++ g .new)
+  going-state = g .sought .passed .ring .state
+
+  pub going-few : k ≤ s
+  going-few = omega (arith, few going-state, going-state .rep .used)
+
   pub going-end : 4 * s ≤ c → Met w₀ w s p k m xs (At u y z)
   going-end h =
       record {
         new = g .new;
-        state = g .state;
+        state = going-state;
         aside = g .aside;
         from = g .from;
-        all = λ e i t o. elim (g .all e i t o) [ inl j ↦ j | inr j ↦ absurd (spot-end w₀ s p u c (g .rest) (g .pos) h e j t (o .0)) ];
+        all = λ e i t o. elim (g .all e i t o) [ inl j ↦ j | inr j ↦ sought-none (g .sought) h e j t o ];
       }
 
   module _ (h : c < 4 * s) where
-    here : Spot w₀ s p u c (g .rest) (g .pos)
-    here = spot w₀ s p u c (g .rest) (g .pos) h
+    it : Fresh u y z (c / 4) m (xs ++ g .new)
+    it = g .sought .here h
 
-    -- the cell at the corner
-    pub going-cell : Live
-    going-cell = here .e
+    seen : Seen w s p k (c / 4) m (xs ++ g .new) (g .sought .here h .x)
+    seen = sought-seen (g .sought) h
 
-    pub going-seen : Seen w s p k (c / 4) m (xs ++ g .new) going-cell
-    unfolding going-cell
-    going-seen = record { state = g .state; live = g .part (here .e) (here .has); slot = here .slot }
+    pub going-can : CanList w s p k × CanList w s p (c / 4)
+    unfolding it
+    going-can = (seen-room w s p k (c / 4) m (xs ++ g .new) (it .x) seen (it .out), seen-can w s p k (c / 4) m (xs ++ g .new) (it .x) seen)
 
-    pub going-less : left w₀ s p (nx w₀ (rings-at s) c) < left w₀ s p c
-    going-less = here .less
+    pub going-more : k < s
+    unfolding it
+    going-more = more w s p k (c / 4) m (xs ++ g .new) (it .x) seen (it .out)
 
-    module _ (w' : List ℕ) (r : ℕ) (f : Met w w' s p r m (xs ++ g .new) (It going-cell y z)) where
-      aside : Aside w₀ w' s p
-      aside = aside-trans w₀ w w' s p (g .aside) (f .aside)
+    more-listed : Grown w s p k (c / 4) m (xs ++ g .new) (g .sought .here h .x) seen
+    unfolding it
+    more-listed = grown w s p k (c / 4) m (xs ++ g .new) (it .x) seen (it .out) (it .is-tri)
 
-      -- the ring stayed
-      pub going-next : nx w' (rings-at s) c ≡ nx w₀ (rings-at s) c
-      going-next = aside .under .low (rings-at s + c) (omega arith)
+    -- the cells listed, with it
+    abbrev pub going-listed : List Live
+    going-listed = (xs ++ g .new) ++ g .sought .here h .x ∷ []
 
-      pub going-on : Going w₀ w' s p u y z r (nx w₀ (rings-at s) c) m xs
-      unfolding going-cell
-      going-on =
+    module _ (w' : List ℕ) (a : w' ≡ appended w s p k (c / 4)) where
+      kept : Aside w w' s p
+      kept = subst (λ (v : List ℕ). Aside w v s p) (sym a) (more-listed .aside)
+
+      -- the walk can be taken up at the same corner
+      pub going-ring : Ring w' s p (k + 1) u c m going-listed (g .sought .passed .ahead)
+      going-ring =
+          let r = g .sought .passed .ring in
           record {
-            rest = here .l;
-            pos = here .then;
-            part = λ e i. g .part e (here .part e i);
-            new = g .new ++ f .new;
-            state = subst (λ (l : List Live). Marked w' s p r m l) (append-assoc xs (g .new) (f .new)) (f .state);
-            aside = aside;
-            from = λ e i. elim (in-either e (g .new) (f .new) i) [ inl j ↦ g .from e j | inr j ↦ at-corner e (f .from e j) (its-tri e j) ];
+            state = subst (λ (v : List ℕ). Marked v s p (k + 1) m going-listed) (sym a) (more-listed .state);
+            pos = pos-under w w' s p (kept .under) u c (g .sought .passed .ahead) (r .pos);
+            part = r .part;
+          }
+
+      pub going-on : (c' : ℕ) → Sought w' s p (k + 1) u y z c' m going-listed (g .sought .passed .ahead) → Going w₀ w' s p u y z (k + 1) c' m xs
+      unfolding it
+      going-on c' f =
+          record {
+            new = g .new ++ it .x ∷ [];
+            rest = g .sought .passed .ahead;
+            sought = subst (λ (l : List Live). Sought w' s p (k + 1) u y z c' m l (g .sought .passed .ahead)) (append-assoc xs (g .new) (it .x ∷ [])) f;
+            aside = aside-trans w₀ w w' s p (g .aside) kept;
+            from = λ e i. elim (in-either e (g .new) (it .x ∷ []) i) [
+              | inl j ↦ g .from e j
+              | inr (inl q) ↦ subst (λ (v : Live). At u y z v) (sym q) (it .at)
+              | inr (inr j) ↦ absurd j
+            ];
             all = λ e i t o. elim (g .all e i t o) [
-              | inl j ↦ inl (whole e (in-left e (xs ++ g .new) (f .new) j))
-              | inr j ↦ elim (here .split e j t (o .0)) [ inl q ↦ inl (whole e (f .all e i t (q, o .1))) | inr q ↦ inr q ]
+              | inl j ↦ inl (whole e j)
+              | inr j ↦ elim (g .sought .passed .all e j t o) [ inl q ↦ inl (whole e q) | inr q ↦ inr q ]
             ];
           }
         where
-          whole : (e : Live) → In e ((xs ++ g .new) ++ f .new) → In e (xs ++ (g .new ++ f .new))
-          whole e i = subst (λ (l : List Live). In e l) (append-assoc xs (g .new) (f .new)) i
-
-          its-tri : (e : Live) → In e (f .new) → live-tri e ≡ true
-          its-tri e i = tris-at ((xs ++ g .new) ++ f .new) (f .state .tris) e (in-right e (xs ++ g .new) (f .new) i)
-
-          at-corner : (e : Live) → It (here .e) y z e → live-tri e ≡ true → At u y z e
-          at-corner e o t = (subst (λ (v : Live). Corner (body v) u) (sym (o .0)) (here .corner (ap live-tri (sym (o .0)) ∙ t)), o .1)
+          whole : (e : Live) → In e (xs ++ g .new) → In e (xs ++ (g .new ++ it .x ∷ []))
+          whole e i = subst (λ (l : List Live). In e l) (append-assoc xs (g .new) (it .x ∷ [])) (in-left e (xs ++ g .new) (it .x ∷ []) i)
 
 -- ---- a triangle's three edges
 
-at-same : (e : Live) (u y z u' y' z' : ℕ) → u ≡ u' → y ≡ y' → z ≡ z' → At u y z e → At u' y' z' e
+pub at-same : (e : Live) (u y z u' y' z' : ℕ) → u ≡ u' → y ≡ y' → z ≡ z' → At u y z e → At u' y' z' e
 at-same e u y z u' y' z' a b c h =
     (subst (λ (v : ℕ). Corner (body e) v) a (h .0), elim (h .1) [ inl k ↦ inl (subst (λ (v : ℕ). Corner (body e) v) b k) | inr k ↦ inr (subst (λ (v : ℕ). Corner (body e) v) c k) ])
 

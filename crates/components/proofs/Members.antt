@@ -124,15 +124,15 @@ module _ (u : ℕ) (x : Live) (h : live-tri x ≡ true) where
 -- ---- nodes that are read
 
 module _ (w : List ℕ) (s i v : ℕ) (t : Tri) (h : CellAt w s i (tri t)) where
-  first : getD w (s + 4 * i) 0 ≡ t .n0
+  pub first : getD w (s + 4 * i) 0 ≡ t .n0
   unfolding nodes tri-nodes
   first = let e : s + 4 * i ≡ s + 4 * i + 0 = omega arith in ap (λ (k : ℕ). getD w k 0) e ∙ h .node 0 (omega arith)
 
-  second : getD w (s + 4 * i + 1) 0 ≡ t .n1
+  pub second : getD w (s + 4 * i + 1) 0 ≡ t .n1
   unfolding nodes tri-nodes
   second = h .node 1 (omega arith)
 
-  third : getD w (s + 4 * i + 2) 0 ≡ t .n2
+  pub third : getD w (s + 4 * i + 2) 0 ≡ t .n2
   unfolding nodes tri-nodes
   third = h .node 2 (omega arith)
 
@@ -155,20 +155,23 @@ pub record Nodes (p x y z : ℕ) (t : Tri) : Type 0 where
   pub in1 : y < p
   pub three : Three t
 
-pub tri-read : (w : List ℕ) (s p i : ℕ) (m : Mesh) → Rep w s p m → (t : TriIn m i) → Nodes p (getD w (s + 4 * i) 0) (getD w (s + 4 * i + 1) 0) (getD w (s + 4 * i + 2) 0) (t .t)
-unfolding new-live nodes tri-nodes
-tri-read w s p i m r t =
-    let h = rep-held w s p m r (t .has) in
-    let a = first w s i 0 (t .t) (h .at) in
-    let b = second w s i 0 (t .t) (h .at) in
-    record {
-      n0 = a;
-      n1 = b;
-      n2 = third w s i 0 (t .t) (h .at);
-      in0 = omega (arith, a, h .shape .known .0, r .points);
-      in1 = omega (arith, b, h .shape .known .1 .0, r .points);
-      three = shape-three (length (m .points)) (t .t) (h .shape);
-    }
+module _ {w : List ℕ} {s p i : ℕ} {m : Mesh} (r : Rep w s p m) (t : TriIn m i) where
+  pub tri-cell : CellAt w s i (tri (t .t))
+  unfolding new-live
+  tri-cell = rep-held w s p m r (t .has) .at
+
+  pub tri-read : {x y z : ℕ} → (x ≡ t .t .n0) × (y ≡ t .t .n1) × (z ≡ t .t .n2) → Nodes p x y z (t .t)
+  unfolding new-live nodes tri-nodes
+  tri-read e =
+      let h = rep-held w s p m r (t .has) .shape in
+      record {
+        n0 = e .0;
+        n1 = e .1;
+        n2 = e .2;
+        in0 = omega (arith, e .0, h .known .0, r .points);
+        in1 = omega (arith, e .1, h .known .1 .0, r .points);
+        three = shape-three (length (m .points)) (t .t) h;
+      }
 
 -- ---- triangles that share an edge
 

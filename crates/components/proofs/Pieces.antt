@@ -14,12 +14,13 @@ use Rattle.cells.specs.Rep.{TriIn, slots}
 use Rattle.regions.specs.Listing.{Listed, Aside}
 use Rattle.regions.proofs.Listings.{aside-refl, aside-trans}
 use Rattle.regions.proofs.Reaches.{appended}
-use Rattle.components.specs.Flood.{body, tri-live, Marked, Met, Whole, Flooding, Flooded}
-use Rattle.components.specs.Near.{BesideOne, Looked, Around, Pieced}
+use Rattle.components.specs.Flood.{body, Marked, Met, Whole, Flooding, Flooded}
+use Rattle.components.specs.Seek.{Looked}
+use Rattle.components.specs.Near.{BesideOne, Around, Pieced}
 use Rattle.components.specs.Odd.{OddTo}
 use Rattle.components.proofs.Members.{tris-at, body-three}
 use Rattle.components.proofs.Grows.{few}
-use Rattle.components.proofs.Floods.{flood-start, begun, begun-state, flood-end}
+use Rattle.components.proofs.Floods.{begun, flood-end}
 use Rattle.components.proofs.Looks.{none-found}
 use Rattle.components.proofs.Classes.{odd-yes}
 use Rattle.components.proofs.Sweeps.{joined, Piece, Sweeping, new-piece, left-tris, left-distinct, piece-class, piece-count}
@@ -72,9 +73,6 @@ module _ (v w : List ℕ) (s p k head : ℕ) (m : Mesh) (xs : List Live) (x : Li
 
 -- the flood from the triangle in slot i, which was appended
 module _ (w : List ℕ) (s p k i : ℕ) (m : Mesh) (xs : List Live) (h : Marked w s p k m xs) (t : TriIn m i) (o : Out i (slots xs)) (w1 : List ℕ) (e : w1 ≡ appended w s p k i) where
-  pub begun-flood : Flooding w1 w1 s p (k + 1) k m xs (tri-live i (t .t))
-  begun-flood = flood-start w1 s p k m xs (tri-live i (t .t)) (begun-state w s p k i m xs h t o w1 e)
-
   pub begun-aside : (w2 : List ℕ) → Aside w1 w2 s p → Aside w w2 s p
   begun-aside w2 a = aside-trans w w1 w2 s p (subst (λ (v : List ℕ). Aside w v s p) (sym e) (begun w s p k i m xs h t o .aside)) a
 

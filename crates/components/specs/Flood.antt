@@ -29,13 +29,13 @@ body x = cell-tri (x .cell)
 abbrev pub tri-live : ℕ → Tri → Live
 tri-live i t = new-live i (tri t)
 
--- x, where it has y or z
-abbrev pub It : Live → ℕ → ℕ → Live → Type 0
-It x y z e = (e ≡ x) × (Corner (body e) y ⊎ Corner (body e) z)
+-- it has y or z
+abbrev pub OneOf : ℕ → ℕ → Live → Type 0
+OneOf y z e = Corner (body e) y ⊎ Corner (body e) z
 
 -- a triangle at u that has y or z too
 abbrev pub At : ℕ → ℕ → ℕ → Live → Type 0
-At u y z e = Corner (body e) u × (Corner (body e) y ⊎ Corner (body e) z)
+At u y z e = Corner (body e) u × OneOf y z e
 
 -- a triangle that shares an edge with t
 abbrev pub Beside : Tri → Live → Type 0

@@ -1,4 +1,5 @@
 pub mod Flood
+pub mod Seek
 pub mod Near
 pub mod Odd
 pub mod Sizes

@@ -2,24 +2,18 @@
 use mathlib.Core.Path.{_≡_}
 use mathlib.Core.Bool.{Bool, true}
 use mathlib.Core.List.{List, _++_}
-use Prim.Native.Nat.{ℕ, _≤_, _<_}
+use Prim.Native.Nat.{ℕ, _<_}
 use lib.ListN.{length}
-use Rattle.rings.specs.Rings.{Out}
 use Rattle.definition.specs.Cells.{Tri, Live, Mesh, live-tri}
 use Rattle.laws.specs.Lists.{In}
 use Rattle.account.specs.Triangles.{Shares}
-use Rattle.cells.specs.Rep.{slots}
 use Rattle.regions.specs.Listing.{Aside}
 use Rattle.components.specs.Flood.{body, Marked, Whole}
+use Rattle.components.specs.Seek.{Looked}
 
 -- a triangle that shares an edge with one of xs
 abbrev pub BesideOne : List Live → Live → Type 0
 BesideOne xs z = (y : Live) × In y xs × Shares (body y) (body z)
-
--- r is the slot of a live triangle that is not listed; s or more where each that P speaks of is listed
-pub data Looked (s r : ℕ) (m : Mesh) (xs : List Live) (P : Live → Type 0) : Type 0 where
-  nobody : s ≤ r → ((y : Live) → In y (m .live) → live-tri y ≡ true → P y → In y xs) → Looked s r m xs P
-  somebody : (y : Live) → In y (m .live) → live-tri y ≡ true → y .slot ≡ r → r < s → Out r (slots xs) → Looked s r m xs P
 
 -- of the k listed the first n are those of the region
 pub record Around (w : List ℕ) (s p k n : ℕ) (m : Mesh) (region xs : List Live) : Type 0 where

@@ -1,4 +1,5 @@
 // The components of the live triangles.
+pub mod around;
 pub mod flood;
 pub mod marks;
 pub mod near;

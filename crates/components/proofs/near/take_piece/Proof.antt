@@ -6,8 +6,8 @@ use native.Mathlib.Omega.{arith}
 use lib.ListN.{length}
 use Rattle.definition.specs.Cells.{Mesh, Live}
 use Rattle.components.specs.Flood.{tri-live, Flooding}
-use Rattle.components.proofs.Floods.{begin-can, begin-more, flood-few}
-use Rattle.components.proofs.Pieces.{begun-flood, begun-aside, flooding-from, flooding-at, flooding-around, Spreading, pieced}
+use Rattle.components.proofs.Floods.{begin-can, begin-more, begun-flood, flood-few}
+use Rattle.components.proofs.Pieces.{begun-aside, flooding-from, flooding-at, flooding-around, Spreading, pieced}
 use Rattle.components.proofs.near.take_piece.Statement.{statement}
 use Rattle.components.proofs.near.take_piece.Tie as tie
 
@@ -69,7 +69,7 @@ loop-holds c =
     let w1 = d .append .last .0 in
     let w2 = o .spread .last .0 in (
       refl,
-      o .spread .ensures .1,
+      o .spread .ensures .1 .0,
       (
           let m = t .pre .0 in
           let xs = t .pre .2 in
@@ -158,7 +158,7 @@ loop-less c =
     let v = c .before .before .before .before in
     let e = v .before .before in
     let l = e .before .before in
-    omega (arith, v .spread2 .ensures .1, e .if1 .left, l .loop .inv .2)
+    omega (arith, v .spread2 .ensures .1 .0, e .if1 .left, l .loop .inv .2)
 
 loop-again : tie.Need-loop-again Inv-loop μ-loop
 loop-again c =
@@ -172,7 +172,7 @@ loop-again c =
     let w1 = d .append .last .0 in
     let w2 = o .spread .last .0 in (
       v .spread2 .kept .0 ∙ l .loop .inv .0,
-      omega (arith, v .spread2 .ensures .1, l .loop .inv .1),
+      omega (arith, v .spread2 .ensures .1 .0, l .loop .inv .1),
       (
           let m = t .pre .0 in
           let xs = t .pre .2 in

@@ -1,7 +1,7 @@
 use borrow.Author.Needs.{needs}
 use Rattle.components.proofs.Members.{read-first, read-second, read-third}
-use Rattle.components.proofs.flood.has.Statement.{statement}
-use Rattle.components.proofs.flood.has.Tie as tie
+use Rattle.components.proofs.around.has.Statement.{statement}
+use Rattle.components.proofs.around.has.Tie as tie
 
 returns : tie.Need-returns
 returns c = λ t h.

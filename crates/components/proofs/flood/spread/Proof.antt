@@ -9,8 +9,8 @@ use Rattle.definition.specs.Cells.{Mesh, Live}
 use Rattle.components.specs.Flood.{Beside, Flooding}
 use Rattle.components.proofs.Floods.{flood-few, flood-can, popped, popped-tri, flood-on}
 use Rattle.components.proofs.Pieces.{met-more}
-use Rattle.components.proofs.near.spread.Statement.{statement}
-use Rattle.components.proofs.near.spread.Tie as tie
+use Rattle.components.proofs.flood.spread.Statement.{statement}
+use Rattle.components.proofs.flood.spread.Tie as tie
 
 abbrev Inv-loop : tie.InvT-loop
 Inv-loop w₀ s p k from stop head₀ count₀ w head count =
@@ -37,7 +37,7 @@ returns : tie.Need-returns Inv-loop μ-loop
 returns c =
     let l = c .before .before in
     let t = l .before .before in
-    (λ m xs x h. l .loop .inv .5 m xs x h, omega (arith, c .if1 .taken, l .loop .inv .2, t .pre .1 .0))
+    (λ m xs x h. l .loop .inv .5 m xs x h, (omega (arith, c .if1 .taken, l .loop .inv .2, t .pre .1 .0), λ q. c .if1 .taken))
 
 listed-requires : tie.Need-listed-requires Inv-loop μ-loop
 listed-requires c κs =
@@ -92,7 +92,7 @@ returns-2 : tie.Need-returns-2 Inv-loop μ-loop
 returns-2 c =
     let l = c .before in
     let t = l .before .before in
-    (λ m xs x h. l .loop .inv .5 m xs x h, omega (arith, c .loop-test .left, t .pre .1 .1))
+    (λ m xs x h. l .loop .inv .5 m xs x h, (omega (arith, c .loop-test .left, t .pre .1 .1), λ q. absurd (omega (arith, c .loop-test .left, q))))
 
 pub spread-spec : {M : Type 1} → statement M
 spread-spec =

@@ -1,6 +1,6 @@
 use borrow.Author.Needs.{needs}
-use Rattle.components.proofs.flood.has_one.Statement.{statement}
-use Rattle.components.proofs.flood.has_one.Tie as tie
+use Rattle.components.proofs.around.has_one.Statement.{statement}
+use Rattle.components.proofs.around.has_one.Tie as tie
 
 returns : tie.Need-returns
 returns c = λ t h. rw (← c .before .has .ensures t h, c .if1 .taken)
