@@ -11,16 +11,18 @@ use Rattle.rings.specs.Rings.{nx, Below}
 use Rattle.rings.proofs.Lists.{Same, same, differ, decide, room}
 use Rattle.definition.specs.Plane.{Vec}
 use Rattle.definition.specs.Cells.{Live, Mesh}
-use Rattle.laws.specs.Frames.{on, off}
+use Rattle.laws.specs.Frames.{off}
 use Rattle.cells.specs.Layout.{rings-at, mesh-end}
 use Rattle.cells.specs.Rep.{Rep, Cells, corners, slots}
-use Rattle.cells.specs.Walk.{after, before, node-after, node-before, CanRead, left}
+use Rattle.cells.specs.Walk.{one-if, after, before, node-after, node-before, CanRead, left}
 use Rattle.cells.proofs.Frames.{rep-under}
 use Rattle.cells.proofs.Views as views
 use Rattle.cells.proofs.Walks.{start, pos-walk}
 use Rattle.edge_candidates.specs.Wanted.{every, gives}
-use Rattle.edge_candidates.specs.Wishes.{AddedTo, Besides, Place, CanList, ListedTo}
+use Rattle.edge_candidates.specs.Wishes.{Besides, Place, CanList, Kept, CanNode, NodeTo, ListedTo}
+use Rattle.edge_candidates.specs.declared.wishes.Found.{Found}
 use Rattle.edge_candidates.proofs.Around.{Around, around-start, around-read, around-after, around-before, around-more, around-end, around-less}
+use Rattle.edge_candidates.proofs.Keeping.{keep-none}
 use Rattle.edge_candidates.proofs.Halves.{by-same}
 use Rattle.edge_candidates.proofs.Closes.{bare-fails}
 
@@ -37,35 +39,31 @@ besides-set w₀ w p b r v h k =
       behind = λ i a. off w (b + r) v i (omega arith) ∙ k .behind i a;
     }
 
-module _ (w : List ℕ) (b r v : ℕ) where
-  added-besides : (w₀ w' : List ℕ) (p : ℕ) (yes : Bool) (k : ℕ) → r < p → Besides w₀ w b p → AddedTo w w' b r v yes k → Besides w₀ w' b p
-  added-besides w₀ w' p true k h z a = subst (λ (x : List ℕ). Besides w₀ x b p) (sym (a .text)) (besides-set w₀ w p b r v h z)
-  added-besides w₀ w' p false k h z a = subst (λ (x : List ℕ). Besides w₀ x b p) (sym (a .text)) z
+pub besides-trans : (w w1 w2 : List ℕ) (b p : ℕ) → Besides w w1 b p → Besides w1 w2 b p → Besides w w2 b p
+besides-trans w w1 w2 b p f g = record { len = g .len ∙ f .len; before = λ i h. g .before i h ∙ f .before i h; behind = λ i h. g .behind i h ∙ f .behind i h }
 
-  added-place : (w' : List ℕ) (yes : Bool) (k x : ℕ) → AddedTo w w' b r v yes k → Place w b r x → Place w' b k x
-  added-place w' true k x a z =
-      record {
-        i = z .i;
-        inside = omega (arith, a .count, z .inside);
-        is = ap (λ (y : List ℕ). getD y (b + z .i) 0) (a .text) ∙ off w (b + r) v (b + z .i) (omega (arith, z .inside)) ∙ z .is;
-      }
-  added-place w' false k x a z =
-      record { i = z .i; inside = omega (arith, a .count, z .inside); is = ap (λ (y : List ℕ). getD y (b + z .i) 0) (a .text) ∙ z .is }
+one-or-none : (y : Bool) → one-if y ≤ 1
+one-or-none true = omega arith
+one-or-none false = omega arith
 
-  added-new : (w' : List ℕ) (yes : Bool) (k : ℕ) → b + r < length w → AddedTo w w' b r v yes k → yes ≡ true → Place w' b k v
-  added-new w' true k h a y =
-      record { i = r; inside = omega (arith, a .count); is = ap (λ (x : List ℕ). getD x (b + r) 0) (a .text) ∙ on w (b + r) v h }
-  added-new w' false k h a y = absurd (false≢true y)
+module _ (w w' : List ℕ) (q : List Float) (s a other b : ℕ) (m : Mesh) (u : Vec) (g : Found) (v : ℕ) (h : Found) (n : NodeTo w w' q s a other b m u g v h) where
+  node-most : h .count ≤ g .count + 1
+  node-most = omega (arith, n .count, one-or-none (gives m a other u v))
+
+  node-place : (x : ℕ) → Place w b (g .count) x → Place w' b (h .count) x
+  node-place x z = record { i = z .i; inside = omega (arith, n .count, z .inside); is = n .same (z .i) (z .inside) ∙ z .is }
+
+  node-new : gives m a other u v ≡ true → Place w' b (h .count) v
+  node-new y = record { i = g .count; inside = omega (arith, n .count, ap one-if y); is = n .new y }
 
   -- what holds of the others and of v, if it counts, holds of all
-  added-each : (P : ℕ → Type 0) (w' : List ℕ) (yes : Bool) (k : ℕ) → b + r < length w → AddedTo w w' b r v yes k → ((i : ℕ) → i < r → P (getD w (b + i) 0)) → (yes ≡ true → P v)
-      → (i : ℕ) → i < k → P (getD w' (b + i) 0)
-  added-each P w' true k h a e y i l = subst (λ (x : List ℕ). P (getD x (b + i) 0)) (sym (a .text)) (go (decide i r))
+  node-each : (P : ℕ → Type 0) → ((i : ℕ) → i < g .count → P (getD w (b + i) 0)) → (gives m a other u v ≡ true → P v) → (i : ℕ) → i < h .count → P (getD w' (b + i) 0)
+  node-each P e y i l = go (gives m a other u v) refl (decide i (g .count))
     where
-      go : Same i r → P (getD (set w (b + r) v) (b + i) 0)
-      go (same q) = subst (λ (j : ℕ). P (getD (set w (b + r) v) (b + j) 0)) (sym q) (subst P (sym (on w (b + r) v h)) (y refl))
-      go (differ q) = subst P (sym (off w (b + r) v (b + i) (omega arith))) (e i (omega (arith, a .count)))
-  added-each P w' false k h a e y i l = subst (λ (x : List ℕ). P (getD x (b + i) 0)) (sym (a .text)) (e i (omega (arith, a .count)))
+      go : (k : Bool) → gives m a other u v ≡ k → Same i (g .count) → P (getD w' (b + i) 0)
+      go true k (same d) = subst (λ (j : ℕ). P (getD w' (b + j) 0)) (sym d) (subst P (sym (n .new k)) (y k))
+      go false k (same d) = absurd (omega (arith, n .count, ap one-if k, l, d))
+      go k f (differ d) = let o : i < g .count = omega (arith, node-most, l, d) in subst P (sym (n .same i o)) (e i o)
 
 -- ---- the mesh is read as before
 
@@ -128,15 +126,17 @@ pub record Giver (m : Mesh) (a other : ℕ) (u : Vec) (v : ℕ) : Type 0 where
 abbrev Met : List ℕ → ℕ → ℕ → Mesh → ℕ → ℕ → Vec → ℕ → Type 0
 Met w b r m a other u v = gives m a other u v ≡ true → Place w b r v
 
--- at the place c of the ring of a, r nodes are listed: all whose edges with a none of the cells to come has
-pub record Gather (w₀ w : List ℕ) (s p b r c : ℕ) (m : Mesh) (a other : ℕ) (u : Vec) : Type 0 where
-  pub around : Around w₀ s a c m (Met w b r m a other u)
-  pub each : (i : ℕ) → i < r → Giver m a other u (getD w (b + i) 0)
-  pub room : r + 2 * left w₀ s p c ≤ 2 * s
-  pub besides : Besides w₀ w b (2 * s)
+-- at the place c of the ring of a, the nodes found are all whose edges with a none of the cells to come has
+pub record Gather (w₀ w : List ℕ) (q : List Float) (s p b : ℕ) (g : Found) (c : ℕ) (m : Mesh) (a other : ℕ) (u : Vec) : Type 0 where
+  pub around : Around w₀ s a c m (Met w b (g .count) m a other u)
+  pub each : (i : ℕ) → i < g .count → Giver m a other u (getD w (b + i) 0)
+  pub room : g .count + 2 * left w₀ s p c ≤ 2 * s
+  pub some : g .kept ≤ g .count
+  pub kept : Kept w q s a u b (g .kept)
+  pub besides : Besides w₀ w b (6 * s)
 
 module _ (w : List ℕ) (q : List Float) (s p a other b : ℕ) (m : Mesh) (can : CanList w q s p a other b m) (u : Vec) where
-  pub gather-start : Gather w w s p b 0 (nx w (rings-at s) (4 * s + a)) m a other u
+  pub gather-start : Gather w w q s p b (record { count = 0; kept = 0 }) (nx w (rings-at s) (4 * s + a)) m a other u
   gather-start =
       let st = start w s p a m (can .rep) (omega (arith, can .ends .node, can .rep .points)) in
       let few = corners-few w s p a (m .live) (st .cells) in
@@ -146,69 +146,85 @@ module _ (w : List ℕ) (q : List Float) (s p a other b : ℕ) (m : Mesh) (can :
         around = around-start w s p a m (Met w b 0 m a other u) (can .rep) (can .ends .node) (λ v d o h. absurd (false≢true (sym (bare-fails every m a other u v d o) ∙ h)));
         each = λ i h. absurd (omega (arith, h));
         room = omega (arith, few, most, here);
-        besides = besides-refl w b (2 * s);
+        some = omega arith;
+        kept = keep-none w q s a u b;
+        besides = besides-refl w b (6 * s);
       }
 
-  module _ (w' : List ℕ) (r c : ℕ) (g : Gather w w' s p b r c m a other u) (inside : c < 4 * s) where
+  module _ (w' : List ℕ) (g : Found) (c : ℕ) (z : Gather w w' q s p b g c m a other u) (inside : c < 4 * s) where
     read₀ : CanRead w s c
-    read₀ = around-read w s a c m (Met w' b r m a other u) (g .around) inside
+    read₀ = around-read w s a c m (Met w' b (g .count) m a other u) (z .around) inside
 
     pub gather-read : CanRead w' s c
-    gather-read = read-kept w w' s p b (2 * s) (g .besides) (can .from) c read₀
+    gather-read = read-kept w w' s p b (6 * s) (z .besides) (can .from) c read₀
 
-    pub gather-rep : Rep w' s p m
-    gather-rep = rep-besides w w' s p b (2 * s) (g .besides) (can .from) m (can .rep)
+    can-list : (v : List ℕ) → Besides w v b (6 * s) → CanList v q s p a other b m
+    can-list v k = record { rep = rep-besides w v s p b (6 * s) k (can .from) m (can .rep); pts = can .pts; ends = can .ends; from = can .from; to = omega (arith, k .len, can .to) }
 
     module _ (x y d : ℕ) (ex : x ≡ node-after w' s c) (ey : y ≡ node-before w' s c) (ed : d ≡ nx w' (rings-at s) c) where
       x-is : x ≡ node-after w s c
-      x-is = ex ∙ after-kept w w' s p b (2 * s) (g .besides) (can .from) c read₀
+      x-is = ex ∙ after-kept w w' s p b (6 * s) (z .besides) (can .from) c read₀
 
       y-is : y ≡ node-before w s c
-      y-is = ey ∙ before-kept w w' s p b (2 * s) (g .besides) (can .from) c read₀
+      y-is = ey ∙ before-kept w w' s p b (6 * s) (z .besides) (can .from) c read₀
 
       d-is : d ≡ nx w (rings-at s) c
-      d-is = ed ∙ g .besides .before (rings-at s + c) (omega (arith, can .from))
+      d-is = ed ∙ z .besides .before (rings-at s + c) (omega (arith, can .from))
 
-      pub gather-x : x < length (m .points)
-      gather-x = around-after w s a c m (Met w' b r m a other u) (g .around) inside x x-is
+      gather-x : x < length (m .points)
+      gather-x = around-after w s a c m (Met w' b (g .count) m a other u) (z .around) inside x x-is
 
-      pub gather-y : y < length (m .points)
-      gather-y = around-before w s a c m (Met w' b r m a other u) (g .around) inside y y-is
+      gather-y : y < length (m .points)
+      gather-y = around-before w s a c m (Met w' b (g .count) m a other u) (z .around) inside y y-is
 
       pub gather-less : left w s p d < left w s p c
-      gather-less = around-less w s a c m (Met w' b r m a other u) (g .around) p d (can .rep) inside d-is
+      gather-less = around-less w s a c m (Met w' b (g .count) m a other u) (z .around) p d (can .rep) inside d-is
 
       -- two more have room
-      pub gather-room : b + r + 2 ≤ b + 2 * s
-      gather-room = omega (arith, g .room, gather-less)
+      pub gather-one : CanNode w' q s p a other b m u g x
+      gather-one = record { list = can-list w' (z .besides); end = gather-x; room = omega (arith, z .room, gather-less); some = z .some; kept = z .kept }
 
-      pub gather-more : (one two : Bool) → one ≡ gives m a other u x → two ≡ gives m a other u y → (w1 w2 : List ℕ) (r1 r2 : ℕ)
-          → AddedTo w' w1 b r x one r1 → AddedTo w1 w2 b r1 y two r2 → Gather w w2 s p b r2 d m a other u
-      gather-more one two e1 e2 w1 w2 r1 r2 a1 a2 =
-          let z1 = added-besides w' b r x w w1 (2 * s) one r1 (omega (arith, gather-room)) (g .besides) a1 in
-          let h0 : b + r < length w' = omega (arith, gather-room, g .besides .len, can .to) in
-          let h1 : b + r1 < length w1 = omega (arith, gather-room, z1 .len, can .to, a1 .most) in
-          let px : Met w2 b r2 m a other u x = λ h. added-place w1 b r1 y w2 two r2 x a2 (added-new w' b r x w1 one r1 h0 a1 (e1 ∙ h)) in
-          let py : Met w2 b r2 m a other u y = λ h. added-new w1 b r1 y w2 two r2 h1 a2 (e2 ∙ h) in
-          let k = g .around in
-          let f : Around w s a c m (Met w2 b r2 m a other u) =
-          record { rest = k .rest; pos = k .pos; holds = λ v e o h. added-place w1 b r1 y w2 two r2 v a2 (added-place w' b r x w1 one r1 v a1 (k .holds v e o h)) } in
-          record {
-            around = around-more w s a c m (Met w2 b r2 m a other u) f inside x y d x-is y-is px py d-is;
-            each = added-each w1 b r1 y (Giver m a other u) w2 two r2 h1 a2
-                (added-each w' b r x (Giver m a other u) w1 one r1 h0 a1 (g .each) (λ h. record { known = gather-x; is = sym e1 ∙ h })) (λ h. record { known = gather-y; is = sym e2 ∙ h });
-            room = omega (arith, g .room, gather-less, a1 .most, a2 .most);
-            besides = added-besides w1 b r1 y w w2 (2 * s) two r2 (omega (arith, gather-room, a1 .most)) z1 a2;
-          }
+      module _ (w1 : List ℕ) (g1 : Found) (n1 : NodeTo w' w1 q s a other b m u g x g1) where
+        besides-one : Besides w w1 b (6 * s)
+        besides-one = besides-trans w w' w1 b (6 * s) (z .besides) (n1 .besides)
 
-  pub gather-end : (w' : List ℕ) (r c : ℕ) → Gather w w' s p b r c m a other u → 4 * s ≤ c → ListedTo w w' s b r m a other u
-  gather-end w' r c g h =
+        pub gather-two : CanNode w1 q s p a other b m u g1 y
+        gather-two =
+            record {
+              list = can-list w1 besides-one;
+              end = gather-y;
+              room = omega (arith, z .room, gather-less, node-most w' w1 q s a other b m u g x g1 n1);
+              some = n1 .some;
+              kept = n1 .kept;
+            }
+
+        pub gather-more : (w2 : List ℕ) (g2 : Found) → NodeTo w1 w2 q s a other b m u g1 y g2 → Gather w w2 q s p b g2 d m a other u
+        gather-more w2 g2 n2 =
+            let px : Met w2 b (g2 .count) m a other u x = λ h. node-place w1 w2 q s a other b m u g1 y g2 n2 x (node-new w' w1 q s a other b m u g x g1 n1 h) in
+            let py : Met w2 b (g2 .count) m a other u y = λ h. node-new w1 w2 q s a other b m u g1 y g2 n2 h in
+            let k = z .around in
+            let f : Around w s a c m (Met w2 b (g2 .count) m a other u) =
+            record { rest = k .rest; pos = k .pos; holds = λ v e o h. node-place w1 w2 q s a other b m u g1 y g2 n2 v (node-place w' w1 q s a other b m u g x g1 n1 v (k .holds v e o h)) } in
+            record {
+              around = around-more w s a c m (Met w2 b (g2 .count) m a other u) f inside x y d x-is y-is px py d-is;
+              each = node-each w1 w2 q s a other b m u g1 y g2 n2 (Giver m a other u)
+                  (node-each w' w1 q s a other b m u g x g1 n1 (Giver m a other u) (z .each) (λ h. record { known = gather-x; is = h })) (λ h. record { known = gather-y; is = h });
+              room = omega (arith, z .room, gather-less, node-most w' w1 q s a other b m u g x g1 n1, node-most w1 w2 q s a other b m u g1 y g2 n2);
+              some = n2 .some;
+              kept = n2 .kept;
+              besides = besides-trans w w1 w2 b (6 * s) besides-one (n2 .besides);
+            }
+
+  pub gather-end : (w' : List ℕ) (g : Found) (c : ℕ) → Gather w w' q s p b g c m a other u → 4 * s ≤ c → ListedTo w w' q s b g m a other u
+  gather-end w' g c z h =
       record {
-        listed = record { known = λ i l. g .each i l .known; each = λ i l. g .each i l .is; all = λ v e. go v e (decide v a) };
-        few = omega (arith, g .room);
-        besides = g .besides;
+        listed = record { known = λ i l. z .each i l .known; each = λ i l. z .each i l .is; all = λ v e. go v e (decide v a) };
+        few = omega (arith, z .room);
+        some = z .some;
+        kept = z .kept;
+        besides = z .besides;
       }
     where
-      go : (v : ℕ) → gives m a other u v ≡ true → Same v a → Place w' b r v
+      go : (v : ℕ) → gives m a other u v ≡ true → Same v a → Place w' b (g .count) v
       go v e (same d) = absurd (false≢true (by-same every m a other u v d ∙ e))
-      go v e (differ d) = around-end w s a c m (Met w' b r m a other u) (g .around) h v (λ z. d (sym z)) e
+      go v e (differ d) = around-end w s a c m (Met w' b (g .count) m a other u) (z .around) h v (λ y. d (sym y)) e

@@ -19,7 +19,8 @@ use Rattle.cells.proofs.Near.{near-front}
 use Rattle.cells.specs.Rep.{Pts}
 use Rattle.plane.specs.Points.{node-of}
 use Rattle.edge_candidates.specs.Wanted.{wanted-by, every, gives, At}
-use Rattle.edge_candidates.specs.Wishes.{between, ideal, ideal-from}
+use Rattle.edge_candidates.specs.Wishes.{between, ideal, ideal-from, GivenBy}
+use Rattle.edge_candidates.specs.declared.wishes.Given.{Given}
 
 -- ---- halfway
 
@@ -93,3 +94,21 @@ toward-read q p m k a v e d h =
 
 pub ideal-read : (q : List Float) (p : ℕ) (m : Mesh) → Pts q p m → (a v : ℕ) → At m a v → (u : Vec) → ideal-from q a u v ≡ ideal m a u v
 ideal-read q p m k a v e u = ap (between u) (toward-read q p m k a v e (from-to (point-at q a) (point-at q v)) refl)
+
+-- ---- an edge's ideal step by step
+
+pub half-is : (q : List Float) (a v : ℕ) (u d o h x : Vec) (n l : Float) → d ≡ from-to (point-at q a) (point-at q v) → n ≡ norm d → o ≡ over d n → h ≡ plus u o → l ≡ norm h → x ≡ over h l
+    → x ≡ ideal-from q a u v
+unfolding between
+half-is q a v u d o h x n l ed en eo eh el ex =
+    let t = from-to (point-at q a) (point-at q v) in
+    let k = plus u (over t (norm t)) in
+    let i : n ≡ norm t = en ∙ ap norm ed in
+    let j : o ≡ over t (norm t) = eo ∙ ap (λ (z : Vec). over z n) ed ∙ ap (over t) i in
+    let f : h ≡ k = eh ∙ ap (plus u) j in
+    let g : l ≡ norm k = el ∙ ap norm f in
+    ex ∙ ap (λ (z : Vec). over z l) f ∙ ap (over k) g
+
+-- no ideal
+pub not-given : (q : List Float) (m : Mesh) (a other : ℕ) (u : Vec) (v : ℕ) (r : Given) → r .yes ≡ false → false ≡ gives m a other u v → GivenBy q m a other u v r
+not-given q m a other u v r e h = record { yes = e ∙ h; is = λ y. absurd (false≢true (sym e ∙ y)) }

@@ -7,7 +7,7 @@ use native.Mathlib.Nat.{lt-of-not-le}
 use native.Mathlib.Decide.{decLe}
 use native.Mathlib.Omega.{arith}
 use lib.ListN.{length, getD}
-use lib.Ieee.{Float, isNan}
+use lib.Ieee.{Float}
 use Rattle.rings.proofs.Lists.{Same, same, differ, decide}
 use Rattle.definition.specs.Floats.{_≼_}
 use Rattle.definition.specs.Numbers.{Turn, tiny-length}
@@ -17,68 +17,14 @@ use Rattle.definition.specs.Candidates.{toward, turned}
 use Rattle.cells.proofs.Points.{node-within}
 use Rattle.cells.specs.Rep.{Pts}
 use Rattle.plane.specs.Vectors.{vec}
-use Rattle.edge_candidates.specs.Words.{float-at, vec-at, Numbers, PutTo}
+use Rattle.edge_candidates.specs.Words.{vec-at}
 use Rattle.edge_candidates.specs.Wanted.{near, wanted-by, every, gives, near-ideal}
-use Rattle.edge_candidates.specs.Wishes.{ideal-from, Besides, Listed, CanList, ListedTo, Kept, CanTest, CanKeep, KeptTo, Wished, WishedTo, Tested, kept-test, node-test}
+use Rattle.edge_candidates.specs.Wishes.{ideal-from, Listed, CanList, Kept, ListedTo, CanTest, Wished, WishedTo, Tested, kept-test, node-test}
 use Rattle.edge_candidates.specs.declared.wishes.Wish.{Wish}
-use Rattle.edge_candidates.proofs.Bits.{float-kept}
+use Rattle.edge_candidates.specs.declared.wishes.Found.{Found}
+use Rattle.edge_candidates.proofs.Keeping.{vec-kept, numbers-kept}
 use Rattle.edge_candidates.proofs.Halves.{gives-passes, gives-none, ideal-read}
 use Rattle.edge_candidates.proofs.Closes.{some-hit, some-none, near-some, near-other, near-turned}
-
--- ---- one ideal more
-
-vec-kept : (w w' : List ℕ) (at : ℕ) → ((i : ℕ) → at ≤ i → i < at + 4 → getD w' i 0 ≡ getD w i 0) → vec-at w' at ≡ vec-at w at
-vec-kept w w' at h =
-    let x : float-at w' at ≡ float-at w at = float-kept w w' at (h at (omega arith) (omega arith)) (h (at + 1) (omega arith) (omega arith)) in
-    let y : float-at w' (at + 2) ≡ float-at w (at + 2) = float-kept w w' (at + 2) (h (at + 2) (omega arith) (omega arith)) (h (at + 2 + 1) (omega arith) (omega arith)) in
-    rw (x, y)
-
-numbers-kept : (w w' : List ℕ) (at : ℕ) → ((i : ℕ) → at ≤ i → i < at + 4 → getD w' i 0 ≡ getD w i 0) → Numbers w at → Numbers w' at
-numbers-kept w w' at h k =
-    record {
-      dx = ap isNan (float-kept w w' at (h at (omega arith) (omega arith)) (h (at + 1) (omega arith) (omega arith))) ∙ k .dx;
-      dy = ap isNan (float-kept w w' (at + 2) (h (at + 2) (omega arith) (omega arith)) (h (at + 2 + 1) (omega arith) (omega arith))) ∙ k .dy;
-    }
-
-module _ (w w1 w2 : List ℕ) (q : List Float) (s a : ℕ) (u : Vec) (b i : ℕ) (room : i < s) (x : Vec) (p1 : PutTo w w1 (b + 2 * s + 4 * i) (x .dx)) (p2 : PutTo w1 w2 (b + 2 * s + 4 * i + 2) (x .dy)) where
-  both-rest : (j : ℕ) → (b + 2 * s + 4 * i ≤ j → b + 2 * s + 4 * i + 4 ≤ j) → getD w2 j 0 ≡ getD w j 0
-  both-rest j h = p2 .rest j (λ e. omega (arith, h (omega (arith, e)), e)) (λ e. omega (arith, h (omega (arith, e)), e)) ∙ p1 .rest j (λ e. omega (arith, h (omega (arith, e)), e)) (λ e. omega (arith, h (omega (arith, e)), e))
-
-  both-dx : float-at w2 (b + 2 * s + 4 * i) ≡ x .dx
-  both-dx =
-      let at = b + 2 * s + 4 * i in
-      float-kept w1 w2 at (p2 .rest at (omega arith) (omega arith)) (p2 .rest (at + 1) (omega arith) (omega arith)) ∙ p1 .is
-
-  both-is : vec-at w2 (b + 2 * s + 4 * i) ≡ x
-  both-is = rw (both-dx, p2 .is)
-
-  pub keep-besides : (w₀ : List ℕ) → Besides w₀ w (b + 2 * s) (4 * s) → Besides w₀ w2 (b + 2 * s) (4 * s)
-  keep-besides w₀ z =
-      record {
-        len = p2 .len ∙ p1 .len ∙ z .len;
-        before = λ j h. both-rest j (λ k. omega (arith, h, k)) ∙ z .before j h;
-        behind = λ j h. both-rest j (λ k. omega (arith, h, room)) ∙ z .behind j h;
-      }
-
-  pub keep-more : Kept w q s a u b i → x ≡ ideal-from q a u (getD w (b + i) 0) → isNan (x .dx) ≡ false → isNan (x .dy) ≡ false → Kept w2 q s a u b (i + 1)
-  keep-more k e nx ny = record { few = omega arith; numbers = λ j h. number j h (decide j i); each = λ j h. go j h (decide j i) }
-    where
-      number : (j : ℕ) → j < i + 1 → Same j i → Numbers w2 (b + 2 * s + 4 * j)
-      number j h (same d) = subst (λ (n : ℕ). Numbers w2 (b + 2 * s + 4 * n)) (sym d) (record { dx = ap isNan both-dx ∙ nx; dy = ap isNan (p2 .is) ∙ ny })
-      number j h (differ d) =
-          let l : j < i = omega arith in
-          numbers-kept w w2 (b + 2 * s + 4 * j) (λ n f g. both-rest n (λ y. omega (arith, y, g, l))) (k .numbers j l)
-
-      go : (j : ℕ) → j < i + 1 → Same j i → vec-at w2 (b + 2 * s + 4 * j) ≡ ideal-from q a u (getD w2 (b + j) 0)
-      go j h (same d) =
-          subst (λ (n : ℕ). vec-at w2 (b + 2 * s + 4 * n) ≡ ideal-from q a u (getD w2 (b + n) 0)) (sym d)
-          (both-is ∙ e ∙ ap (ideal-from q a u) (sym (both-rest (b + i) (λ l. omega (arith, l, room)))))
-      go j h (differ d) =
-          let l : j < i = omega arith in
-          vec-kept w w2 (b + 2 * s + 4 * j) (λ n f g. both-rest n (λ y. omega (arith, y, g, l))) ∙ k .each j l ∙ ap (ideal-from q a u) (sym (both-rest (b + j) (λ y. omega (arith, y, l, room))))
-
-pub keep-none : (w : List ℕ) (q : List Float) (s a : ℕ) (u : Vec) (b : ℕ) → Kept w q s a u b 0
-keep-none w q s a u b = record { few = omega arith; numbers = λ i h. absurd (omega (arith, h)); each = λ i h. absurd (omega (arith, h)) }
 
 -- ---- what stays
 
@@ -111,41 +57,22 @@ wished-kept w w' q s b o m a other l h z =
 
 -- ---- the wish
 
-pub can-keep : (w w1 : List ℕ) (q : List Float) (s p a other b r : ℕ) (m : Mesh) (u : Vec) → CanList w q s p a other b m → ListedTo w w1 s b r m a other u → CanKeep w1 q s a b r
-can-keep w w1 q s p a other b r m u c l =
-    record {
-      test = record {
-        fits = omega (arith, l .few, l .besides .len, c .to);
-        node = node-within q p m (c .pts) a (c .ends .node);
-        nodes = λ i h. node-within q p m (c .pts) (getD w1 (b + i) 0) (l .listed .known i h);
-      };
-      few = l .few;
-      to = omega (arith, l .besides .len, c .to);
-    }
-
-pub wished-to : (w w1 w2 : List ℕ) (q : List Float) (s p a other b : ℕ) (m : Mesh) (o : Wish) → CanList w q s p a other b m
+pub wished-to : (w w1 : List ℕ) (q : List Float) (s p a other b : ℕ) (m : Mesh) (o : Wish) (g : Found) → CanList w q s p a other b m
     → o .near ≡ (norm (toward m a other) ≼ tiny-length) → vec (o .unit) ≡ over (toward m a other) (norm (toward m a other))
-    → ListedTo w w1 s b (o .count) m a other (vec (o .unit)) → KeptTo w1 w2 q s a (vec (o .unit)) b (o .count) (o .kept) → WishedTo w w2 q s b o m a other
-wished-to w w1 w2 q s p a other b m o c n e l k =
-    let x = l .besides in
-    let y = k .besides in
-    let f : o .count ≤ 2 * s = l .few in
+    → o .count ≡ g .count → o .kept ≡ g .kept → ListedTo w w1 q s b g m a other (vec (o .unit)) → WishedTo w w1 q s b o m a other
+wished-to w w1 q s p a other b m o g c n e eg ek l =
     record {
       wished = record {
         ends = c .ends;
         near = n;
         unit = e;
-        to = omega (arith, x .len, y .len, c .to);
-        few = f;
-        some = k .some;
-        listed = listed-kept w1 w2 b (o .count) m a other (vec (o .unit)) (λ i h. y .before (b + i) (omega arith)) (l .listed);
-        kept = k .kept;
+        to = omega (arith, l .besides .len, c .to);
+        few = omega (arith, l .few, eg);
+        some = omega (arith, l .some, eg, ek);
+        listed = subst (λ (r : ℕ). Listed w1 b r m a other (vec (o .unit))) (sym eg) (l .listed);
+        kept = subst (λ (r : ℕ). Kept w1 q s a (vec (o .unit)) b r) (sym ek) (l .kept);
       };
-      besides = record {
-        len = y .len ∙ x .len;
-        before = λ i h. y .before i (omega arith) ∙ x .before i h;
-        behind = λ i h. y .behind i (omega arith) ∙ x .behind i (omega arith);
-      };
+      besides = l .besides;
     }
 
 -- ---- a test of some

@@ -19,6 +19,8 @@ use Rattle.plane.specs.Vectors.{vec}
 use Rattle.edge_candidates.specs.Words.{Numbers, vec-at}
 use Rattle.edge_candidates.specs.Wanted.{near, gives, At}
 use Rattle.edge_candidates.specs.declared.wishes.Wish.{Wish}
+use Rattle.edge_candidates.specs.declared.wishes.Given.{Given}
+use Rattle.edge_candidates.specs.declared.wishes.Found.{Found}
 
 -- ---- one ideal
 
@@ -34,6 +36,11 @@ ideal m a u v = between u (toward m a v)
 
 abbrev pub ideal-from : List Float → ℕ → Vec → ℕ → Vec
 ideal-from q a u v = between u (from-to (point-at q a) (point-at q v))
+
+-- whether the edge from a to v gives an ideal, and which
+pub record GivenBy (q : List Float) (m : Mesh) (a other : ℕ) (u : Vec) (v : ℕ) (r : Given) : Type 0 where
+  pub yes : r .yes ≡ gives m a other u v
+  pub is : r .yes ≡ true → vec (r .ideal) ≡ ideal-from q a u v
 
 -- ---- lists of nodes
 
@@ -74,11 +81,6 @@ pub record CanList (w : List ℕ) (q : List Float) (s p a other b : ℕ) (m : Me
   pub from : mesh-end s p ≤ b
   pub to : b + 6 * s ≤ length w
 
-pub record ListedTo (w w' : List ℕ) (s b r : ℕ) (m : Mesh) (a other : ℕ) (u : Vec) : Type 0 where
-  pub listed : Listed w' b r m a other u
-  pub few : r ≤ 2 * s
-  pub besides : Besides w w' b (2 * s)
-
 -- ---- ideals kept
 
 -- those of the first k nodes are kept
@@ -98,15 +100,44 @@ pub record CanGet (w : List ℕ) (b k : ℕ) : Type 0 where
   pub fits : b + 4 * k ≤ length w
   pub numbers : (i : ℕ) → i < k → Numbers w (b + 4 * i)
 
-pub record CanKeep (w : List ℕ) (q : List Float) (s a b r : ℕ) : Type 0 where
-  pub test : CanTest w q a b r
-  pub few : r ≤ 2 * s
+-- what keeping the ideal of node i asks, where k are kept
+pub record CanKeep (w : List ℕ) (s b i k : ℕ) : Type 0 where
+  pub some : k ≤ i
+  pub few : k ≤ s
   pub to : b + 6 * s ≤ length w
 
-pub record KeptTo (w w' : List ℕ) (q : List Float) (s a : ℕ) (u : Vec) (b r k : ℕ) : Type 0 where
-  pub kept : Kept w' q s a u b k
-  pub some : k ≤ r
+-- r are kept, if x is the ideal of node i
+pub record KeepTo (w w' : List ℕ) (s b i k : ℕ) (x : Vec) (r : ℕ) : Type 0 where
+  pub some : r ≤ i + 1
   pub besides : Besides w w' (b + 2 * s) (4 * s)
+  pub kept : (q : List Float) (a : ℕ) (u : Vec) → Kept w q s a u b k → x ≡ ideal-from q a u (getD w (b + i) 0) → Kept w' q s a u b r
+
+-- ---- one node
+
+-- what listing the node v asks
+pub record CanNode (w : List ℕ) (q : List Float) (s p a other b : ℕ) (m : Mesh) (u : Vec) (g : Found) (v : ℕ) : Type 0 where
+  pub list : CanList w q s p a other b m
+  pub end : v < length (m .points)
+  pub room : g .count < 2 * s
+  pub some : g .kept ≤ g .count
+  pub kept : Kept w q s a u b (g .kept)
+
+-- v stands behind the nodes found, if its edge gives an ideal
+pub record NodeTo (w w' : List ℕ) (q : List Float) (s a other b : ℕ) (m : Mesh) (u : Vec) (g : Found) (v : ℕ) (h : Found) : Type 0 where
+  pub besides : Besides w w' b (6 * s)
+  pub same : (i : ℕ) → i < g .count → getD w' (b + i) 0 ≡ getD w (b + i) 0
+  pub count : h .count ≡ g .count + one-if (gives m a other u v)
+  pub new : gives m a other u v ≡ true → getD w' (b + g .count) 0 ≡ v
+  pub some : h .kept ≤ h .count
+  pub kept : Kept w' q s a u b (h .kept)
+
+-- all are listed, and ideals of the first of them are kept
+pub record ListedTo (w w' : List ℕ) (q : List Float) (s b : ℕ) (g : Found) (m : Mesh) (a other : ℕ) (u : Vec) : Type 0 where
+  pub listed : Listed w' b (g .count) m a other u
+  pub few : g .count ≤ 2 * s
+  pub some : g .kept ≤ g .count
+  pub kept : Kept w' q s a u b (g .kept)
+  pub besides : Besides w w' b (6 * s)
 
 -- ---- the wish
 
