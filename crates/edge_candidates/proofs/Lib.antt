@@ -5,3 +5,4 @@ pub mod Closes
 pub mod Keeping
 pub mod Givers
 pub mod Nears
+pub mod Fours

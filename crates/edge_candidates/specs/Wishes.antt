@@ -1,6 +1,6 @@
 -- What is wanted at an end, listed in lent memory: nodes that give an ideal from b on, at most two a slot, and the ideals of the first of them behind, at most one a slot.
 use mathlib.Core.Path.{_≡_}
-use mathlib.Core.Bool.{Bool, true, false, cond}
+use mathlib.Core.Bool.{Bool, true, false, cond, _||_}
 use mathlib.Core.List.{List}
 use Prim.Native.Nat.{ℕ, _+_, _*_, _^_, _<_, _≤_}
 use lib.ListN.{length, getD, set}
@@ -160,6 +160,10 @@ pub record WishedTo (w w' : List ℕ) (q : List Float) (s b : ℕ) (o : Wish) (m
 -- the kept ideal i is near e
 abbrev pub kept-test : List ℕ → ℕ → Vec → ℕ → Bool
 kept-test w b e i = near e (vec-at w (b + 4 * i))
+
+-- one of the four at `at` is
+unfoldable pub four-test : List ℕ → ℕ → Vec → Bool
+four-test w at e = (near e (vec-at w at) || near e (vec-at w (at + 4))) || (near e (vec-at w (at + 8)) || near e (vec-at w (at + 12)))
 
 -- that of node i is
 abbrev pub node-test : List ℕ → List Float → ℕ → Vec → ℕ → Vec → ℕ → Bool

@@ -13,6 +13,7 @@ use plane::vectors::norm;
 use plane::vectors::over;
 use rings::wide;
 ghost use mathlib.Core.Path.{_≡_};
+ghost use mathlib.Core.Bool.{true, _||_};
 ghost use Prim.Native.Nat.{ℕ, _+_, _≤_};
 ghost use lib.ListN.{length};
 ghost use Rattle.definition.specs.Cells.{Mesh};
@@ -21,7 +22,7 @@ ghost use Rattle.cells.specs.Rep.{Rep, Pts};
 ghost use Rattle.plane.specs.Vectors.{vec};
 ghost use Rattle.edge_candidates.specs.Words.{Numbers, vec-at};
 ghost use Rattle.edge_candidates.specs.Wanted.{turn, At, near, near-ideal, edge-reach, by-edge};
-ghost use Rattle.edge_candidates.specs.Wishes.{Wished, CanTest, CanGet, Tested, kept-test, node-test};
+ghost use Rattle.edge_candidates.specs.Wishes.{Wished, CanTest, CanGet, Hit, Tested, kept-test, four-test, node-test};
 
 // The least dot product of an edge candidate's unit with an ideal.
 pub const EDGE_DOT: f64 = 0.866;
@@ -30,6 +31,9 @@ pub const EDGE_DOT: f64 = 0.866;
 pub const EDGE_LOW: f64 = 0.4;
 
 pub const EDGE_HIGH: f64 = 2.5;
+
+// Of more ideals, one of each so many is asked first.
+const SPREAD: usize = 16;
 
 // A quarter turn of a vector.
 pub fn turned(left: bool, u: Vec) -> Vec
@@ -66,19 +70,86 @@ fn vec_at(w: &[u32], at: usize) -> Vec
     }
 }
 
-// One of the k ideals that stand from b on is near e.
-fn kept_near(w: &[u32], b: usize, k: usize, e: Vec) -> bool
+// One or the other, asked without a branch.
+fn either(x: bool, y: bool) -> bool
+    ensures { λ r. ⌜ r ≡ (x || y) ⌝ }
+{
+    if x {
+        return true;
+    }
+    y
+}
+
+// One of the four ideals that stand at `at` is near e.
+fn four_near(w: &[u32], at: usize, e: Vec) -> bool
+    requires { ⌜ CanGet (now w) at 4 ⌝ }
+    ensures { λ r. ⌜ r ≡ four-test (now (w .entry)) at (vec e) ⌝ }
+{
+    let low = either(is_near(e, vec_at(w, at)), is_near(e, vec_at(w, at + 4)));
+    let high = either(
+        is_near(e, vec_at(w, at + 8)),
+        is_near(e, vec_at(w, at + 12)),
+    );
+    either(low, high)
+}
+
+// One of the ideals in the places from i to k, which stand from b on, is near e.
+fn few_near(w: &[u32], b: usize, i: usize, k: usize, e: Vec) -> bool
+    requires { ⌜ CanGet (now w) b k ⌝ }
+    ensures { λ r. ⌜ Tested (kept-test (now (w .entry)) b (vec e)) i k r ⌝ }
+{
+    let mut j = i;
+    while j < k {
+        if is_near(e, vec_at(w, b + 4 * j)) {
+            return true;
+        }
+        j += 1;
+    }
+    false
+}
+
+// One of the k ideals that stand from b on is near e; four are asked at once.
+fn all_near(w: &[u32], b: usize, k: usize, e: Vec) -> bool
     requires { ⌜ CanGet (now w) b k ⌝ }
     ensures { λ r. ⌜ Tested (kept-test (now (w .entry)) b (vec e)) 0 k r ⌝ }
+{
+    let mut i: usize = 0;
+    while k - i >= 4 {
+        if four_near(w, b + 4 * i, e) {
+            return true;
+        }
+        i += 4;
+    }
+    few_near(w, b, i, k, e)
+}
+
+// So for one of each SPREAD: ideals beside each other in the ring mostly have directions beside each other, so where some are near, it is mostly found here.
+fn spread_near(w: &[u32], b: usize, k: usize, e: Vec) -> bool
+    requires { ⌜ CanGet (now w) b k ⌝ }
+    ensures { λ r. ⌜ (r ≡ true → Hit (kept-test (now (w .entry)) b (vec e)) 0 k) ⌝ }
 {
     let mut i: usize = 0;
     while i < k {
         if is_near(e, vec_at(w, b + 4 * i)) {
             return true;
         }
-        i += 1;
+        i += SPREAD;
     }
     false
+}
+
+// One of the k ideals that stand from b on is near e.
+fn kept_near(w: &[u32], b: usize, k: usize, e: Vec) -> bool
+    requires { ⌜ CanGet (now w) b k ⌝ }
+    ensures { λ r. ⌜ Tested (kept-test (now (w .entry)) b (vec e)) 0 k r ⌝ }
+{
+    if k <= SPREAD {
+        return few_near(w, b, 0, k, e);
+    }
+    if spread_near(w, b, k, e) {
+        return true;
+    }
+    all_near(w, b, k, e)
 }
 
 // One of the nodes from b on, from place k to place r, gives an ideal that is near e.

@@ -1,66 +1,19 @@
--- The loop's invariant: the ideals before place i are not near. The measure is how many are left.
-use mathlib.Core.Path.{_≡_, ap, sym, _∙_}
-use mathlib.Core.Bool.{false}
-use Prim.Native.Nat.{ℕ, _-_, _<_, _≤_}
-use native.Mathlib.Omega.{arith}
+use mathlib.Core.Path.{_≡_}
 use Rattle.plane.specs.Vectors.{vec}
-use Rattle.edge_candidates.specs.Wanted.{near}
 use Rattle.edge_candidates.specs.Wishes.{kept-test}
-use Rattle.edge_candidates.proofs.Nears.{tested-hit, tested-miss, fails-more}
+use Rattle.edge_candidates.proofs.Fours.{tested-by}
 use borrow.Author.Needs.{needs}
 use Rattle.edge_candidates.proofs.kept_near.Statement.{statement}
 use Rattle.edge_candidates.proofs.kept_near.Tie as tie
 
-abbrev Inv-loop : tie.InvT-loop
-Inv-loop w b k e i₀ i = (i ≤ k) × ((j : ℕ) → 0 ≤ j → j < i → kept-test w b (vec e) j ≡ false)
-
-abbrev μ-loop : tie.MeasureT-loop
-μ-loop w b k e i₀ i = k - i
-
-loop-holds : tie.Need-loop-holds Inv-loop μ-loop
-loop-holds c = (omega arith, λ j a h. absurd (omega (arith, h)))
-
-vec-at-requires : tie.Need-vec-at-requires Inv-loop μ-loop
-vec-at-requires c κs =
-    let l = c .before in
-    let t = l .before .before in
-    (omega (arith, c .loop-test .taken, t .pre .fits), t .pre .numbers (l .loop .i) (c .loop-test .taken))
-
-returns : tie.Need-returns Inv-loop μ-loop
-returns c =
-    let nr = c .before in
-    let va = nr .before in
-    let i = va .before in
-    let l = i .before in
-    let x = l .loop in
-    let t = l .before .before in
-    let a = t .args in
-    let f = kept-test (a .w .now) (a .b) (vec (a .e)) in
-    let e : f (x .i) ≡ nr .is-near .result = ap (near (vec (a .e))) (sym (va .vec-at .ensures)) ∙ sym (nr .is-near .ensures) in
-    tested-hit f 0 (a .k) (x .i) (omega arith) (i .loop-test .taken) (e ∙ c .if1 .taken)
-
-loop-again : tie.Need-loop-again Inv-loop μ-loop
-loop-again c =
-    let nr = c .before in
-    let va = nr .before in
-    let i = va .before in
-    let l = i .before in
-    let x = l .loop in
-    let t = l .before .before in
-    let a = t .args in
-    let f = kept-test (a .w .now) (a .b) (vec (a .e)) in
-    let e : f (x .i) ≡ nr .is-near .result = ap (near (vec (a .e))) (sym (va .vec-at .ensures)) ∙ sym (nr .is-near .ensures) in
-    (omega (arith, i .loop-test .taken), fails-more f 0 (x .i) (x .inv .1) (e ∙ c .if1 .left))
-
-returns-2 : tie.Need-returns-2 Inv-loop μ-loop
+returns-2 : tie.Need-returns-2
 returns-2 c =
-    let l = c .before in
-    let a = l .before .before .args in
-    tested-miss (kept-test (a .w .now) (a .b) (vec (a .e))) 0 (a .k) (λ j g h. l .loop .inv .1 j g (omega (arith, h, c .loop-test .left)))
+    let s = c .before in
+    let a = s .before .before .before .args in
+    tested-by (kept-test (a .w .now) (a .b) (vec (a .e))) 0 (a .k) (s .spread-near .ensures (c .if2 .taken))
 
 pub kept-near-spec : {M : Type 1} → statement M
 kept-near-spec =
     tie.close
     (tie.spec
-    Inv-loop μ-loop loop-holds (λ c. omega arith) (λ c. omega arith) vec-at-requires (λ c κs. search needs) returns (λ c. omega arith)
-    (λ c. omega arith) loop-again returns-2)
+    (λ c κs. search needs) (λ c. c .few-near .ensures) (λ c κs. search needs) returns-2 (λ c κs. search needs) (λ c. c .all-near .ensures))
