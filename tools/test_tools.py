@@ -498,6 +498,17 @@ class Drawing(Case):
         moved = head + 'x y z\n' + texts.bits(0.125) + tail[16:]
         self.assertIn('point 0 differs', self.run_tool(DRAW, path, '--input', self.file('m.txt', moved))[2])
 
+    def test_labels_of_axes(self):
+        """Each lies inside the picture, right of the y-axis' name, and apart from the next."""
+        for shift in (0.0, 1234.5678, -7654321.25, 1e9):
+            points = [(x + shift, y - shift, z) for x, y, z in SQUARE]
+            frame = picture.Frame(points)
+            self.assertGreaterEqual(frame.left - 10 - frame.widest(1), 24)
+            self.assertGreater(len(frame.ticks(0)), 1)
+            self.assertLess(frame.widest(0), frame.step * frame.scale)
+            labels = [picture.label(tick, frame.step) for tick in frame.ticks(0)]
+            self.assertEqual(len(set(labels)), len(labels))
+
     def test_no_picture_of_what_is_not_finite(self):
         for word in ('7ff8000000000000', '7ff0000000000000', '7fe0000000000000'):
             status, out, err = self.run_tool(DRAW, self.file('s.txt', S_TEXT.replace('0000000000000000 3ff0000000000000', '0000000000000000 ' + word)))

@@ -208,7 +208,7 @@ def mesh_of(form, points, blocks, named, point_sets):
         mesh = meshio.Mesh(points, cells)
         names.med_groups(mesh, blocks, point_sets)
     elif form == 'abaqus':
-        full = [(kind, names.with_sets(marked)) for kind, marked in blocks]
+        full = [(kind, names.with_all(names.with_sets(marked), 'lines' if kind == 'line' else 'surface')) for kind, marked in blocks]
         sets = {names.plain(name): [numpy.flatnonzero(marked.sets.get(name, [])) for _, marked in full] for name in sorted({name for _, marked in full for name in marked.sets})}
         mesh = meshio.Mesh(points, cells, cell_sets=sets, point_sets={names.plain(name): nodes for name, nodes in point_sets.items()})
     elif form == 'gmsh22':

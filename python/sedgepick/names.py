@@ -67,6 +67,12 @@ def with_sets(marked):
     return Marked(marked.cells, marked.tags, {**marked.sets, **more})
 
 
+def with_all(marked, name):
+    """The cells with a set of this name for those that are in none: a deck names its cells by sets."""
+    bare = ~numpy.any([*marked.sets.values(), numpy.zeros(len(marked.cells), dtype=bool)], axis=0)
+    return Marked(marked.cells, marked.tags, {**marked.sets, name: bare}) if bare.any() and name not in marked.sets else marked
+
+
 def combined(blocks):
     """(numbers of the cells of each block, {number: names}): a number for each combination of sets, from 1; 0 for none."""
     found, rows = {(): 0}, []

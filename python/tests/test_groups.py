@@ -2,7 +2,7 @@
 import os, re, shutil, subprocess, unittest
 from importlib.util import find_spec
 from case import Case, meshio, set_up
-from common import FILES
+from common import FILES, grid
 
 if meshio:
     import numpy
@@ -80,6 +80,12 @@ class Names(Case):
         self.assertRegex(self.good(self.path('in.inp'), '-o', self.path('b.vtu')).stderr, r'in its numbers \(group\) .*\d is wall')
         mesh = meshio.read(self.path('b.vtu'))
         self.assertEqual(len(numpy.unique(numpy.concatenate(mesh.cell_data['group']))), 6)
+
+    def test_cells_without_a_group_have_a_set(self):
+        points, triangles = grid(3, 3)
+        self.good(self.stored(points, [('triangle', triangles), ('line', [(0, 1), (1, 2)])]), '-o', self.path('a.inp'), '--stop', '0')
+        with open(self.path('a.inp')) as file:
+            self.assertEqual(sorted(set(re.findall(r'ELSET=(\w+)', file.read()))), ['lines', 'surface'])
 
     def test_sets_of_an_abaqus_file(self):
         with open(self.path('in.inp'), 'w') as file:
