@@ -7,7 +7,7 @@ from common import FILES, ROOT, grid
 
 if meshio:
     import numpy
-    from sedgepick import command, evening, files, fitting, joints, losses, parts, quality, slits, surfaces
+    from sedgepick import evening, files, fitting, joints, losses, parts, quality, slits, surfaces
 
 HDF = find_spec('h5py') is not None  # which meshio needs for MED, and to write XDMF
 

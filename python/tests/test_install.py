@@ -103,6 +103,25 @@ class Install(unittest.TestCase):
         self.assertFalse(os.path.exists(os.path.join(packages, 'sedgepick', 'gone.py')))
         self.assertEqual([name for name in os.listdir(packages) if name.endswith('.dist-info')], ['sedgepick-%s.dist-info' % VERSION])
 
+    def test_a_library_from_before(self):
+        """The commit is not that of a library that was written before crates/ changed."""
+        root = os.path.join(self.folder, 'checkout')
+        for name in ('tools/shared', 'c/sedgepick_mesh.c', 'include/sedgepick.h', 'include/sedgepick_mesh.h'):
+            os.makedirs(os.path.join(root, os.path.dirname(name)), exist_ok=True)
+            shutil.copy(os.path.join(ROOT, name), os.path.join(root, name))
+        os.makedirs(os.path.join(root, 'target', 'staticlib'))
+        os.makedirs(os.path.join(root, 'crates', 'one', 'src'))
+        archive, source = shutil.copyfile(ARCHIVE, os.path.join(root, 'target', 'staticlib', 'liblibrary.a')), os.path.join(root, 'crates', 'one', 'src', 'lib.rt')
+        with open(source, 'w'):
+            pass
+        environment = {name: value for name, value in os.environ.items() if name != 'SEDGEPICK_ARCHIVE'}
+        for age, words in ((-100, ''), (100, 'crates/ has changed since')):
+            os.utime(source, (os.path.getmtime(archive) + age,) * 2)
+            made = run(os.path.join(root, 'tools', 'shared'), env=environment)
+            self.assertEqual((made.returncode, words in made.stderr, bool(made.stderr)), (0, True, bool(words)))
+            with open(os.path.join(root, 'target', 'shared', 'COMMIT')) as file:
+                self.assertEqual('from before' in file.read(), bool(words))
+
     def test_words_where_the_archive_is_missing(self):
         made = run(os.path.join(ROOT, 'tools', 'install'), os.path.join(self.folder, 'none'), '/nowhere/liblibrary.a')
         self.assertEqual(made.returncode, 1)

@@ -1,12 +1,11 @@
 """Tests of the pictures' axes: every label lies inside the picture, apart from the others, and tells its tick from the next."""
-import os, re, unittest
+import re, unittest
 import xml.etree.ElementTree as xml
 from case import Case, meshio, set_up
 from common import grid
 
 if meshio:
-    import numpy
-    from sedgepick import axes, picture
+    from sedgepick import axes
 
 DIGIT = 8.3  # pixels of a digit of 13 points in DejaVu Sans
 SVG = '{http://www.w3.org/2000/svg}'
