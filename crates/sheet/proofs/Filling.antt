@@ -20,10 +20,11 @@ use Rattle.definition.specs.Call.{quad-at, first-quads, onto}
 use Rattle.definition.specs.Account.{measures}
 use Rattle.definition.specs.Sheet.{Listed, place, places, counted, counts, values, worse, worst, worst-jacobian, worst-cosine, line, listed-points, listed-quads, all-metrics, sheet}
 use Rattle.laws.specs.Lists.{filter-append, flat-map-append, numbers-length, numbers-snoc, table-length}
-use Rattle.sheet.specs.declared.answers.Worst.{Worst}
-use Rattle.sheet.specs.declared.answers.Worst.the-variants.{Absent}
-use Rattle.sheet.specs.Counting.{counting, counting-none, place-small, counts-at, counts-length, counts-few}
-use Rattle.sheet.specs.Promise.{listed, worst-in, Fills}
+use Rattle.sheet_steps.specs.declared.Worst.{Worst}
+use Rattle.sheet_steps.specs.declared.Worst.the-variants.{Absent}
+use Rattle.sheet_steps.specs.Counting.{counting, counting-none, place-small, counts-at, counts-length, counts-few}
+use Rattle.sheet_steps.specs.Values.{worst-in}
+use Rattle.sheet.specs.Promise.{listed, Fills}
 use Rattle.sheet.specs.Standing.{lines-length}
 
 -- ---- the metrics of the first i quads

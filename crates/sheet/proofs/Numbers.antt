@@ -16,7 +16,7 @@ use Rattle.definition.specs.Sheet.{Listed, Returned, Answer, filed, refusal, sh
 use Rattle.refusals.specs.Refusals as refusals
 use Rattle.laws.specs.Lists.{numbers-length}
 use Rattle.sheet.specs.declared.answers.Sheet.{Sheet}
-use Rattle.sheet.specs.Counting.{map-at}
+use Rattle.sheet_steps.specs.Counting.{map-at}
 use Rattle.sheet.specs.Promise.{number-of, sheet-in, Returns}
 use Rattle.sheet.specs.Refusals.{Clear, clear, call-filed, call-refused}
 use Rattle.sheet.specs.Lent as lent

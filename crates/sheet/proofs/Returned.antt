@@ -7,10 +7,11 @@ use lib.ListN.{replicate}
 use lib.Ieee.{Float}
 use Rattle.definition.specs.Sheet.{Listed, refused, no-sheet, places, sheet-of, call}
 use Rattle.refusals.specs.Refusals.{number-of}
-use Rattle.sheet.specs.declared.answers.Worst.the-variants.{Absent}
+use Rattle.sheet_steps.specs.declared.Worst.the-variants.{Absent}
 use Rattle.sheet.specs.declared.answers.Sheet.{Sheet}
 use Rattle.sheet.specs.Promise as promise
-use Rattle.sheet.specs.Promise.{Returns, Fills, worst-in}
+use Rattle.sheet_steps.specs.Values.{worst-in}
+use Rattle.sheet.specs.Promise.{Returns, Fills}
 use Rattle.sheet.specs.Refusals.{Clear, call-filed, call-refused}
 
 pub refused-returns : (l : Listed) (k : ℕ) → k ≡ number-of (refused l) → k ≢ 0

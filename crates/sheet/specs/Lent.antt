@@ -2,19 +2,14 @@
 use mathlib.Core.Path.{_≡_}
 use mathlib.Core.Bool.{cond, _||_}
 use mathlib.Core.List.{List, [], _∷_, _++_}
-use mathlib.Core.Option.{Option, none, some}
 use Prim.Native.Nat.{ℕ}
 use lib.Dec.{ltb}
 use lib.ListN.{length}
 use lib.Ieee.{Float}
 use Rattle.definition.specs.Call.{onto, most-slots, most-capacity}
-use Rattle.definition.specs.Sheet.{Value, Sheet, Listed, Answer, Returned, filed, refusal, call}
+use Rattle.definition.specs.Sheet.{Sheet, Listed, Answer, Returned, filed, refusal, call}
+use Rattle.sheet_steps.specs.Values.{quad-of}
 use Rattle.sheet.specs.Promise.{number-of}
-
--- the quad that has the worst, and n where there is none
-unfoldable pub quad-of : ℕ → Option Value → ℕ
-quad-of n none = n
-quad-of n (some v) = v .0
 
 -- eleven counts, then the quads that have the worst scaled Jacobian and the worst cosine
 unfoldable pub numbers : ℕ → Sheet → List ℕ

@@ -3,8 +3,7 @@
 pub mod Promise
 pub mod Refusals
 pub mod Lent
--- the counts, the steps and the worst of each kind
-pub mod Counting
+-- the steps and the worst of each kind
 pub mod Steps
 pub mod Worst
 -- what holds of every sheet, and of one on what run_front handed back

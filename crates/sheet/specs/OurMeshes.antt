@@ -23,7 +23,7 @@ use Rattle.definition.specs.Account.{All, Account, measures}
 use Rattle.definition.specs.Sheet.{Value, Listed, filed, place, counted, worst-jacobian, worst-cosine, sheet, listed-points, listed-quads, all-metrics, over-limit, too-short, unknown-corner, far-point, call}
 use Rattle.laws.specs.Bools.{both}
 use Rattle.laws.specs.Cells.{points-length}
-use Rattle.sheet.specs.Counting.{counting, counting-none, step-small, counts-at}
+use Rattle.sheet_steps.specs.Counting.{counting, counting-none, step-small, counts-at}
 use Rattle.sheet.specs.Promise.{listed}
 use Rattle.sheet.specs.Refusals.{Clear, call-filed}
 use Rattle.sheet.specs.Worst.{all-values, all-map, all-mid}

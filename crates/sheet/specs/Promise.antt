@@ -1,7 +1,6 @@
 -- The code's arguments and answers in the definition's words, and what its functions promise.
 use mathlib.Core.Path.{_≡_}
 use mathlib.Core.List.{List}
-use mathlib.Core.Option.{Option, none, some}
 use Prim.Native.Nat.{ℕ, _+_, _*_, _≤_, _<_}
 use lib.ListN.{length, getD}
 use lib.Ieee.{Float}
@@ -10,19 +9,13 @@ use Rattle.definition.specs.Lists.{flat-map}
 use Rattle.definition.specs.Metrics.{Metrics}
 use Rattle.definition.specs.Call.{onto}
 use Rattle.definition.specs.Sheet as defined
-use Rattle.definition.specs.Sheet.{Value, Listed, Returned, filed, refusal, sheet-of, sheet, line, all-metrics}
-use Rattle.sheet.specs.declared.answers.Worst.{Worst}
-use Rattle.sheet.specs.declared.answers.Worst.the-variants.{Absent, At}
+use Rattle.definition.specs.Sheet.{Listed, Returned, filed, refusal, sheet-of, sheet, line, all-metrics}
+use Rattle.sheet_steps.specs.Values.{worst-in}
 use Rattle.sheet.specs.declared.answers.Sheet.{Sheet}
 
 -- what is handed in
 abbrev pub listed : ℕ → ℕ → List Float → List ℕ → List Float → Listed
 listed given count points quads out = record { given = given; count = count; points = points; quads = quads; out = out }
-
--- the worst as the code has it
-unfoldable pub worst-in : Worst → Option Value
-worst-in Absent = none
-worst-in (At i x) = some (i, x)
 
 -- the sheet as the code has it
 abbrev pub sheet-in : Sheet → defined.Sheet

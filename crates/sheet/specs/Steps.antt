@@ -15,7 +15,7 @@ use Rattle.definition.specs.Account.{All, Pairwise}
 use Rattle.definition.specs.Sheet.{bounds, place}
 use Rattle.laws.specs.Bools.{which, never, fails, holds}
 use Rattle.rounding.specs.Keys.{le-trans}
-use Rattle.sheet.specs.Counting.{counting, counting-none}
+use Rattle.sheet_steps.specs.Counting.{counting, counting-none}
 
 -- ---- a test that, once failed, fails for all that follow
 

@@ -18,7 +18,7 @@ use Rattle.definition.specs.Call.{first-quads}
 use Rattle.definition.specs.Account.{All, sum}
 use Rattle.definition.specs.Sheet.{Value, bounds, place, places, counted, counts, values, worst, worst-jacobian, worst-cosine, sheet, Listed, listed-quads, all-metrics}
 use Rattle.laws.specs.Lists.{numbers-length, table-length}
-use Rattle.sheet.specs.Counting.{counting, place-small, counts-at}
+use Rattle.sheet_steps.specs.Counting.{counting, place-small, counts-at}
 use Rattle.sheet.specs.Steps.{reached, not-reached}
 use Rattle.sheet.specs.Worst.{no-values, values-none, worst-none, none-worst, First-worst, least-first, largest-first}
 

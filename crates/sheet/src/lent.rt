@@ -1,28 +1,18 @@
 // The sheet in lent memory, for programs in C and Rust: eleven counts, then the quads that have the worst of each kind.
 use crate::answers::Sheet;
-use crate::answers::Worst;
 use crate::conditions::MOST_POINTS;
 use crate::conditions::MOST_QUADS;
 use crate::sheet;
+use sheet_steps::values::quad_of;
 ghost use mathlib.Core.Path.{_≡_};
 ghost use Prim.Native.Nat.{_≤_};
 ghost use lib.ListN.{length};
 ghost use Rattle.definition.specs.Call.{onto};
-ghost use Rattle.sheet.specs.Lent.{quad-of, numbers, short-number, Put};
-ghost use Rattle.sheet.specs.Promise.{listed, worst-in, sheet-in};
+ghost use Rattle.sheet.specs.Lent.{numbers, short-number, Put};
+ghost use Rattle.sheet.specs.Promise.{listed, sheet-in};
 
 // Numbers of a sheet.
 const NUMBERS: usize = 13;
-
-// The quad that has the worst, or another number where there is none.
-fn quad_of(w: Worst, none: usize) -> usize
-    ensures { λ r. ⌜ r ≡ quad-of none (worst-in w) ⌝ }
-{
-    match w {
-        Worst::Absent => none,
-        Worst::At(i, _) => i,
-    }
-}
 
 // The numbers of a sheet come to the front of the slice.
 fn write(answer: &mut [usize], s: Sheet, count: usize)

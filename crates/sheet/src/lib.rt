@@ -2,14 +2,12 @@
 pub mod answers;
 mod conditions;
 pub mod lent;
-mod places;
 mod rows;
-mod worst;
 
 use crate::answers::Sheet;
-use crate::answers::Worst;
 use crate::conditions::refusal;
 use crate::rows::fill;
+use sheet_steps::Worst;
 ghost use Rattle.definition.specs.Sheet.{call};
 ghost use Rattle.sheet.specs.Promise.{listed, Returns};
 

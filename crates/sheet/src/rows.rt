@@ -1,11 +1,11 @@
 // The rows of the sheet, quad after quad.
 use crate::answers::Sheet;
-use crate::answers::Worst;
-use crate::places::place;
-use crate::worst::worst_cosine;
-use crate::worst::worst_jacobian;
 use plane::metrics::Metrics;
 use plane::metrics::quad_metrics;
+use sheet_steps::Worst;
+use sheet_steps::places::place;
+use sheet_steps::values::worst_cosine;
+use sheet_steps::values::worst_jacobian;
 ghost use mathlib.Core.Path.{_≡_};
 ghost use Prim.Native.Nat.{_+_, _*_, _≤_, _<_};
 ghost use lib.ListN.{length, set};

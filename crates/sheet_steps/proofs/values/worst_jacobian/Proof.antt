@@ -1,8 +1,8 @@
 use Rattle.definition.specs.Sheet.{values}
 use Rattle.plane.specs.Measures.{metrics-of-enum}
 use borrow.Author.Needs.{needs}
-use Rattle.sheet.proofs.worst.worst_jacobian.Statement.{statement}
-use Rattle.sheet.proofs.worst.worst_jacobian.Tie as tie
+use Rattle.sheet_steps.proofs.values.worst_jacobian.Statement.{statement}
+use Rattle.sheet_steps.proofs.values.worst_jacobian.Tie as tie
 
 returns : tie.Need-returns
 unfolding metrics-of-enum values

@@ -1,9 +1,9 @@
 use Rattle.definition.specs.Floats.{_≺_}
 use Rattle.definition.specs.Sheet.{worse}
-use Rattle.sheet.specs.Promise.{worst-in}
+use Rattle.sheet_steps.specs.Values.{worst-in}
 use borrow.Author.Needs.{needs}
-use Rattle.sheet.proofs.worst.larger.Statement.{statement}
-use Rattle.sheet.proofs.worst.larger.Tie as tie
+use Rattle.sheet_steps.proofs.values.lesser.Statement.{statement}
+use Rattle.sheet_steps.proofs.values.lesser.Tie as tie
 
 returns : tie.Need-returns
 unfolding worst-in worse _≺_
@@ -17,5 +17,5 @@ returns-3 : tie.Need-returns-3
 unfolding worst-in worse _≺_
 returns-3 c = rw (c .before .before .w .given .1, c .if1 .left)
 
-pub larger-spec : {M : Type 1} → statement M
-larger-spec = tie.close (tie.spec (λ c. search needs) (λ c. search needs) returns returns-2 returns-3)
+pub lesser-spec : {M : Type 1} → statement M
+lesser-spec = tie.close (tie.spec (λ c. search needs) (λ c. search needs) returns returns-2 returns-3)

@@ -7,7 +7,7 @@ use lib.Ieee.{Float}
 use Rattle.definition.specs.Floats.{_≼_, 0·1, 0·2, 0·3, 0·4, 0·5, 0·6, 0·7, 0·8, 0·9}
 use Rattle.definition.specs.Metrics.{measured}
 use Rattle.definition.specs.Sheet.{bounds, place}
-use Rattle.sheet.specs.Counting.{counting, counting-none}
+use Rattle.sheet_steps.specs.Counting.{counting, counting-none}
 
 -- 1 for each bound that is reached
 module _ (sj : Float) where

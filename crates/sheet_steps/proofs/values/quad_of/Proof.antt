@@ -1,8 +1,8 @@
-use Rattle.sheet.specs.Promise.{worst-in}
-use Rattle.sheet.specs.Lent.{quad-of}
+use Rattle.sheet_steps.specs.Values.{worst-in}
+use Rattle.sheet_steps.specs.Values.{quad-of}
 use borrow.Author.Needs.{needs}
-use Rattle.sheet.proofs.lent.quad_of.Statement.{statement}
-use Rattle.sheet.proofs.lent.quad_of.Tie as tie
+use Rattle.sheet_steps.proofs.values.quad_of.Statement.{statement}
+use Rattle.sheet_steps.proofs.values.quad_of.Tie as tie
 
 returns : tie.Need-returns
 unfolding quad-of worst-in

@@ -1,12 +1,12 @@
 // The worst so far, and one quad more.
-use crate::answers::Worst;
+use crate::Worst;
 use plane::metrics::Metrics;
 ghost use mathlib.Core.Path.{_≡_};
 ghost use mathlib.Core.List.{[], _∷_, foldl};
 ghost use Rattle.definition.specs.Floats.{_≺_};
 ghost use Rattle.definition.specs.Sheet.{values, worse};
 ghost use Rattle.plane.specs.Measures.{metrics-of-enum};
-ghost use Rattle.sheet.specs.Promise.{worst-in};
+ghost use Rattle.sheet_steps.specs.Values.{worst-in, quad-of};
 
 // The lesser of two values, and the earlier one where they are equal.
 fn lesser(w: Worst, i: usize, x: f64) -> Worst
@@ -55,5 +55,15 @@ pub fn worst_cosine(largest: Worst, i: usize, m: Metrics) -> Worst
     match m {
         Metrics::Absent => largest,
         Metrics::Measured(_, k) => larger(largest, i, k),
+    }
+}
+
+// The quad that has the worst, or another number where there is none.
+pub fn quad_of(w: Worst, none: usize) -> usize
+    ensures { λ r. ⌜ r ≡ quad-of none (worst-in w) ⌝ }
+{
+    match w {
+        Worst::Absent => none,
+        Worst::At(i, _) => i,
     }
 }

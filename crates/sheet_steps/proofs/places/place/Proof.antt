@@ -4,8 +4,8 @@ use Rattle.definition.specs.Sheet.{place}
 use Rattle.plane.specs.declared.metrics.Metrics.{Metrics}
 use Rattle.plane.specs.Measures.{metrics-of-enum}
 use borrow.Author.Needs.{needs}
-use Rattle.sheet.proofs.places.place.Statement.{statement}
-use Rattle.sheet.proofs.places.place.Tie as tie
+use Rattle.sheet_steps.proofs.places.place.Statement.{statement}
+use Rattle.sheet_steps.proofs.places.place.Tie as tie
 
 returns : tie.Need-returns
 unfolding metrics-of-enum place

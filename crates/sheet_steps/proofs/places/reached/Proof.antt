@@ -1,7 +1,7 @@
 use Rattle.definition.specs.Floats.{_≼_}
 use native.Mathlib.Omega.{arith}
-use Rattle.sheet.proofs.places.reached.Statement.{statement}
-use Rattle.sheet.proofs.places.reached.Tie as tie
+use Rattle.sheet_steps.proofs.places.reached.Statement.{statement}
+use Rattle.sheet_steps.proofs.places.reached.Tie as tie
 
 returns : tie.Need-returns
 unfolding _≼_
