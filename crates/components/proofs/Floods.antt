@@ -53,7 +53,7 @@ flood-start w s p n m xs x h =
     }
 
 -- the flood from the triangle in slot i begins
-module _ (w : List ℕ) (s p n i : ℕ) (m : Mesh) (xs : List Live) (h : Marked w s p n m xs) (t : TriIn m i) (o : Out i (slots xs)) where
+module _ {w : List ℕ} {s p n i : ℕ} {m : Mesh} {xs : List Live} (h : Marked w s p n m xs) (t : TriIn m i) (o : Out i (slots xs)) where
   pub begin-can : CanList w s p n × CanList w s p i
   unfolding new-live
   begin-can = (seen-room w s p n i m xs (tri-live i (t .t)) (seen-tri w s p n i m xs h t) o, seen-can w s p n i m xs (tri-live i (t .t)) (seen-tri w s p n i m xs h t))
@@ -67,15 +67,15 @@ module _ (w : List ℕ) (s p n i : ℕ) (m : Mesh) (xs : List Live) (h : Marked 
   begun = grown w s p n i m xs (tri-live i (t .t)) (seen-tri w s p n i m xs h t) o refl
 
   -- in the memory that it left
-  module _ (w1 : List ℕ) (e : w1 ≡ appended w s p n i) where
+  module _ {w1 : List ℕ} (e : w1 ≡ appended w s p n i) where
     pub begun-state : Marked w1 s p (n + 1) m (xs ++ tri-live i (t .t) ∷ [])
     begun-state = subst (λ (v : List ℕ). Marked v s p (n + 1) m (xs ++ tri-live i (t .t) ∷ [])) (sym e) (begun .state)
 
     pub begun-flood : Flooding w1 w1 s p (n + 1) n m xs (tri-live i (t .t))
     begun-flood = flood-start w1 s p n m xs (tri-live i (t .t)) begun-state
 
-    pub flooded-from : (w2 : List ℕ) (r : ℕ) → Flooded w1 w2 s p r m xs (tri-live i (t .t)) → Flooded w w2 s p r m xs (tri-live i (t .t))
-    flooded-from w2 r f =
+    pub flooded-from : {w2 : List ℕ} {r : ℕ} → Flooded w1 w2 s p r m xs (tri-live i (t .t)) → Flooded w w2 s p r m xs (tri-live i (t .t))
+    flooded-from {w2} f =
         record {
           new = f .new;
           state = f .state;
@@ -100,15 +100,15 @@ pub record Popped (w₀ w : List ℕ) (s p k head : ℕ) (m : Mesh) (xs : List L
   pub is-tri : live-tri y ≡ true
   pub slot : j ≡ y .slot
 
-module _ (w₀ w : List ℕ) (s p k head : ℕ) (m : Mesh) (xs : List Live) (x : Live) where
+module _ {w₀ w : List ℕ} {s p k head : ℕ} {m : Mesh} {xs : List Live} {x : Live} where
   pub flood-few : Flooding w₀ w s p k head m xs x → (k ≤ s)
   flood-few g = omega (arith, few (g .state), g .state .rep .used)
 
   pub flood-can : Flooding w₀ w s p k head m xs x → head < k → CanList w s p head
   flood-can g l = can-list (g .state) head (omega (arith, few (g .state), g .state .rep .used))
 
-  pub popped : (g : Flooding w₀ w s p k head m xs x) → head < k → (j : ℕ) → j ≡ getD w (list-at s p + head) 0 → Popped w₀ w s p k head m xs x j
-  popped g l j q = go (g .done) (g .todo) (g .state) (g .at) (g .first) (g .linked) (g .closed)
+  pub popped : (g : Flooding w₀ w s p k head m xs x) → head < k → {j : ℕ} → j ≡ getD w (list-at s p + head) 0 → Popped w₀ w s p k head m xs x j
+  popped g l {j} q = go (g .done) (g .todo) (g .state) (g .at) (g .first) (g .linked) (g .closed)
     where
       go : (done todo : List Live) → Marked w s p k m (xs ++ (done ++ todo)) → head ≡ length xs + length done → In x (done ++ todo)
           → ((c : Tri → Bool) → Whole c m xs → (y : Live) → In y (done ++ todo) → c (body y) ≡ c (body x))
@@ -151,13 +151,13 @@ module _ (w₀ w : List ℕ) (s p k head : ℕ) (m : Mesh) (xs : List Live) (x :
       in-done (z ∷ todo) e y i = absurd (omega (arith, e))
 
 -- the triangles around it were met
-module _ (w₀ w : List ℕ) (s p k head : ℕ) (m : Mesh) (xs : List Live) (x : Live) (j : ℕ) (b : Popped w₀ w s p k head m xs x j) where
+module _ {w₀ w : List ℕ} {s p k head : ℕ} {m : Mesh} {xs : List Live} {x : Live} {j : ℕ} (b : Popped w₀ w s p k head m xs x j) where
   pub popped-tri : TriIn m j
   popped-tri = tri-at m j (b .y) (b .live) (b .is-tri) (b .slot)
 
-  pub flood-on : (w' : List ℕ) (r : ℕ) → Met w w' s p r m (xs ++ (b .done ++ b .y ∷ b .todo)) (Beside (popped-tri .t)) → Flooding w₀ w' s p r (head + 1) m xs x
+  pub flood-on : {w' : List ℕ} {r : ℕ} → Met w w' s p r m (xs ++ (b .done ++ b .y ∷ b .todo)) (Beside (popped-tri .t)) → Flooding w₀ w' s p r (head + 1) m xs x
   unfolding popped-tri tri-at
-  flood-on w' r f =
+  flood-on {w'} {r} f =
       record {
         done = b .done ++ b .y ∷ [];
         todo = b .todo ++ f .new;

@@ -26,29 +26,29 @@ use Rattle.components.proofs.Floods.{tri-at}
 -- ---- found or not
 
 -- one found is one, whatever was looked for
-pub looked-other : (s r : ℕ) (m : Mesh) (xs : List Live) (P Q : Live → Type 0) → Looked s r m xs P → r < s → Looked s r m xs Q
-looked-other s r m xs P Q (nobody k f) l = absurd (omega (arith, k, l))
-looked-other s r m xs P Q (somebody y i t e k o) l = somebody y i t e k o
+pub looked-other : {s r : ℕ} {m : Mesh} {xs : List Live} {P Q : Live → Type 0} → Looked s r m xs P → r < s → Looked s r m xs Q
+looked-other (nobody k f) l = absurd (omega (arith, k, l))
+looked-other (somebody y i t e k o) l = somebody y i t e k o
 
 -- it is a triangle of the mesh, and not listed
-pub found-tri : (s r : ℕ) (m : Mesh) (xs : List Live) (P : Live → Type 0) → Looked s r m xs P → r < s → TriIn m r × Out r (slots xs)
-found-tri s r m xs P (nobody k f) l = absurd (omega (arith, k, l))
-found-tri s r m xs P (somebody y i t e k o) l = (tri-at m r y i t (sym e), o)
+pub found-tri : {s r : ℕ} {m : Mesh} {xs : List Live} {P : Live → Type 0} → Looked s r m xs P → r < s → TriIn m r × Out r (slots xs)
+found-tri (nobody k f) l = absurd (omega (arith, k, l))
+found-tri {r = r} {m = m} (somebody y i t e k o) l = (tri-at m r y i t (sym e), o)
 
 -- none was found
-pub none-found : (s r : ℕ) (m : Mesh) (xs : List Live) (P : Live → Type 0) → Looked s r m xs P → s ≤ r → (y : Live) → In y (m .live) → live-tri y ≡ true → P y → In y xs
-none-found s r m xs P (nobody k f) l = f
-none-found s r m xs P (somebody y i t e k o) l = absurd (omega (arith, k, l))
+pub none-found : {s r : ℕ} {m : Mesh} {xs : List Live} {P : Live → Type 0} → Looked s r m xs P → s ≤ r → (y : Live) → In y (m .live) → live-tri y ≡ true → P y → In y xs
+none-found (nobody k f) l = f
+none-found (somebody y i t e k o) l = absurd (omega (arith, k, l))
 
 -- beside a triangle: none at its first node, then a look at the second
-pub looked-both : (s p r r2 : ℕ) (m : Mesh) (xs : List Live) (t : Tri) (x y z u v : ℕ) → Nodes p x y z t → u ≡ x → v ≡ y → Looked s r m xs (At u y z) → s ≤ r → Looked s r2 m xs (At v z z)
+pub looked-both : {s p r r2 : ℕ} {m : Mesh} {xs : List Live} {t : Tri} {x y z u v : ℕ} → Nodes p x y z t → u ≡ x → v ≡ y → Looked s r m xs (At u y z) → s ≤ r → Looked s r2 m xs (At v z z)
     → Looked s r2 m xs (Beside t)
-looked-both s p r r2 m xs t x y z u v n eu ev a l b = elim (decLe s r2) [
+looked-both {s} {r2 = r2} {t = t} {y = y} {z = z} {u = u} {v = v} n eu ev a l b = elim (decLe s r2) [
   | yes e ↦ nobody e (λ k i h o. elim (shares-at t k o) [
-    | inl j ↦ none-found s r m xs (At u y z) a l k i h (at-same k (t .n0) (t .n1) (t .n2) u y z (sym (eu ∙ n .n0)) (sym (n .n1)) (sym (n .n2)) j)
-    | inr j ↦ none-found s r2 m xs (At v z z) b e k i h (at-same k (t .n1) (t .n2) (t .n2) v z z (sym (ev ∙ n .n1)) (sym (n .n2)) (sym (n .n2)) j)
+    | inl j ↦ none-found a l k i h (at-same k (t .n0) (t .n1) (t .n2) u y z (sym (eu ∙ n .n0)) (sym (n .n1)) (sym (n .n2)) j)
+    | inr j ↦ none-found b e k i h (at-same k (t .n1) (t .n2) (t .n2) v z z (sym (ev ∙ n .n1)) (sym (n .n2)) (sym (n .n2)) j)
   ])
-  | no e ↦ looked-other s r2 m xs (At v z z) (Beside t) b (omega (arith, e))
+  | no e ↦ looked-other b (omega (arith, e))
 ]
 
 -- ---- around a region
@@ -76,15 +76,15 @@ pub record Facing (i j : ℕ) (m : Mesh) (region xs : List Live) : Type 0 where
   pub is-tri : live-tri y ≡ true
   pub slot : j ≡ y .slot
 
-module _ (w : List ℕ) (s p k n i : ℕ) (m : Mesh) (region xs : List Live) (a : Around w s p k n m region xs) where
+module _ {w : List ℕ} {s p k n : ℕ} (i : ℕ) {m : Mesh} {region xs : List Live} (a : Around w s p k n m region xs) where
   pub around-few : n ≤ s
   around-few = omega (arith, few (a .state), a .state .rep .used, a .state .len, ap length (a .parts), length-append region (a .rest), a .len)
 
   pub around-can : i < n → CanList w s p i
   around-can l = can-list (a .state) i (omega (arith, l, around-few))
 
-  pub facing : Looking i m region xs → i < n → (j : ℕ) → j ≡ getD w (list-at s p + i) 0 → Facing i j m region xs
-  facing g l j q = go (g .done) (g .todo) (g .parts) (g .at) (g .so)
+  pub facing : Looking i m region xs → i < n → {j : ℕ} → j ≡ getD w (list-at s p + i) 0 → Facing i j m region xs
+  facing g l {j} q = go (g .done) (g .todo) (g .parts) (g .at) (g .so)
     where
       go : (done todo : List Live) → region ≡ done ++ todo → i ≡ length done → ((z : Live) → In z (m .live) → live-tri z ≡ true → BesideOne done z → In z xs) → Facing i j m region xs
       go done [] e b f = absurd (omega (arith, a .len, ap length e, length-append done [], b, l))
@@ -105,20 +105,20 @@ module _ (w : List ℕ) (s p k n i : ℕ) (m : Mesh) (region xs : List Live) (a 
             slot = q ∙ ap (λ (v : ℕ). getD w (list-at s p + v) 0) b ∙ st;
           }
 
-  pub looking-end : Looking i m region xs → n ≤ i → (r : ℕ) → s ≤ r → Looked s r m xs (BesideOne region)
-  looking-end g l r q = go (g .done) (g .todo) (g .parts) (g .at) (g .so)
+  pub looking-end : Looking i m region xs → n ≤ i → {r : ℕ} → s ≤ r → Looked s r m xs (BesideOne region)
+  looking-end g l {r} q = go (g .done) (g .todo) (g .parts) (g .at) (g .so)
     where
       go : (done todo : List Live) → region ≡ done ++ todo → i ≡ length done → ((z : Live) → In z (m .live) → live-tri z ≡ true → BesideOne done z → In z xs) → Looked s r m xs (BesideOne region)
       go done [] e b f = nobody q (λ z v t h. f z v t (h .0, subst (λ (u : List Live). In (h .0) u) (e ∙ append-nil done) (h .1), h .2))
       go done (y ∷ todo) e b f = absurd (omega (arith, a .len, ap length e, length-append done (y ∷ todo), b, l))
 
-module _ (i j : ℕ) (m : Mesh) (region xs : List Live) (b : Facing i j m region xs) where
+module _ {i j : ℕ} {m : Mesh} {region xs : List Live} (b : Facing i j m region xs) where
   pub facing-tri : TriIn m j
   facing-tri = tri-at m j (b .y) (b .live) (b .is-tri) (b .slot)
 
-  pub looking-on : (s r : ℕ) → Looked s r m xs (Beside (facing-tri .t)) → s ≤ r → Looking (i + 1) m region xs
+  pub looking-on : {s r : ℕ} → Looked s r m xs (Beside (facing-tri .t)) → s ≤ r → Looking (i + 1) m region xs
   unfolding facing-tri tri-at
-  looking-on s r h l =
+  looking-on h l =
       record {
         done = b .done ++ b .y ∷ [];
         todo = b .todo;
@@ -126,7 +126,7 @@ module _ (i j : ℕ) (m : Mesh) (region xs : List Live) (b : Facing i j m region
         at = omega (arith, b .at, length-append (b .done) (b .y ∷ []));
         so = λ z v t u. elim (in-either (u .0) (b .done) (b .y ∷ []) (u .1)) [
           | inl q ↦ b .so z v t (u .0, q, u .2)
-          | inr (inl q) ↦ none-found s r m xs (Beside (facing-tri .t)) h l z v t (subst (λ (o : Live). Shares (body o) (body z)) q (u .2))
+          | inr (inl q) ↦ none-found h l z v t (subst (λ (o : Live). Shares (body o) (body z)) q (u .2))
           | inr (inr q) ↦ absurd q
         ];
       }

@@ -23,16 +23,16 @@ use Rattle.components.proofs.Grows.{can-list, seen-can, seen-room, grow
 
 -- ---- cleared
 
-module _ (w₀ w : List ℕ) (s p used : ℕ) (h : Cleared w₀ w s p used) where
+module _ {w₀ w : List ℕ} {s p used : ℕ} (h : Cleared w₀ w s p used) where
   -- nothing listed, nothing marked
-  pub cleared-none : (m : Mesh) → Rep w₀ s p m → m .used ≡ used → Marked w s p 0 m []
+  pub cleared-none : {m : Mesh} → Rep w₀ s p m → m .used ≡ used → Marked w s p 0 m []
   unfolding any
-  cleared-none m r u =
+  cleared-none {m} r u =
       record { rep = rep-under w₀ w s p (h .under) m r; len = refl; distinct = tt; live = λ x i. absurd i; tris = tt; stored = tt; marks = λ i l. h .marks i (omega (arith, l, u)) }
 
   -- what was listed is
-  pub cleared-listed : (n : ℕ) (m : Mesh) (xs : List Live) → Listed w₀ s p n m xs → Listed w s p n m xs
-  cleared-listed n m xs k =
+  pub cleared-listed : {n : ℕ} {m : Mesh} {xs : List Live} → Listed w₀ s p n m xs → Listed w s p n m xs
+  cleared-listed {m = m} {xs = xs} k =
       record {
         rep = rep-under w₀ w s p (h .under) m (k .rep);
         len = k .len;
@@ -54,8 +54,8 @@ pub record Marking (w₀ w : List ℕ) (s p n i : ℕ) (m : Mesh) (xs : List Liv
   pub stored : Stored w (list-at s p + i) (slots rest)
   pub aside : Aside w₀ w s p
 
-pub marking-start : (w : List ℕ) (s p n : ℕ) (m : Mesh) (xs : List Live) → Listed w s p n m xs → Marked w s p 0 m [] → Marking w w s p n 0 m xs
-marking-start w s p n m xs h k =
+pub marking-start : {w : List ℕ} {s p n : ℕ} {m : Mesh} {xs : List Live} → Listed w s p n m xs → Marked w s p 0 m [] → Marking w w s p n 0 m xs
+marking-start {w} {s} {p} {xs = xs} h k =
     record {
       done = [];
       rest = xs;
@@ -76,7 +76,7 @@ pub record Upcoming (w₀ w : List ℕ) (s p n i j : ℕ) (m : Mesh) (xs : List 
   pub out : Out (x .slot) (slots done)
   pub stored : Stored w (list-at s p + i + 1) (slots rest)
 
-module _ (w₀ w : List ℕ) (s p n i : ℕ) (m : Mesh) (xs : List Live) (h : Listed w₀ s p n m xs) (g : Marking w₀ w s p n i m xs) where
+module _ {w₀ w : List ℕ} {s p n i : ℕ} {m : Mesh} {xs : List Live} (h : Listed w₀ s p n m xs) (g : Marking w₀ w s p n i m xs) where
   pub marking-end : n ≤ i → i ≤ n → MarkedTo w₀ w s p n m xs
   marking-end l k = go (g .rest) (g .parts)
     where
@@ -91,8 +91,8 @@ module _ (w₀ w : List ℕ) (s p n i : ℕ) (m : Mesh) (xs : List Live) (h : Li
     pub marking-can : n ≤ s → CanList w s p i
     marking-can k = can-list (g .state) i (omega arith)
 
-    pub upcoming : (j : ℕ) → j ≡ getD w (list-at s p + i) 0 → Upcoming w₀ w s p n i j m xs
-    upcoming j q = go (g .rest) (g .parts) (g .stored)
+    pub upcoming : {j : ℕ} → j ≡ getD w (list-at s p + i) 0 → Upcoming w₀ w s p n i j m xs
+    upcoming {j} q = go (g .rest) (g .parts) (g .stored)
       where
         go : (rest : List Live) → xs ≡ g .done ++ rest → Stored w (list-at s p + i) (slots rest) → Upcoming w₀ w s p n i j m xs
         go [] e k = absurd (omega (arith, ap length e, length-append (g .done) [], h .len, g .state .len))
@@ -119,12 +119,12 @@ module _ (w₀ w : List ℕ) (s p n i : ℕ) (m : Mesh) (xs : List Live) (h : Li
                 out-at v [] o z = o .0 (sym z)
                 out-at v (u ∷ l) o z = out-at v l (o .1) z
 
-    module _ (j : ℕ) (u : Upcoming w₀ w s p n i j m xs) where
+    module _ {j : ℕ} (u : Upcoming w₀ w s p n i j m xs) where
       pub upcoming-can : CanList w s p i × CanList w s p j
       upcoming-can = (seen-room w s p i j m (u .done) (u .x) (u .seen) (u .out), seen-can w s p i j m (u .done) (u .x) (u .seen))
 
-      pub marking-on : (w' : List ℕ) → w' ≡ appended w s p i j → n ≤ s → Marking w₀ w' s p n (i + 1) m xs
-      marking-on w' e k = subst (λ (v : List ℕ). Marking w₀ v s p n (i + 1) m xs) (sym e)
+      pub marking-on : {w' : List ℕ} → w' ≡ appended w s p i j → n ≤ s → Marking w₀ w' s p n (i + 1) m xs
+      marking-on e k = subst (λ (v : List ℕ). Marking w₀ v s p n (i + 1) m xs) (sym e)
           (let f = grown w s p i j m (u .done) (u .x) (u .seen) (u .out) (u .is-tri) in
           record {
             done = u .done ++ u .x ∷ [];

@@ -26,8 +26,8 @@ pub record Evens (w₀ w : List ℕ) (s p k i : ℕ) (m : Mesh) (region : List L
   pub sweep : Sweeping w₀ w s p k i m region pieces
   pub even : (x : List Live) → In x pieces → length x % 2 ≡ 0
 
-pub evens-start : (w : List ℕ) (s p n : ℕ) (m : Mesh) (region : List Live) → Marked w s p n m region → Evens w w s p n 0 m region
-evens-start w s p n m region h =
+pub evens-start : {w : List ℕ} {s p n : ℕ} {m : Mesh} {region : List Live} → Marked w s p n m region → Evens w w s p n 0 m region
+evens-start {w} {s} {p} {region = region} h =
     record {
       pieces = [];
       sweep = record { state = rw (append-nil region) h; aside = aside-refl w s p; pieces = λ k i. absurd i; past = λ y i t l. absurd (omega arith) };
@@ -39,8 +39,8 @@ stored-left w b [] k h = tt
 stored-left w b (x ∷ l) k h = (h .0, stored-left w (b + 1) l k (h .1))
 
 -- the region is still listed
-pub kept-listed : (w₀ w : List ℕ) (s p n k : ℕ) (m : Mesh) (region xs rest : List Live) → Listed w₀ s p n m region → Marked w s p k m xs → xs ≡ region ++ rest → Listed w s p n m region
-kept-listed w₀ w s p n k m region xs rest h g e =
+pub kept-listed : {w₀ w : List ℕ} {s p n k : ℕ} {m : Mesh} {region xs : List Live} (rest : List Live) → Listed w₀ s p n m region → Marked w s p k m xs → xs ≡ region ++ rest → Listed w s p n m region
+kept-listed {w = w} {s} {p} {region = region} rest h g e =
     record {
       rep = g .rep;
       len = h .len;
@@ -51,65 +51,61 @@ kept-listed w₀ w s p n k m region xs rest h g e =
       stored = stored-left w (list-at s p) region rest (subst (λ (l : List Live). Stored w (list-at s p) (slots l)) e (g .stored));
     }
 
-pub still-listed : (w₀ w w' : List ℕ) (s p n k i : ℕ) (m : Mesh) (region : List Live) (ks : List (List Live)) → Listed w₀ s p n m region → Sweeping w w' s p k i m region ks
-    → Listed w' s p n m region
-still-listed w₀ w w' s p n k i m region ks h g = kept-listed w₀ w' s p n k m region (region ++ joined ks) (joined ks) h (g .state) refl
-
 pub one-odd : (n : ℕ) → n % 2 ≢ 0 → n % 2 ≡ 1
 one-odd n h = let f : n % 2 ≢ 0 = h in omega arith
 
-module _ (w₀ w : List ℕ) (s p k i : ℕ) (m : Mesh) (region : List Live) (g : Evens w₀ w s p k i m region) where
+module _ {w₀ w : List ℕ} {s p k i : ℕ} {m : Mesh} {region : List Live} (g : Evens w₀ w s p k i m region) where
   pub evens-few : k ≤ s
   evens-few = omega (arith, few (g .sweep .state), g .sweep .state .rep .used)
 
-  pub taken-least : (w' : List ℕ) (r : ℕ) → Taken w w' s p k r i m (region ++ joined (g .pieces)) → (k ≤ r) × (r ≤ s)
-  taken-least w' r (nothing e h a f) = (omega (arith, e), omega (arith, e, evens-few))
-  taken-least w' r (component x e f) =
-      (omega (arith, sweep-length w₀ w s p k i m region (g .pieces) (g .sweep) w' r x e f), omega (arith, few (f .state), f .state .rep .used))
+  pub taken-least : {w' : List ℕ} {r : ℕ} → Taken w w' s p k r i m (region ++ joined (g .pieces)) → (k ≤ r) × (r ≤ s)
+  taken-least (nothing e h a f) = (omega (arith, e), omega (arith, e, evens-few))
+  taken-least (component x e f) =
+      (omega (arith, sweep-length (g .sweep) e f), omega (arith, few (f .state), f .state .rep .used))
 
-  pub evens-on : (w' : List ℕ) (r : ℕ) → Taken w w' s p k r i m (region ++ joined (g .pieces)) → (r - k) % 2 ≡ 0 → Evens w₀ w' s p r (i + 1) m region
-  evens-on w' r (nothing e h a f) q =
-      record { pieces = g .pieces; sweep = subst (λ (v : ℕ). Sweeping w₀ w' s p v (i + 1) m region (g .pieces)) (sym e) (sweep-on w₀ w s p k i m region (g .pieces) (g .sweep) w' h a f); even = g .even }
-  evens-on w' r (component x e f) q =
-      let n : r - k ≡ length (f .new) = omega (arith, sweep-length w₀ w s p k i m region (g .pieces) (g .sweep) w' r x e f) in
+  pub evens-on : {w' : List ℕ} {r : ℕ} → Taken w w' s p k r i m (region ++ joined (g .pieces)) → (r - k) % 2 ≡ 0 → Evens w₀ w' s p r (i + 1) m region
+  evens-on {w'} (nothing e h a f) q =
+      record { pieces = g .pieces; sweep = subst (λ (v : ℕ). Sweeping w₀ w' s p v (i + 1) m region (g .pieces)) (sym e) (sweep-on (g .sweep) h a f); even = g .even }
+  evens-on {r = r} (component x e f) q =
+      let n : r - k ≡ length (f .new) = omega (arith, sweep-length (g .sweep) e f) in
       record {
         pieces = f .new ∷ g .pieces;
-        sweep = sweep-new w₀ w s p k i m region (g .pieces) (g .sweep) w' r x e f;
+        sweep = sweep-new (g .sweep) e f;
         even = λ y j. elim j [ inl z ↦ ap (λ (v : List Live). length v % 2) z ∙ ap (λ (v : ℕ). v % 2) (sym n) ∙ q | inr z ↦ g .even y z ];
       }
 
   -- an odd component
-  pub odd-found : (w' : List ℕ) (r : ℕ) → Taken w w' s p k r i m (region ++ joined (g .pieces)) → (r - k) % 2 ≢ 0 → (w1 : List ℕ) (n : ℕ) → Listed w1 s p n m region → Aside w1 w₀ s p
+  pub odd-found : {w' : List ℕ} {r : ℕ} → Taken w w' s p k r i m (region ++ joined (g .pieces)) → (r - k) % 2 ≢ 0 → {w1 : List ℕ} {n : ℕ} → Listed w1 s p n m region → Aside w1 w₀ s p
       → OddTo w1 w' s p n m region true
   unfolding removing-leaves-odd-component
-  odd-found w' r (nothing e h a f) q w1 n l b = absurd (q (let z : r - k ≡ 0 = omega (arith, e) in rw z refl))
-  odd-found w' r (component x e f) q w1 n l b =
-      let c = sweep-new w₀ w s p k i m region (g .pieces) (g .sweep) w' r x e f in
-      let z : r - k ≡ length (map body (f .new)) = omega (arith, sweep-length w₀ w s p k i m region (g .pieces) (g .sweep) w' r x e f, length-map (f .new) body) in
+  odd-found {r = r} (nothing e h a f) q l b = absurd (q (let z : r - k ≡ 0 = omega (arith, e) in rw z refl))
+  odd-found {w'} {r} (component x e f) q {w1} {n} l b =
+      let c = sweep-new (g .sweep) e f in
+      let z : r - k ≡ length (map body (f .new)) = omega (arith, sweep-length (g .sweep) e f, length-map (f .new) body) in
       record {
-        same = sym (odd-yes (left-tris m region) (left-distinct w' s p r m region (f .new ∷ g .pieces) (c .state) (c .pieces)) (map body (f .new))
-            (piece-class w' s p r m region (f .new ∷ g .pieces) (c .state) (c .pieces) (f .new) (inl refl))
-            (piece-count w' s p r m region (f .new ∷ g .pieces) (c .state) (c .pieces) (f .new) (inl refl))
+        same = sym (odd-yes (left-tris m region) (left-distinct c) (map body (f .new))
+            (piece-class c (f .new) (inl refl))
+            (piece-count c (f .new) (inl refl))
             (ap (λ (v : ℕ). v % 2) (sym z) ∙ one-odd (r - k) q));
-        list = still-listed w1 w₀ w' s p n r (i + 1) m region (f .new ∷ g .pieces) l c;
+        list = kept-listed (joined (f .new ∷ g .pieces)) l (c .state) refl;
         aside = aside-trans w1 w₀ w' s p b (c .aside);
       }
 
   -- none is odd
-  pub none-odd : m .used ≤ i → (w1 : List ℕ) (n : ℕ) → Listed w1 s p n m region → Aside w1 w₀ s p → OddTo w1 w s p n m region false
+  pub none-odd : m .used ≤ i → {w1 : List ℕ} {n : ℕ} → Listed w1 s p n m region → Aside w1 w₀ s p → OddTo w1 w s p n m region false
   unfolding removing-leaves-odd-component
-  none-odd u w1 n l a =
+  none-odd u {w1} {n} l a =
       record {
-        same = sym (odd-no (left-tris m region) (left-distinct w s p k m region (g .pieces) (g .sweep .state) (g .sweep .pieces)) (map (map body) (g .pieces))
-            (swept w₀ w s p k i m region (g .pieces) (g .sweep) u)
+        same = sym (odd-no (left-tris m region) (left-distinct (g .sweep)) (map (map body) (g .pieces))
+            (swept (g .sweep) u)
             (λ x j. let r = in-map (map body) x (g .pieces) j in ap (λ (v : List Tri). length v % 2) (r .2) ∙ ap (λ (v : ℕ). v % 2) (length-map (r .0) body) ∙ g .even (r .0) (r .1)));
-        list = still-listed w1 w₀ w s p n k i m region (g .pieces) l (g .sweep);
+        list = kept-listed (joined (g .pieces)) l (g .sweep .state) refl;
         aside = aside-trans w1 w₀ w s p a (g .sweep .aside);
       }
 
 -- ---- where it is noted that none is odd
 
 -- a listed cell has a slot
-pub listed-slot : (w : List ℕ) (s p n : ℕ) (m : Mesh) (xs : List Live) → Listed w s p n m xs → 1 ≤ s
-listed-slot w s p n m [] h = absurd (omega (arith, h .many, h .len))
-listed-slot w s p n m (x ∷ xs) h = omega (arith, rep-held w s p m (h .rep) (h .live x here) .inside, h .rep .used)
+pub listed-slot : {w : List ℕ} {s p n : ℕ} {m : Mesh} {xs : List Live} → Listed w s p n m xs → 1 ≤ s
+listed-slot {xs = []} h = absurd (omega (arith, h .many, h .len))
+listed-slot {w} {s} {p} {m = m} {xs = x ∷ xs} h = omega (arith, rep-held w s p m (h .rep) (h .live x here) .inside, h .rep .used)

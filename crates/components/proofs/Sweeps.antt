@@ -57,11 +57,11 @@ joined-in (l ∷ ks) k y (inr i) j = in-left y (joined ks) l (joined-in ks k y i
 
 -- ---- one slot more
 
-module _ (w₀ w : List ℕ) (s p n i : ℕ) (m : Mesh) (region : List Live) (ks : List (List Live)) (g : Sweeping w₀ w s p n i m region ks) where
+module _ {w₀ w : List ℕ} {s p n i : ℕ} {m : Mesh} {region : List Live} {ks : List (List Live)} (g : Sweeping w₀ w s p n i m region ks) where
   -- nothing in slot i
-  pub sweep-on : (w' : List ℕ) → Marked w' s p n m (region ++ joined ks) → Aside w w' s p
+  pub sweep-on : {w' : List ℕ} → Marked w' s p n m (region ++ joined ks) → Aside w w' s p
       → ((y : Live) → In y (m .live) → live-tri y ≡ true → y .slot ≡ i → In y (region ++ joined ks)) → Sweeping w₀ w' s p n (i + 1) m region ks
-  sweep-on w' h a f =
+  sweep-on {w'} h a f =
       record {
         state = h;
         aside = aside-trans w₀ w w' s p (g .aside) a;
@@ -69,7 +69,7 @@ module _ (w₀ w : List ℕ) (s p n i : ℕ) (m : Mesh) (region : List Live) (ks
         past = λ y l t b. elim (ℕ-discrete (y .slot) i) [ yes e ↦ f y l t e | no e ↦ g .past y l t (omega arith) ];
       }
 
-  module _ (w' : List ℕ) (r : ℕ) (x : Live) (f : Flooded w w' s p r m (region ++ joined ks) x) where
+  module _ {w' : List ℕ} {r : ℕ} {x : Live} (f : Flooded w w' s p r m (region ++ joined ks) x) where
     sweep-parts : (region ++ joined ks) ++ f .new ≡ region ++ (joined ks ++ f .new)
     sweep-parts = append-assoc region (joined ks) (f .new)
 
@@ -101,16 +101,16 @@ module _ (w₀ w : List ℕ) (s p n i : ℕ) (m : Mesh) (region : List Live) (ks
           ];
         }
 
-  module _ (w' : List ℕ) (r : ℕ) (x : Live) (e : x .slot ≡ i) (f : Flooded w w' s p r m (region ++ joined ks) x) where
+  module _ {w' : List ℕ} {r : ℕ} {x : Live} (e : x .slot ≡ i) (f : Flooded w w' s p r m (region ++ joined ks) x) where
     pub sweep-new : Sweeping w₀ w' s p r (i + 1) m region (f .new ∷ ks)
     sweep-new =
         record {
-          state = subst (λ (l : List Live). Marked w' s p r m l) (sweep-parts w' r x f) (f .state);
+          state = subst (λ (l : List Live). Marked w' s p r m l) (sweep-parts f) (f .state);
           aside = aside-trans w₀ w w' s p (g .aside) (f .aside);
-          pieces = λ k a. elim a [ inl q ↦ subst (λ (v : List Live). Piece m region v) (sym q) (new-piece w' r x f) | inr b ↦ g .pieces k b ];
-          past = λ y l t b. subst (λ (v : List Live). In y v) (sweep-parts w' r x f) (elim (ℕ-discrete (y .slot) i) [
+          pieces = λ k a. elim a [ inl q ↦ subst (λ (v : List Live). Piece m region v) (sym q) (new-piece f) | inr b ↦ g .pieces k b ];
+          past = λ y l t b. subst (λ (v : List Live). In y v) (sweep-parts f) (elim (ℕ-discrete (y .slot) i) [
             | yes q ↦
-                let z : x ≡ y = same-slot (m .live) x y (g .state .rep .distinct) (new-live-in w' r x f x (f .first) .0) l (e ∙ sym q) in
+                let z : x ≡ y = same-slot (m .live) x y (g .state .rep .distinct) (new-live-in f x (f .first) .0) l (e ∙ sym q) in
                 in-right y (region ++ joined ks) (f .new) (subst (λ (v : Live). In v (f .new)) z (f .first))
             | no q ↦ in-left y (region ++ joined ks) (f .new) (g .past y l t (omega arith))
           ]);
@@ -232,36 +232,35 @@ pub tri-over : (m : Mesh) (xs : List Live) (t : Tri) → In t (left-tris m xs) �
 unfolding left-over
 tri-over m xs t i = in-map body t (left-over m xs) (rw (tris-body (without-all xs (m .live))) at i)
 
-module _ (w : List ℕ) (s p n : ℕ) (m : Mesh) (region : List Live) (ks : List (List Live)) (state : Marked w s p n m (region ++ joined ks))
-    (pieces : (k : List Live) → In k ks → Piece m region k) where
+module _ {w₀ w : List ℕ} {s p n stop : ℕ} {m : Mesh} {region : List Live} {ks : List (List Live)} (g : Sweeping w₀ w s p n stop m region ks) where
   region-live : (y : Live) → In y region → In y (m .live)
-  region-live y i = state .live y (in-left y region (joined ks) i)
+  region-live y i = g .state .live y (in-left y region (joined ks) i)
 
   in-over : (y : Live) → In y (m .live) → live-tri y ≡ true → (In y region → ⊥) → In y (left-over m region)
-  in-over = in-left-over m (state .rep .distinct) region region-live
+  in-over = in-left-over m (g .state .rep .distinct) region region-live
 
   over-in : (y : Live) → In y (left-over m region) → In y (m .live) × (live-tri y ≡ true) × (In y region → ⊥)
-  over-in = left-over-in m (state .rep .distinct) region region-live
+  over-in = left-over-in m (g .state .rep .distinct) region region-live
 
   piece-over : (k : List Live) (y : Live) → In k ks → In y k → In y (left-over m region)
   piece-over k y i j =
       let a = joined-in ks k y i j in
       let b = in-right y region (joined ks) a in
-      in-over y (state .live y b) (tris-at (region ++ joined ks) (state .tris) y b) (λ r. parts-apart region (joined ks) y (state .distinct) r a)
+      in-over y (g .state .live y b) (tris-at (region ++ joined ks) (g .state .tris) y b) (λ r. parts-apart region (joined ks) y (g .state .distinct) r a)
 
   pub left-distinct : All-distinct (left-tris m region)
   left-distinct t i =
       let r = tri-over m region t i in
       let o = over-in (r .0) (r .1) in
-      rw (r .2) (body-three w s p m (state .rep) (r .0) (o .0) (o .1))
+      rw (r .2) (body-three w s p m (g .state .rep) (r .0) (o .0) (o .1))
 
   module _ (k : List Live) (i : In k ks) where
     members : (y : Live) → In y (left-over m region) → meets (body y) (map body k) ≡ true → In y k
     members y j e =
         let o = over-in y j in
-        let r = meets-says (body y) (map body k) (body-three w s p m (state .rep) y (o .0) (o .1)) e in
+        let r = meets-says (body y) (map body k) (body-three w s p m (g .state .rep) y (o .0) (o .1)) e in
         let v = in-map body (r .0) k (r .1) in
-        elim (pieces k i .closed (v .0) y (v .1) (o .0) (o .1) (turned (subst (λ (u : Tri). Shares (body y) u) (v .2) (r .2)))) [
+        elim (g .pieces k i .closed (v .0) y (v .1) (o .0) (o .1) (turned (subst (λ (u : Tri). Shares (body y) u) (v .2) (r .2)))) [
           | inl q ↦ absurd (o .2 q)
           | inr q ↦ q
         ]
@@ -269,12 +268,12 @@ module _ (w : List ℕ) (s p n : ℕ) (m : Mesh) (region : List Live) (ks : List
     members-meet : (y : Live) → In y k → meets (body y) (map body k) ≡ true
     members-meet y j =
         let o = over-in y (piece-over k y i j) in
-        shares-meets (body y) (map body k) (body y) (map-in body y k j) (shares-self (body y) (body-three w s p m (state .rep) y (o .0) (o .1)))
+        shares-meets (body y) (map body k) (body y) (map-in body y k j) (shares-self (body y) (body-three w s p m (g .state .rep) y (o .0) (o .1)))
 
     pass : (y z : Live) → In y (left-over m region) → In z (left-over m region) → Shares (body y) (body z) → meets (body y) (map body k) ≡ true → meets (body z) (map body k) ≡ true
     pass y z a b q e =
         let o = over-in z b in
-        elim (pieces k i .closed y z (members y a e) (o .0) (o .1) q) [
+        elim (g .pieces k i .closed y z (members y a e) (o .0) (o .1) q) [
           | inl v ↦ absurd (o .2 v)
           | inr v ↦ members-meet z v
         ]
@@ -282,20 +281,20 @@ module _ (w : List ℕ) (s p n : ℕ) (m : Mesh) (region : List Live) (ks : List
     pub piece-class : Class (left-tris m region) (map body k)
     piece-class =
         record {
-          some = body (pieces k i .first);
-          has = map-in body (pieces k i .first) k (pieces k i .has);
+          some = body (g .pieces k i .first);
+          has = map-in body (g .pieces k i .first) k (g .pieces k i .has);
           inside = λ t j. let r = in-map body t k j in rw (r .2) (over-tri m region (r .0) (piece-over k (r .0) i (r .1)));
           solid = λ c h a b x y.
               let u = in-map body a k x in
               let v = in-map body b k y in
               let whole : Whole c m region = λ y z l1 l2 t1 t2 o1 o2 q. h (body y) (body z) (over-tri m region y (in-over y l1 t1 o1)) (over-tri m region z (in-over z l2 t2 o2)) q in
-              ap c (u .2) ∙ pieces k i .linked c whole (u .0) (v .0) (u .1) (v .1) ∙ sym (ap c (v .2));
+              ap c (u .2) ∙ g .pieces k i .linked c whole (u .0) (v .0) (u .1) (v .1) ∙ sym (ap c (v .2));
           closed = λ a b x y q.
               let u = tri-over m region a x in
               let v = tri-over m region b y in
-              let g : Shares (body (u .0)) (body (v .0)) = subst (λ (z : Tri). Shares z (body (v .0))) (u .2) (subst (λ (z : Tri). Shares a z) (v .2) q) in
+              let q′ : Shares (body (u .0)) (body (v .0)) = subst (λ (z : Tri). Shares z (body (v .0))) (u .2) (subst (λ (z : Tri). Shares a z) (v .2) q) in
               ap (λ (z : Tri). meets z (map body k)) (u .2)
-              ∙ same-bool (meets (body (u .0)) (map body k)) (meets (body (v .0)) (map body k)) (pass (u .0) (v .0) (u .1) (v .1) g) (pass (v .0) (u .0) (v .1) (u .1) (turned g))
+              ∙ same-bool (meets (body (u .0)) (map body k)) (meets (body (v .0)) (map body k)) (pass (u .0) (v .0) (u .1) (v .1) q′) (pass (v .0) (u .0) (v .1) (u .1) (turned q′))
               ∙ sym (ap (λ (z : Tri). meets z (map body k)) (v .2));
         }
 
@@ -304,7 +303,7 @@ module _ (w : List ℕ) (s p n : ℕ) (m : Mesh) (region : List Live) (ks : List
     piece-count =
         ap (number (λ t. meets t (map body k))) (tris-body (without-all region (m .live)))
         ∙ number-map body (λ t. meets t (map body k)) (left-over m region)
-        ∙ same-number (λ y. meets (body y) (map body k)) (λ y. true) (left-over m region) k (over-distinct m region (state .rep .distinct)) (distinct-piece ks k (distinct-right region (joined ks) (state .distinct)) i)
+        ∙ same-number (λ y. meets (body y) (map body k)) (λ y. true) (left-over m region) k (over-distinct m region (g .state .rep .distinct)) (distinct-piece ks k (distinct-right region (joined ks) (g .state .distinct)) i)
         (λ y j e. (members y j e, refl)) (λ y j e. (piece-over k y i j, members-meet y j))
         ∙ ap length (filter-all (λ y. true) k (λ y j. refl)) ∙ sym (length-map k body)
 
@@ -330,19 +329,19 @@ pieces-apart m region (k ∷ ks) d h f = (
 )
 
 -- when every slot was passed, they are the components of what is left
-pub swept : (w₀ w : List ℕ) (s p n i : ℕ) (m : Mesh) (region : List Live) (ks : List (List Live)) → Sweeping w₀ w s p n i m region ks → m .used ≤ i
+pub swept : {w₀ w : List ℕ} {s p n i : ℕ} {m : Mesh} {region : List Live} {ks : List (List Live)} → Sweeping w₀ w s p n i m region ks → m .used ≤ i
     → Parted (left-tris m region) (map (map body) ks)
 unfolding left-over
-swept w₀ w s p n i m region ks g l =
+swept {w₀} {w} {s} {p} {n} {i} {m} {region} {ks} g l =
     record {
       same = λ c.
           number-joined c ks
           ∙ same-number (λ y. c (body y)) (λ y. c (body y)) (joined ks) (left-over m region) (distinct-right region (joined ks) (g .state .distinct)) (over-distinct m region (g .state .rep .distinct))
-          (λ y j e. (let r = in-joined ks y j in piece-over w s p n m region ks (g .state) (g .pieces) (r .0) y (r .1) (r .2), e))
-          (λ y j e. (back y (over-in w s p n m region ks (g .state) (g .pieces) y j), e))
+          (λ y j e. (let r = in-joined ks y j in piece-over g (r .0) y (r .1) (r .2), e))
+          (λ y j e. (back y (over-in g y j), e))
           ∙ sym (number-map body c (left-over m region)) ∙ sym (ap (number c) (tris-body (without-all region (m .live))));
       apart = pieces-apart m region ks (g .state .distinct) (λ y j. (g .state .live y (in-right y region (joined ks) j), tris-at (region ++ joined ks) (g .state .tris) y (in-right y region (joined ks) j))) (g .pieces);
-      class = λ k j. let r = in-map (map body) k ks j in rw (r .2) (piece-class w s p n m region ks (g .state) (g .pieces) (r .0) (r .1));
+      class = λ k j. let r = in-map (map body) k ks j in rw (r .2) (piece-class g (r .0) (r .1));
     }
   where
     back : (y : Live) → In y (m .live) × (live-tri y ≡ true) × (In y region → ⊥) → In y (joined ks)

@@ -1,12 +1,12 @@
 use mathlib.Core.List.{List}
-use Prim.Native.Nat.{ℕ, _/_}
+use Prim.Native.Nat.{ℕ}
 use native.Mathlib.Omega.{arith}
 use borrow.Author.Needs.{needs}
 use Rattle.definition.specs.Cells.{Mesh, Live}
 use Rattle.cells.specs.Rep.{TriIn}
 use Rattle.cells.proofs.Slots.{rep-see}
 use Rattle.regions.proofs.Visits.{tri-inside}
-use Rattle.components.specs.Flood.{Marked, At, Beside}
+use Rattle.components.specs.Flood.{Marked}
 use Rattle.components.proofs.Members.{Nodes, tri-cell, tri-read}
 use Rattle.components.proofs.Seeks.{sought-looked}
 use Rattle.components.proofs.Looks.{looked-other, looked-both}
@@ -37,9 +37,7 @@ first-new-requires c κs =
 returns : tie.Need-returns
 returns c = λ k m xs h t.
     let d = c .before in
-    let f = d .before .before in
-    let a = start f .args in
-    looked-other (a .s) (d .first-new .result / 4) m xs (At (d .before .wide .result) (f .read-nodes .result .y) (f .read-nodes .result .z)) (Beside (t .t)) (sought-looked (d .first-new .ensures k m xs h)) (c .if1 .taken)
+    looked-other (sought-looked (d .first-new .ensures k m xs h)) (c .if1 .taken)
 
 first-new-requires-2 : tie.Need-first-new-requires-2
 first-new-requires-2 c κs =
@@ -54,9 +52,7 @@ returns-2 c = λ k m xs h t.
     let d = e .before in
     let u = d .before in
     let f = u .before in
-    let a = start f .args in
-    looked-both (a .s) (a .p) (d .first-new .result / 4) (c .first-new2 .result / 4) m xs (t .t) (f .read-nodes .result .x) (f .read-nodes .result .y) (f .read-nodes .result .z) (u .wide .result)
-    (v .wide2 .result) (nodes f k m xs h t) (u .wide .ensures) (v .wide2 .ensures) (sought-looked (d .first-new .ensures k m xs h)) (e .if1 .left) (sought-looked (c .first-new2 .ensures k m xs h))
+    looked-both (nodes f k m xs h t) (u .wide .ensures) (v .wide2 .ensures) (sought-looked (d .first-new .ensures k m xs h)) (e .if1 .left) (sought-looked (c .first-new2 .ensures k m xs h))
 
 pub look-tri-spec : {M : Type 1} → statement M
 look-tri-spec = tie.close (tie.spec read-nodes-requires (λ c κs. search needs) first-new-requires returns (λ c κs. search needs) first-new-requires-2 returns-2)

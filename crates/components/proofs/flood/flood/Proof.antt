@@ -7,25 +7,19 @@ use Rattle.components.proofs.flood.flood.Statement.{statement}
 use Rattle.components.proofs.flood.flood.Tie as tie
 
 append-requires : tie.Need-append-requires
-append-requires c κs =
-    let t = c .before .before in
-    let a = t .args in
-    begin-can (a .w .now) (a .s) (a .p) (a .n) (a .i) (t .pre .0) (t .pre .1) (t .pre .2) (t .pre .3) (t .pre .4)
+append-requires c κs = let q = c .before .before .pre in begin-can (q .2) (q .3) (q .4)
 
 add-spread : tie.Need-add-spread
 add-spread c =
-    let t = c .before .before .before .before .before .before in
-    let a = t .args in
-    omega (arith, begin-more (a .w .now) (a .s) (a .p) (a .n) (a .i) (t .pre .0) (t .pre .1) (t .pre .2) (t .pre .3) (t .pre .4), t .pre .2 .rep .room .small)
+    let q = c .before .before .before .before .before .before .pre in
+    omega (arith, begin-more (q .2) (q .3) (q .4), q .2 .rep .room .small)
 
 spread-requires : tie.Need-spread-requires
 spread-requires c κs =
     let d = c .before .before .before in
     let t = d .before .before .before in
-    let a = t .args in (
-      (t .pre .0, t .pre .1, tri-live (a .i) (t .pre .3 .t), begun-flood (a .w .now) (a .s) (a .p) (a .n) (a .i) (t .pre .0) (t .pre .1) (t .pre .2) (t .pre .3) (t .pre .4) (d .append .last .0) (d .append .ensures)),
-      (omega arith, begin-more (a .w .now) (a .s) (a .p) (a .n) (a .i) (t .pre .0) (t .pre .1) (t .pre .2) (t .pre .3) (t .pre .4)),
-    )
+    let q = t .pre in
+    ((q .0, q .1, tri-live (t .args .i) (q .3 .t), begun-flood (q .2) (q .3) (q .4) (d .append .ensures)), (omega arith, begin-more (q .2) (q .3) (q .4)))
 
 same-length : tie.Need-same-length
 same-length c = let o = c .before .before in o .spread .kept .0 ∙ o .before .before .before .before .append .kept .0
@@ -35,14 +29,9 @@ returns c = λ m xs h ti out.
     let o = c .before .before in
     let d = o .before .before .before .before in
     let a = d .before .before .before .args in
-    let w1 = d .append .last .0 in
-    let w2 = o .spread .last .0 in
-    let r = o .spread .result in
-    let x = tri-live (a .i) (ti .t) in
-    let g = o .spread .ensures .0 m xs x (begun-flood (a .w .now) (a .s) (a .p) (a .n) (a .i) m xs h ti out w1 (d .append .ensures)) in
-    let few = flood-few w1 w2 (a .s) (a .p) (r .count) (r .head) m xs x g in
-    flooded-from (a .w .now) (a .s) (a .p) (a .n) (a .i) m xs h ti out w1 (d .append .ensures) w2 (r .count)
-    (flood-end w1 w2 (a .s) (a .p) (r .count) (r .head) m xs x g (elim (decLe (a .s) (r .head)) [ yes l ↦ omega (arith, l, few) | no l ↦ o .spread .ensures .1 .1 (omega (arith, l)) ]))
+    let g = o .spread .ensures .0 m xs (tri-live (a .i) (ti .t)) (begun-flood h ti out (d .append .ensures)) in
+    flooded-from h ti out (d .append .ensures)
+    (flood-end g (elim (decLe (a .s) (o .spread .result .head)) [ yes l ↦ omega (arith, l, flood-few g) | no l ↦ o .spread .ensures .1 .1 (omega (arith, l)) ]))
 
 pub flood-spec : {M : Type 1} → statement M
 flood-spec = tie.close (tie.spec append-requires add-spread spread-requires same-length returns)

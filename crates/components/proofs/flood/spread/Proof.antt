@@ -22,16 +22,8 @@ abbrev μ-loop : tie.MeasureT-loop
 
 loop-holds : tie.Need-loop-holds Inv-loop μ-loop
 loop-holds c =
-    let t = c .before in
-    let a = t .args in
-    let g = t .pre .0 .3 in (
-      refl,
-      omega arith,
-      omega arith,
-      flood-few (a .w .now) (a .w .now) (a .s) (a .p) (a .k) (a .from) (t .pre .0 .0) (t .pre .0 .1) (t .pre .0 .2) g,
-      omega (arith, g .state .rep .room .small),
-      λ m xs x h. h,
-    )
+    let g = c .before .pre .0 .3 in
+    (refl, omega arith, omega arith, flood-few g, omega (arith, g .state .rep .room .small), λ m xs x h. h)
 
 returns : tie.Need-returns Inv-loop μ-loop
 returns c =
@@ -39,29 +31,21 @@ returns c =
     let t = l .before .before in
     (λ m xs x h. l .loop .inv .5 m xs x h, (omega (arith, c .if1 .taken, l .loop .inv .2, t .pre .1 .0), λ q. c .if1 .taken))
 
+-- the flood so far from the triangle that is known to be there
+so-far : (l : tie.At-loop Inv-loop μ-loop) → let t = l .before .before in let q = t .pre .0 in Flooding (t .args .w .now) (l .loop .w) (t .args .s) (t .args .p) (l .loop .count) (l .loop .head) (q .0) (q .1) (q .2)
+so-far l = let q = l .before .before .pre .0 in l .loop .inv .5 (q .0) (q .1) (q .2) (q .3)
+
 listed-requires : tie.Need-listed-requires Inv-loop μ-loop
-listed-requires c κs =
-    let e = c .before in
-    let l = e .before .before in
-    let t = l .before .before in
-    let a = t .args in
-    let m = t .pre .0 .0 in
-    let xs = t .pre .0 .1 in
-    let x = t .pre .0 .2 in
-    flood-can (a .w .now) (l .loop .w) (a .s) (a .p) (l .loop .count) (l .loop .head) m xs x (l .loop .inv .5 m xs x (t .pre .0 .3)) (e .if1 .left)
+listed-requires c κs = let e = c .before in flood-can (so-far (e .before .before)) (e .if1 .left)
 
 meet-tri-requires : tie.Need-meet-tri-requires Inv-loop μ-loop
 meet-tri-requires c κs =
     let d = c .before in
     let e = d .before .before in
     let l = e .before .before in
-    let t = l .before .before in
-    let a = t .args in
-    let m = t .pre .0 .0 in
-    let xs = t .pre .0 .1 in
-    let x = t .pre .0 .2 in
-    let b = popped (a .w .now) (l .loop .w) (a .s) (a .p) (l .loop .count) (l .loop .head) m xs x (l .loop .inv .5 m xs x (t .pre .0 .3)) (e .if1 .left) (d .listed .result) (d .listed .ensures) in
-    (m, xs ++ (b .done ++ b .y ∷ b .todo), b .state, popped-tri (a .w .now) (l .loop .w) (a .s) (a .p) (l .loop .count) (l .loop .head) m xs x (d .listed .result) b)
+    let q = l .before .before .pre .0 in
+    let b = popped (so-far l) (e .if1 .left) (d .listed .ensures) in
+    (q .0, q .1 ++ (b .done ++ b .y ∷ b .todo), b .state, popped-tri b)
 
 loop-again : tie.Need-loop-again Inv-loop μ-loop
 loop-again c =
@@ -69,23 +53,17 @@ loop-again c =
     let d = o .before .before in
     let e = d .before .before in
     let l = e .before .before in
-    let t = l .before .before in
-    let a = t .args in
-    let m = t .pre .0 .0 in
-    let xs = t .pre .0 .1 in
-    let x = t .pre .0 .2 in
-    let b = popped (a .w .now) (l .loop .w) (a .s) (a .p) (l .loop .count) (l .loop .head) m xs x (l .loop .inv .5 m xs x (t .pre .0 .3)) (e .if1 .left) (d .listed .result) (d .listed .ensures) in
-    let u = popped-tri (a .w .now) (l .loop .w) (a .s) (a .p) (l .loop .count) (l .loop .head) m xs x (d .listed .result) b in
-    let f = o .meet-tri .ensures m (xs ++ (b .done ++ b .y ∷ b .todo)) (b .state) u in (
+    let q = l .before .before .pre .0 in
+    let b = popped (so-far l) (e .if1 .left) (d .listed .ensures) in
+    let f = o .meet-tri .ensures (q .0) (q .1 ++ (b .done ++ b .y ∷ b .todo)) (b .state) (popped-tri b) in (
       o .meet-tri .kept .0 ∙ l .loop .inv .0,
       omega (arith, l .loop .inv .1),
-      omega (arith, l .loop .inv .2, met-more (l .loop .w) (o .meet-tri .last .0) (a .s) (a .p) (l .loop .count) (o .meet-tri .result) m (xs ++ (b .done ++ b .y ∷ b .todo)) (Beside (u .t)) (b .state) f),
-      flood-few (a .w .now) (o .meet-tri .last .0) (a .s) (a .p) (o .meet-tri .result) (l .loop .head + 1) m xs x (flood-on (a .w .now) (l .loop .w) (a .s) (a .p) (l .loop .count) (l .loop .head) m xs x (d .listed .result) b (o .meet-tri .last .0) (o .meet-tri .result) f),
+      omega (arith, l .loop .inv .2, met-more (b .state) f),
+      flood-few (flood-on b f),
       l .loop .inv .4,
       λ m xs x h.
-          let b = popped (a .w .now) (l .loop .w) (a .s) (a .p) (l .loop .count) (l .loop .head) m xs x (l .loop .inv .5 m xs x h) (e .if1 .left) (d .listed .result) (d .listed .ensures) in
-          let f = o .meet-tri .ensures m (xs ++ (b .done ++ b .y ∷ b .todo)) (b .state) (popped-tri (a .w .now) (l .loop .w) (a .s) (a .p) (l .loop .count) (l .loop .head) m xs x (d .listed .result) b) in
-          flood-on (a .w .now) (l .loop .w) (a .s) (a .p) (l .loop .count) (l .loop .head) m xs x (d .listed .result) b (o .meet-tri .last .0) (o .meet-tri .result) f,
+          let b = popped (l .loop .inv .5 m xs x h) (e .if1 .left) (d .listed .ensures) in
+          flood-on b (o .meet-tri .ensures m (xs ++ (b .done ++ b .y ∷ b .todo)) (b .state) (popped-tri b)),
     )
 
 returns-2 : tie.Need-returns-2 Inv-loop μ-loop

@@ -17,25 +17,14 @@ abbrev μ-loop : tie.MeasureT-loop
 μ-loop w s p n i₀ i = n - i
 
 listed-requires : tie.Need-listed-requires Inv-loop μ-loop
-listed-requires c κs =
-    let l = c .before in
-    let t = l .before .before in
-    let a = t .args in
-    around-can (a .w .now) (a .s) (a .p) (t .pre .0) (a .n) (l .loop .i) (t .pre .1) (t .pre .2) (t .pre .3) (t .pre .4) (c .loop-test .taken)
+listed-requires c κs = let l = c .before in around-can (l .loop .i) (l .before .before .pre .4) (c .loop-test .taken)
 
 look-tri-requires : tie.Need-look-tri-requires Inv-loop μ-loop
 look-tri-requires c κs =
     let i = c .before in
     let l = i .before in
-    let t = l .before .before in
-    let a = t .args in
-    let k = t .pre .0 in
-    let m = t .pre .1 in
-    let region = t .pre .2 in
-    let xs = t .pre .3 in
-    let h = t .pre .4 in
-    let b = facing (a .w .now) (a .s) (a .p) k (a .n) (l .loop .i) m region xs h (l .loop .inv k m region xs h) (i .loop-test .taken) (c .listed .result) (c .listed .ensures) in
-    (k, m, xs, h .state, facing-tri (l .loop .i) (c .listed .result) m region xs b)
+    let q = l .before .before .pre in
+    (q .0, q .1, q .3, q .4 .state, facing-tri (facing (l .loop .i) (q .4) (l .loop .inv (q .0) (q .1) (q .2) (q .3) (q .4)) (i .loop-test .taken) (c .listed .ensures)))
 
 returns : tie.Need-returns Inv-loop μ-loop
 returns c = λ k m region xs h.
@@ -43,10 +32,8 @@ returns c = λ k m region xs h.
     let d = o .before in
     let i = d .before in
     let l = i .before in
-    let a = l .before .before .args in
-    let b = facing (a .w .now) (a .s) (a .p) k (a .n) (l .loop .i) m region xs h (l .loop .inv k m region xs h) (i .loop-test .taken) (d .listed .result) (d .listed .ensures) in
-    let f = facing-tri (l .loop .i) (d .listed .result) m region xs b in
-    looked-other (a .s) (o .look-tri .result) m xs (Beside (f .t)) (BesideOne region) (o .look-tri .ensures k m xs (h .state) f) (c .if1 .taken)
+    let b = facing (l .loop .i) h (l .loop .inv k m region xs h) (i .loop-test .taken) (d .listed .ensures) in
+    looked-other (o .look-tri .ensures k m xs (h .state) (facing-tri b)) (c .if1 .taken)
 
 loop-again : tie.Need-loop-again Inv-loop μ-loop
 loop-again c = λ k m region xs h.
@@ -54,16 +41,11 @@ loop-again c = λ k m region xs h.
     let d = o .before in
     let i = d .before in
     let l = i .before in
-    let a = l .before .before .args in
-    let b = facing (a .w .now) (a .s) (a .p) k (a .n) (l .loop .i) m region xs h (l .loop .inv k m region xs h) (i .loop-test .taken) (d .listed .result) (d .listed .ensures) in
-    let f = facing-tri (l .loop .i) (d .listed .result) m region xs b in
-    looking-on (l .loop .i) (d .listed .result) m region xs b (a .s) (o .look-tri .result) (o .look-tri .ensures k m xs (h .state) f) (c .if1 .left)
+    let b = facing (l .loop .i) h (l .loop .inv k m region xs h) (i .loop-test .taken) (d .listed .ensures) in
+    looking-on b (o .look-tri .ensures k m xs (h .state) (facing-tri b)) (c .if1 .left)
 
 returns-2 : tie.Need-returns-2 Inv-loop μ-loop
-returns-2 c = λ k m region xs h.
-    let l = c .before in
-    let a = l .before .before .args in
-    looking-end (a .w .now) (a .s) (a .p) k (a .n) (l .loop .i) m region xs h (l .loop .inv k m region xs h) (c .loop-test .left) (a .s) (omega arith)
+returns-2 c = λ k m region xs h. let l = c .before in looking-end (l .loop .i) h (l .loop .inv k m region xs h) (c .loop-test .left) (omega arith)
 
 pub beside-spec : {M : Type 1} → statement M
 beside-spec =

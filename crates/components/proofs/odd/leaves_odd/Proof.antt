@@ -20,10 +20,8 @@ returns c =
 
 is-even-requires : tie.Need-is-even-requires
 is-even-requires c κs =
-    let t = c .before .before .before in
-    let a = t .args in
-    let h = t .pre .2 in
-    (h .rep .room, listed-slot (a .w .now) (a .s) (a .p) (a .n) (t .pre .0) (t .pre .1) h)
+    let h = c .before .before .before .pre .2 in
+    (h .rep .room, listed-slot h)
 
 -- it is noted that none is odd
 leaves-odd-near-requires : tie.Need-leaves-odd-near-requires
@@ -33,7 +31,7 @@ leaves-odd-near-requires c κs =
     let t = b .before .before in
     let a = t .args in
     let h = t .pre .2 in
-    let one = listed-slot (a .w .now) (a .s) (a .p) (a .n) (t .pre .0) (t .pre .1) h in
+    let one = listed-slot h in
     let none = even-noted (a .w .now) (a .s) (a .p) (t .pre .0) (e .result) one (e .ensures) (c .before .if2 .taken) (h .rep) in
     ((t .pre .0, t .pre .1, h, none, t .pre .3), even-listed (a .w .now) (a .s) (a .p) (a .n) (t .pre .0) (t .pre .1) h (a .live) (t .pre .4) (b .if1 .left) none)
 
@@ -44,7 +42,7 @@ returns-2 c =
     let b = n .before .before .before .before .before in
     let a = b .before .before .args in
     λ m xs h u l.
-    n .leaves-odd-near .ensures m xs h (even-noted (a .w .now) (a .s) (a .p) m (e .result) (listed-slot (a .w .now) (a .s) (a .p) (a .n) m xs h) (e .ensures) (n .before .before .if2 .taken) (h .rep)) u
+    n .leaves-odd-near .ensures m xs h (even-noted (a .w .now) (a .s) (a .p) m (e .result) (listed-slot h) (e .ensures) (n .before .before .if2 .taken) (h .rep)) u
 
 pub leaves-odd-spec : {M : Type 1} → statement M
 leaves-odd-spec =

@@ -24,103 +24,69 @@ mark-listed-requires c κs =
     let t = c .before .before in
     (t .pre .0, t .pre .1, t .pre .2, t .pre .3)
 
+abbrev start : tie.After-mark-listed Inv-loop μ-loop → tie.Start Inv-loop μ-loop
+start d = d .before .before .before
+
+abbrev marked : tie.At-loop Inv-loop μ-loop → tie.After-mark-listed Inv-loop μ-loop
+marked l = l .before .before .before
+
+-- the components taken of the mesh that is known to be there
+known : (l : tie.At-loop Inv-loop μ-loop) → let t = start (marked l) in Evens (marked l .mark-listed .last .0) (l .loop .w) (t .args .s) (t .args .p) (l .loop .k) (l .loop .i) (t .pre .0) (t .pre .1)
+known l = let q = start (marked l) .pre in l .loop .inv .3 (q .0) (q .1) (marked l .mark-listed .ensures (q .0) (q .1) (q .2) (q .3) .state) (q .3)
+
 loop-holds : tie.Need-loop-holds Inv-loop μ-loop
 loop-holds c =
-    let d = c .before .before in
-    let t = d .before .before .before in
-    let a = t .args in (
-      refl,
-      omega (arith, t .pre .2 .rep .used, t .pre .3),
-      omega (arith, t .pre .2 .rep .room .small),
-      λ m xs h e. evens-start (d .mark-listed .last .0) (a .s) (a .p) (a .n) m xs h,
-    )
+    let q = start (c .before .before) .pre in
+    (refl, omega (arith, q .2 .rep .used, q .3), omega (arith, q .2 .rep .room .small), λ m xs h e. evens-start h)
 
 take-component-requires : tie.Need-take-component-requires Inv-loop μ-loop
 take-component-requires c κs =
     let i = c .before in
     let l = i .before in
-    let d = l .before .before .before in
-    let t = d .before .before .before in
-    let a = t .args in
-    let w1 = d .mark-listed .last .0 in
-    let m = t .pre .0 in
-    let xs = t .pre .1 in
-    let h = d .mark-listed .ensures m xs (t .pre .2) (t .pre .3) in
-    let g = l .loop .inv .3 m xs (h .state) (t .pre .3) in
-    ((m, xs ++ joined (g .pieces), g .sweep .state), omega (arith, i .loop-test .taken, l .loop .inv .1))
+    let q = start (marked l) .pre in
+    let g = known l in
+    ((q .0, q .1 ++ joined (g .pieces), g .sweep .state), omega (arith, i .loop-test .taken, l .loop .inv .1))
 
 sub-if1 : tie.Need-sub-if1 Inv-loop μ-loop
 sub-if1 c =
     let o = c .before .before in
-    let i = o .before .before in
-    let l = i .before in
-    let d = l .before .before .before in
-    let t = d .before .before .before in
-    let a = t .args in
-    let w1 = d .mark-listed .last .0 in
-    let m = t .pre .0 in
-    let xs = t .pre .1 in
-    let h = d .mark-listed .ensures m xs (t .pre .2) (t .pre .3) in
-    let g = l .loop .inv .3 m xs (h .state) (t .pre .3) in
-    taken-least w1 (l .loop .w) (a .s) (a .p) (l .loop .k) (l .loop .i) m xs g (o .take-component .last .0) (o .take-component .result) (o .take-component .ensures m (xs ++ joined (g .pieces)) (g .sweep .state)) .0
+    let l = o .before .before .before in
+    let q = start (marked l) .pre in
+    let g = known l in
+    taken-least g (o .take-component .ensures (q .0) (q .1 ++ joined (g .pieces)) (g .sweep .state)) .0
 
 same-length : tie.Need-same-length Inv-loop μ-loop
 same-length c =
     let o = c .before .before .before in
-    let i = o .before .before in
-    let l = i .before in
-    let d = l .before .before .before in
-    o .take-component .kept .0 ∙ l .loop .inv .0 ∙ d .mark-listed .kept .0
+    let l = o .before .before .before in
+    o .take-component .kept .0 ∙ l .loop .inv .0 ∙ marked l .mark-listed .kept .0
 
 returns : tie.Need-returns Inv-loop μ-loop
-returns c =
-    λ m xs hs e.
+returns c = λ m xs hs e.
     let o = c .before .before .before in
-    let i = o .before .before in
-    let l = i .before in
-    let d = l .before .before .before in
-    let t = d .before .before .before in
-    let a = t .args in
-    let w1 = d .mark-listed .last .0 in
-    let h = d .mark-listed .ensures m xs hs e in
+    let l = o .before .before .before in
+    let h = marked l .mark-listed .ensures m xs hs e in
     let g = l .loop .inv .3 m xs (h .state) e in
-    odd-found w1 (l .loop .w) (a .s) (a .p) (l .loop .k) (l .loop .i) m xs g (o .take-component .last .0) (o .take-component .result) (o .take-component .ensures m (xs ++ joined (g .pieces)) (g .sweep .state)) (c .if1 .taken) (a .w .now) (a .n) hs (h .aside)
+    odd-found g (o .take-component .ensures m (xs ++ joined (g .pieces)) (g .sweep .state)) (c .if1 .taken) hs (h .aside)
 
 loop-again : tie.Need-loop-again Inv-loop μ-loop
 loop-again c =
     let o = c .before .before .before in
-    let i = o .before .before in
-    let l = i .before in
-    let d = l .before .before .before in
-    let t = d .before .before .before in
-    let a = t .args in
-    let w1 = d .mark-listed .last .0 in (
+    let l = o .before .before .before in (
       o .take-component .kept .0 ∙ l .loop .inv .0,
       l .loop .inv .1,
       l .loop .inv .2,
-      λ m xs h e.
-          let g = l .loop .inv .3 m xs h e in
-          evens-on w1 (l .loop .w) (a .s) (a .p) (l .loop .k) (l .loop .i) m xs g (o .take-component .last .0) (o .take-component .result) (o .take-component .ensures m (xs ++ joined (g .pieces)) (g .sweep .state)) (c .if1 .left),
+      λ m xs h e. let g = l .loop .inv .3 m xs h e in evens-on g (o .take-component .ensures m (xs ++ joined (g .pieces)) (g .sweep .state)) (c .if1 .left),
     )
 
 same-length-2 : tie.Need-same-length-2 Inv-loop μ-loop
-same-length-2 c =
-    let l = c .before in
-    let d = l .before .before .before in
-    l .loop .inv .0 ∙ d .mark-listed .kept .0
+same-length-2 c = let l = c .before in l .loop .inv .0 ∙ marked l .mark-listed .kept .0
 
 returns-2 : tie.Need-returns-2 Inv-loop μ-loop
-returns-2 c =
-    λ m xs hs e.
-    let i = c in
-    let l = i .before in
-    let d = l .before .before .before in
-    let t = d .before .before .before in
-    let a = t .args in
-    let w1 = d .mark-listed .last .0 in
-    let h = d .mark-listed .ensures m xs hs e in
-    let g = l .loop .inv .3 m xs (h .state) e in
-    none-odd w1 (l .loop .w) (a .s) (a .p) (l .loop .k) (l .loop .i) m xs g (omega (arith, c .loop-test .left, e)) (a .w .now) (a .n) hs (h .aside)
+returns-2 c = λ m xs hs e.
+    let l = c .before in
+    let h = marked l .mark-listed .ensures m xs hs e in
+    none-odd (l .loop .inv .3 m xs (h .state) e) (omega (arith, c .loop-test .left, e)) hs (h .aside)
 
 pub leaves-odd-anywhere-spec : {M : Type 1} → statement M
 leaves-odd-anywhere-spec =
