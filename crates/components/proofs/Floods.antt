@@ -19,7 +19,7 @@ use Rattle.cells.proofs.Slots.{tri-in, in-has}
 use Rattle.regions.specs.Listing.{CanList, Aside}
 use Rattle.regions.proofs.Listings.{aside-refl, aside-trans}
 use Rattle.regions.proofs.Reaches.{appended}
-use Rattle.components.specs.Flood.{body, tri-live, Marked, Seen, Met, Beside, Whole, Flooding, Flooded, Taken, nothing, component}
+use Rattle.components.specs.Flood.{body, tri-live, Whole, Reach, Marked, Seen, Met, Beside, Flooding, Flooded, Taken, nothing, component}
 use Rattle.components.proofs.Members.{has-in, parts-apart, tris-at, live-is}
 use Rattle.components.proofs.Grows.{few, can-list, fresh, known, kind, more, seen-can, seen-room, Grown, grown}
 
@@ -47,9 +47,7 @@ flood-start w s p n m xs x h =
       state = h;
       aside = aside-refl w s p;
       at = omega (arith, h .len, length-append xs (x ∷ []));
-      first = inl refl;
-      linked = λ c k y i. elim i [ inl e ↦ ap (λ (v : Live). c (body v)) e | inr j ↦ absurd j ];
-      closed = λ y z i. absurd i;
+      reach = record { first = inl refl; linked = λ c k y i. elim i [ inl e ↦ ap (λ (v : Live). c (body v)) e | inr j ↦ absurd j ]; closed = λ y z i. absurd i };
     }
 
 -- the flood from the triangle in slot i begins
@@ -80,9 +78,7 @@ module _ {w : List ℕ} {s p n i : ℕ} {m : Mesh} {xs : List Live} (h : Marked 
           new = f .new;
           state = f .state;
           aside = aside-trans w w1 w2 s p (subst (λ (v : List ℕ). Aside w v s p) (sym e) (begun .aside)) (f .aside);
-          first = f .first;
-          linked = f .linked;
-          closed = f .closed;
+          reach = f .reach;
         }
 
 -- the triangle y taken from the front
@@ -93,9 +89,7 @@ pub record Popped (w₀ w : List ℕ) (s p k head : ℕ) (m : Mesh) (xs : List L
   pub state : Marked w s p k m (xs ++ (done ++ y ∷ todo))
   pub aside : Aside w₀ w s p
   pub at : head ≡ length xs + length done
-  pub first : In x (done ++ y ∷ todo)
-  pub linked : (c : Tri → Bool) → Whole c m xs → (z : Live) → In z (done ++ y ∷ todo) → c (body z) ≡ c (body x)
-  pub closed : (v z : Live) → In v done → In z (m .live) → live-tri z ≡ true → Shares (body v) (body z) → In z (xs ++ (done ++ y ∷ todo))
+  pub reach : Reach m xs x done (done ++ y ∷ todo)
   pub live : In y (m .live)
   pub is-tri : live-tri y ≡ true
   pub slot : j ≡ y .slot
@@ -108,14 +102,12 @@ module _ {w₀ w : List ℕ} {s p k head : ℕ} {m : Mesh} {xs : List Live} {x :
   flood-can g l = can-list (g .state) head (omega (arith, few (g .state), g .state .rep .used))
 
   pub popped : (g : Flooding w₀ w s p k head m xs x) → head < k → {j : ℕ} → j ≡ getD w (list-at s p + head) 0 → Popped w₀ w s p k head m xs x j
-  popped g l {j} q = go (g .done) (g .todo) (g .state) (g .at) (g .first) (g .linked) (g .closed)
+  popped g l {j} q = go (g .done) (g .todo) (g .state) (g .at) (g .reach)
     where
-      go : (done todo : List Live) → Marked w s p k m (xs ++ (done ++ todo)) → head ≡ length xs + length done → In x (done ++ todo)
-          → ((c : Tri → Bool) → Whole c m xs → (y : Live) → In y (done ++ todo) → c (body y) ≡ c (body x))
-          → ((y z : Live) → In y done → In z (m .live) → live-tri z ≡ true → Shares (body y) (body z) → In z (xs ++ (done ++ todo)))
+      go : (done todo : List Live) → Marked w s p k m (xs ++ (done ++ todo)) → head ≡ length xs + length done → Reach m xs x done (done ++ todo)
           → Popped w₀ w s p k head m xs x j
-      go done [] h a f r c = absurd (omega (arith, h .len, length-append xs (done ++ []), length-append done []))
-      go done (y ∷ todo) h a f r c =
+      go done [] h a r = absurd (omega (arith, h .len, length-append xs (done ++ []), length-append done []))
+      go done (y ∷ todo) h a r =
           let i : In y (xs ++ (done ++ y ∷ todo)) = in-right y xs (done ++ y ∷ todo) (in-right y done (y ∷ todo) (inl refl)) in
           let at : getD w (list-at s p + length (xs ++ done)) 0 ≡ y .slot =
           stored-at w (list-at s p) (xs ++ done) y todo (subst (λ (v : List Live). Stored w (list-at s p) (slots v)) (sym (append-assoc xs done (y ∷ todo))) (h .stored)) in
@@ -127,9 +119,7 @@ module _ {w₀ w : List ℕ} {s p k head : ℕ} {m : Mesh} {xs : List Live} {x :
             state = h;
             aside = g .aside;
             at = a;
-            first = f;
-            linked = r;
-            closed = c;
+            reach = r;
             live = h .live y i;
             is-tri = tris-at (xs ++ (done ++ y ∷ todo)) (h .tris) y i;
             slot = q ∙ ap (λ (v : ℕ). getD w (list-at s p + v) 0) e ∙ at;
@@ -141,9 +131,12 @@ module _ {w₀ w : List ℕ} {s p k head : ℕ} {m : Mesh} {xs : List Live} {x :
         new = g .done ++ g .todo;
         state = g .state;
         aside = g .aside;
-        first = g .first;
-        linked = g .linked;
-        closed = λ y z i. g .closed y z (in-done (g .todo) (omega (arith, g .state .len, length-append xs (g .done ++ g .todo), length-append (g .done) (g .todo), g .at)) y i);
+        reach =
+            record {
+              first = g .reach .first;
+              linked = g .reach .linked;
+              closed = λ y z i. g .reach .closed y z (in-done (g .todo) (omega (arith, g .state .len, length-append xs (g .done ++ g .todo), length-append (g .done) (g .todo), g .at)) y i);
+            };
       }
     where
       in-done : (todo : List Live) → length todo ≡ 0 → (y : Live) → In y (g .done ++ todo) → In y (g .done)
@@ -164,9 +157,12 @@ module _ {w₀ w : List ℕ} {s p k head : ℕ} {m : Mesh} {xs : List Live} {x :
         state = subst (λ (l : List Live). Marked w' s p r m (xs ++ l)) (sym parts) state;
         aside = aside-trans w₀ w w' s p (b .aside) (f .aside);
         at = omega (arith, b .at, length-append (b .done) (b .y ∷ []));
-        first = subst (λ (l : List Live). In x l) (sym parts) (in-left x ys (f .new) (b .first));
-        linked = λ c h z i. linked c h z (subst (λ (l : List Live). In z l) parts i);
-        closed = λ v z i l t h. subst (λ (u : List Live). In z (xs ++ u)) (sym parts) (closed v z (in-either v (b .done) (b .y ∷ []) i) l t h);
+        reach = subst (λ (l : List Live). Reach m xs x (b .done ++ b .y ∷ []) l) (sym parts)
+            (record {
+              first = in-left x ys (f .new) (b .reach .first);
+              linked = linked;
+              closed = λ v z i. closed v z (in-either v (b .done) (b .y ∷ []) i);
+            });
       }
     where
       ys : List Live
@@ -189,15 +185,15 @@ module _ {w₀ w : List ℕ} {s p k head : ℕ} {m : Mesh} {xs : List Live} {x :
 
       linked : (c : Tri → Bool) → Whole c m xs → (z : Live) → In z (ys ++ f .new) → c (body z) ≡ c (body x)
       linked c h z i = elim (in-either z ys (f .new) i) [
-        | inl l ↦ b .linked c h z l
+        | inl l ↦ b .reach .linked c h z l
         | inr l ↦
             let t : live-tri z ≡ true = tris-at (xs ++ (ys ++ f .new)) (state .tris) z (in-right z xs (ys ++ f .new) i) in
             let lives : In z (m .live) = state .live z (in-right z xs (ys ++ f .new) i) in
-            sym (h (b .y) z (b .live) lives (b .is-tri) t (outside (b .y) (in-left (b .y) ys (f .new) here)) (outside z i) (f .from z l)) ∙ b .linked c h (b .y) here
+            sym (h (b .y) z (b .live) lives (b .is-tri) t (outside (b .y) (in-left (b .y) ys (f .new) here)) (outside z i) (f .from z l)) ∙ b .reach .linked c h (b .y) here
       ]
 
       closed : (v z : Live) → (In v (b .done) ⊎ In v (b .y ∷ [])) → In z (m .live) → live-tri z ≡ true → Shares (body v) (body z) → In z (xs ++ (ys ++ f .new))
-      closed v z (inl i) l t h = subst (λ (u : List Live). In z u) whole (in-left z (xs ++ ys) (f .new) (b .closed v z i l t h))
+      closed v z (inl i) l t h = subst (λ (u : List Live). In z u) whole (in-left z (xs ++ ys) (f .new) (b .reach .closed v z i l t h))
       closed v z (inr (inl e)) l t h =
           subst (λ (u : List Live). In z u) whole (f .all z l t (subst (λ (u : Live). Shares (body u) (body z)) e h))
       closed v z (inr (inr i)) l t h = absurd i

@@ -43,9 +43,7 @@ module _ {v w : List ℕ} {s p k head : ℕ} {m : Mesh} {xs : List Live} {x : Li
         state = g .state;
         aside = aside-trans u v w s p a (g .aside);
         at = g .at;
-        first = g .first;
-        linked = g .linked;
-        closed = g .closed;
+        reach = g .reach;
       }
 
   -- and from its own
@@ -57,9 +55,7 @@ module _ {v w : List ℕ} {s p k head : ℕ} {m : Mesh} {xs : List Live} {x : Li
         state = g .state;
         aside = aside-refl w s p;
         at = g .at;
-        first = g .first;
-        linked = g .linked;
-        closed = g .closed;
+        reach = g .reach;
       }
 
   pub flooding-around : {n : ℕ} (region rest : List Live) → xs ≡ region ++ rest → n ≡ length region → Around w s p k n m region (xs ++ (g .done ++ g .todo))
@@ -90,9 +86,9 @@ pieced {u} {v} {w} {s} {p} a g h =
       new = g .flood .done ++ g .flood .todo;
       state = g .flood .state;
       aside = aside-trans u v w s p a (g .flood .aside);
-      first = g .flood .first;
-      linked = g .flood .linked;
-      closed = λ l. flood-end (g .flood) (h l) .closed;
+      done = g .flood .done;
+      reach = g .flood .reach;
+      whole = λ l. flood-end (g .flood) (h l) .reach;
       looked = g .looked;
     }
 
@@ -157,7 +153,7 @@ module _ {w₀ w : List ℕ} {s p k t : ℕ} {m : Mesh} {region : List Live} (g 
         let xs = region ++ joined (g .pieces) in
         record {
           same = sym (cut-even m region (g .pieces) (f .new) (cut (f .new)
-              (λ c q. (c (body x), f .linked c (λ y z l1 l2 t1 t2 o1 o2. q y z l1 l2 t1 t2 (λ i. o1 (in-left y region (joined (g .pieces)) i)) (λ i. o2 (in-left z region (joined (g .pieces)) i)))))
+              (λ c q. (c (body x), f .reach .linked c (λ y z l1 l2 t1 t2 o1 o2. q y z l1 l2 t1 t2 (λ i. o1 (in-left y region (joined (g .pieces)) i)) (λ i. o2 (in-left z region (joined (g .pieces)) i)))))
               (λ z i b q. in-either z xs (f .new) (none-found (f .looked) l z i b q))) none);
           list = kept-listed (joined (g .pieces) ++ f .new) h (f .state) (append-assoc region (joined (g .pieces)) (f .new));
           aside = aside-trans w1 w₀ w' s p a (aside-trans w₀ w w' s p (g .sweep .aside) (f .aside));
@@ -168,7 +164,7 @@ module _ {w₀ w : List ℕ} {s p k t : ℕ} {m : Mesh} {region : List Live} (g 
     pieced-length = omega (arith, f .state .len, g .sweep .state .len, length-append (region ++ joined (g .pieces)) (f .new))
 
     pub pieced-more : k < r
-    pieced-more = go (f .new) (f .first) pieced-length
+    pieced-more = go (f .new) (f .reach .first) pieced-length
       where
         go : (new : List Live) → In x new → r ≡ k + length new → k < r
         go [] i q = absurd i
@@ -179,7 +175,7 @@ module _ {w₀ w : List ℕ} {s p k t : ℕ} {m : Mesh} {region : List Live} (g 
 
     module _ (l : t' < s) where
       flooded : Flooded w w' s p r m (region ++ joined (g .pieces)) x
-      flooded = record { new = f .new; state = f .state; aside = f .aside; first = f .first; linked = f .linked; closed = f .closed l }
+      flooded = record { new = f .new; state = f .state; aside = f .aside; reach = f .whole l }
 
       sweeps : Sweeping w₀ w' s p r 0 m region (f .new ∷ g .pieces)
       unfolding flooded

@@ -83,11 +83,11 @@ module _ {w₀ w : List ℕ} {s p n i : ℕ} {m : Mesh} {region : List Live} {ks
     new-piece =
         record {
           first = x;
-          has = f .first;
+          has = f .reach .first;
           linked = λ c h y z a b.
               let whole : Whole c m (region ++ joined ks) = λ u v p1 p2 t1 t2 o1 o2 q. h u v p1 p2 t1 t2 (λ l. o1 (in-left u region (joined ks) l)) (λ l. o2 (in-left v region (joined ks) l)) q in
-              f .linked c whole y a ∙ sym (f .linked c whole z b);
-          closed = λ y z a l t q. elim (in-either z (region ++ joined ks) (f .new) (f .closed y z a l t q)) [
+              f .reach .linked c whole y a ∙ sym (f .reach .linked c whole z b);
+          closed = λ y z a l t q. elim (in-either z (region ++ joined ks) (f .new) (f .reach .closed y z a l t q)) [
             | inl b ↦ elim (in-either z region (joined ks) b) [
               | inl v ↦ inl v
               | inr v ↦
@@ -110,8 +110,8 @@ module _ {w₀ w : List ℕ} {s p n i : ℕ} {m : Mesh} {region : List Live} {ks
           pieces = λ k a. elim a [ inl q ↦ subst (λ (v : List Live). Piece m region v) (sym q) (new-piece f) | inr b ↦ g .pieces k b ];
           past = λ y l t b. subst (λ (v : List Live). In y v) (sweep-parts f) (elim (ℕ-discrete (y .slot) i) [
             | yes q ↦
-                let z : x ≡ y = same-slot (m .live) x y (g .state .rep .distinct) (new-live-in f x (f .first) .0) l (e ∙ sym q) in
-                in-right y (region ++ joined ks) (f .new) (subst (λ (v : Live). In v (f .new)) z (f .first))
+                let z : x ≡ y = same-slot (m .live) x y (g .state .rep .distinct) (new-live-in f x (f .reach .first) .0) l (e ∙ sym q) in
+                in-right y (region ++ joined ks) (f .new) (subst (λ (v : Live). In v (f .new)) z (f .reach .first))
             | no q ↦ in-left y (region ++ joined ks) (f .new) (g .past y l t (omega arith))
           ]);
         }

@@ -41,6 +41,20 @@ At u y z e = Corner (body e) u × OneOf y z e
 abbrev pub Beside : Tri → Live → Type 0
 Beside t e = Shares t (body e)
 
+-- ---- what shared edges lead to
+
+-- a set of triangles that no edge shared outside xs leaves
+abbrev pub Whole : (Tri → Bool) → Mesh → List Live → Type 0
+Whole c m xs =
+    (y z : Live) → In y (m .live) → In z (m .live) → live-tri y ≡ true → live-tri z ≡ true → (In y xs → ⊥) → (In z xs → ⊥) → Shares (body y) (body z)
+    → c (body y) ≡ c (body z)
+
+-- of the triangles `all`, x among them, each is led to from x by edges shared outside xs; across those of the ones that are done lies none but of xs and them
+pub record Reach (m : Mesh) (xs : List Live) (x : Live) (done all : List Live) : Type 0 where
+  pub first : In x all
+  pub linked : (c : Tri → Bool) → Whole c m xs → (y : Live) → In y all → c (body y) ≡ c (body x)
+  pub closed : (y z : Live) → In y done → In z (m .live) → live-tri z ≡ true → Shares (body y) (body z) → In z (xs ++ all)
+
 -- ---- what is stored
 
 -- the n cells xs, live triangles in slots that differ, are listed in their order, and of the slots given out those marked are theirs
@@ -74,12 +88,6 @@ pub record Met (w w' : List ℕ) (s p r : ℕ) (m : Mesh) (xs : List Live) (P : 
   pub from : (y : Live) → In y new → P y
   pub all : (y : Live) → In y (m .live) → live-tri y ≡ true → P y → In y (xs ++ new)
 
--- a set of triangles that no edge shared outside xs leaves
-abbrev pub Whole : (Tri → Bool) → Mesh → List Live → Type 0
-Whole c m xs =
-    (y z : Live) → In y (m .live) → In z (m .live) → live-tri y ≡ true → live-tri z ≡ true → (In y xs → ⊥) → (In z xs → ⊥) → Shares (body y) (body z)
-    → c (body y) ≡ c (body z)
-
 -- a flood from x with xs listed, up to place `head` of the list: done are those whose edges were crossed, todo those still to come
 pub record Flooding (w₀ w : List ℕ) (s p k head : ℕ) (m : Mesh) (xs : List Live) (x : Live) : Type 0 where
   pub done : List Live
@@ -87,18 +95,14 @@ pub record Flooding (w₀ w : List ℕ) (s p k head : ℕ) (m : Mesh) (xs : List
   pub state : Marked w s p k m (xs ++ (done ++ todo))
   pub aside : Aside w₀ w s p
   pub at : head ≡ length xs + length done
-  pub first : In x (done ++ todo)
-  pub linked : (c : Tri → Bool) → Whole c m xs → (y : Live) → In y (done ++ todo) → c (body y) ≡ c (body x)
-  pub closed : (y z : Live) → In y done → In z (m .live) → live-tri z ≡ true → Shares (body y) (body z) → In z (xs ++ (done ++ todo))
+  pub reach : Reach m xs x done (done ++ todo)
 
 -- with xs listed, the triangles that shared edges lead to from x are listed behind them
 pub record Flooded (w w' : List ℕ) (s p r : ℕ) (m : Mesh) (xs : List Live) (x : Live) : Type 0 where
   pub new : List Live
   pub state : Marked w' s p r m (xs ++ new)
   pub aside : Aside w w' s p
-  pub first : In x new
-  pub linked : (c : Tri → Bool) → Whole c m xs → (y : Live) → In y new → c (body y) ≡ c (body x)
-  pub closed : (y z : Live) → In y new → In z (m .live) → live-tri z ≡ true → Shares (body y) (body z) → In z (xs ++ new)
+  pub reach : Reach m xs x new new
 
 -- slot i holds no triangle but those of xs, and nothing changed; or the component of its triangle is listed
 pub data Taken (w w' : List ℕ) (s p n r i : ℕ) (m : Mesh) (xs : List Live) : Type 0 where

@@ -8,7 +8,7 @@ use Rattle.definition.specs.Cells.{Tri, Live, Mesh, live-tri}
 use Rattle.laws.specs.Lists.{In}
 use Rattle.account.specs.Triangles.{Shares}
 use Rattle.regions.specs.Listing.{Aside}
-use Rattle.components.specs.Flood.{body, Marked, Whole}
+use Rattle.components.specs.Flood.{body, Reach, Marked}
 use Rattle.components.specs.Seek.{Looked}
 
 -- a triangle that shares an edge with one of xs
@@ -27,7 +27,7 @@ pub record Pieced (w w' : List ℕ) (s p r t : ℕ) (m : Mesh) (region xs : List
   pub new : List Live
   pub state : Marked w' s p r m (xs ++ new)
   pub aside : Aside w w' s p
-  pub first : In x new
-  pub linked : (c : Tri → Bool) → Whole c m xs → (y : Live) → In y new → c (body y) ≡ c (body x)
-  pub closed : t < s → (y z : Live) → In y new → In z (m .live) → live-tri z ≡ true → Shares (body y) (body z) → In z (xs ++ new)
+  pub done : List Live
+  pub reach : Reach m xs x done new
+  pub whole : t < s → Reach m xs x new new
   pub looked : Looked s t m (xs ++ new) (BesideOne region)
