@@ -16,9 +16,6 @@ ghost use Rattle.cells.specs.Rep.{Rep, Room};
 ghost use Rattle.cells.specs.Notes.{IsNoted};
 ghost use Rattle.cells.specs.Walk.{node-in, node-after, node-before, after, before, beside, CanSee, CanRead, IsEdge, Pos, Sought, At, Next, one-if, slot-or};
 
-// A ring of no more corners is walked, whatever the other end's ring has.
-const FEW: usize = 12;
-
 // The kind of the cell in slot i: 3 a triangle, 4 a quad, 0 none.
 pub fn kind(w: &[u32], s: usize, i: usize) -> usize
     requires { ⌜ CanSee (now w) s i ⌝ }
@@ -140,23 +137,6 @@ pub fn has_edge(w: &[u32], s: usize, p: usize, u: usize, v: usize) -> bool
     first_owner(w, s, p, u, v) < CORNERS * s
 }
 
-// The ring of u has more than FEW corners.
-fn is_long(w: &[u32], s: usize, p: usize, u: usize) -> bool
-    requires { ⌜ Room (now w) s p ⌝ }
-    requires { ⌜ u < p ⌝ }
-{
-    let mut c = next(w, BEFORE * s, CORNERS * s + p, CORNERS * s + u);
-    let mut n: usize = 0;
-    while n < FEW {
-        if c >= CORNERS * s {
-            return false;
-        }
-        c = next(w, BEFORE * s, CORNERS * s + p, c);
-        n += 1;
-    }
-    c < CORNERS * s
-}
-
 // Followed in step, the ring of v ends before that of u. No ring has more corners than there are slots.
 fn ends_before(w: &[u32], s: usize, p: usize, u: usize, v: usize) -> bool
     requires { ⌜ Room (now w) s p ⌝ }
@@ -179,7 +159,7 @@ fn ends_before(w: &[u32], s: usize, p: usize, u: usize, v: usize) -> bool
     false
 }
 
-// The owners of u-v are better sought around v, which has a ring: that of u is long, and that of v is shorter.
+// The owners of u-v are better sought around v: it has a ring, and a shorter one.
 fn is_shorter(w: &[u32], s: usize, p: usize, u: usize, v: usize) -> bool
     requires { ⌜ Room (now w) s p ⌝ }
     requires { ⌜ u < p ⌝ }
@@ -188,10 +168,7 @@ fn is_shorter(w: &[u32], s: usize, p: usize, u: usize, v: usize) -> bool
     if v >= p {
         return false;
     }
-    if is_long(w, s, p, u) {
-        return ends_before(w, s, p, u, v);
-    }
-    false
+    ends_before(w, s, p, u, v)
 }
 
 // One where slot i holds a triangle, else nothing.

@@ -8,4 +8,4 @@ returns : tie.Need-returns
 returns c = λ e. absurd (false≢true e)
 
 pub is-shorter-spec : {M : Type 1} → statement M
-is-shorter-spec = tie.close (tie.spec returns (λ c κs. search needs) (λ c κs. search needs) (λ c. search needs) (λ c. search needs))
+is-shorter-spec = tie.close (tie.spec returns (λ c κs. search needs) (λ c. search needs))
