@@ -173,7 +173,7 @@ none-any f (x ∷ l) h = go (f x) refl (none-any f l)
     go true e r = absurd (false≢true (sym (rw e at h)))
     go false e r = rw e (r (rw e at h))
 
-bare : (m : Mesh) (a v : ℕ) → owners m (key a v) ≡ [] → has-edge m a v ≡ false
+pub bare : (m : Mesh) (a v : ℕ) → owners m (key a v) ≡ [] → has-edge m a v ≡ false
 unfolding owners has-edge
 bare m a v h = any-none (owns (key a v)) (m .live) h
 
@@ -256,6 +256,18 @@ module _ (y : Quality) (t : Turn) (m : Mesh) (a other : ℕ) (n : Vec) (target :
   inner-off : any (has-node v) region ≡ false → side-candidate y m a other n target region (walls m region) v ≡ false
   unfolding side-candidate
   inner-off h = rw h (simp and-false)
+
+  -- v has no edge with a
+  pub edge-none : (Beside m a v → ⊥) → false ≡ by-edge t m a other target v
+  edge-none h = edge-off (λ d. go d (has-edge m a v) refl)
+    where
+      go : a ≢ v → (b : Bool) → has-edge m a v ≡ b → has-edge m a v ≡ false
+      go d true e = absurd (h (d, e))
+      go d false e = e
+
+  -- v is no node of the region
+  pub choice-outer : false ≡ by-edge t m a other target v → any (has-node v) region ≡ false → false ≡ is-choice y t m a other n target region v
+  choice-outer h k = rw (← h, inner-off k)
 
   -- is no side node
   choice-out : (r : Span) → Spans m a region r → (In r v → ⊥) → is-choice y t m a other n target region v ≡ false

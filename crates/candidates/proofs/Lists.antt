@@ -25,6 +25,7 @@ use Rattle.side_candidates.specs.Hand.{InHand}
 use Rattle.edge_candidates.specs.Wishes.{Besides, AddedTo, CanList, WishedTo}
 use Rattle.edge_candidates.specs.declared.wishes.Wish.{Wish}
 use Rattle.edge_candidates.proofs.Givers.{besides-refl, besides-set}
+use Rattle.edge_candidates.proofs.Nears.{wished-kept}
 use Rattle.candidates.specs.Choice.{CanChoose, ChosenTo, CanScan, ScannedTo}
 
 -- ---- lists of numbers
@@ -75,6 +76,10 @@ grow-none f v (suc d) h =
     ap (λ (j : ℕ). filter f (numbers 0 j)) e ∙ grow-miss f (v + d) (h (v + d) (omega arith) (omega arith)) ∙ grow-none f v d (λ u a b. h u a (omega arith))
 
 -- ---- the scan
+
+pub besides-trans : (w w1 w2 : List ℕ) (b p : ℕ) → Besides w w1 b p → Besides w1 w2 b p → Besides w w2 b p
+besides-trans w w1 w2 b p h k =
+    record { len = k .len ∙ h .len; before = λ i a. k .before i a ∙ h .before i a; behind = λ i a. k .behind i a ∙ h .behind i a }
 
 -- those chosen below v stand from b on
 pub record Listing (w₀ w : List ℕ) (p b v r : ℕ) (f : ℕ → Bool) : Type 0 where
@@ -154,6 +159,32 @@ hand-kept w w' q s p k b n m g h f z =
       inner = h .inner;
       noted = noted-same w w' s p m g (h .rep) (h .inner) (λ i a. z .before i (omega arith)) (h .noted);
     }
+
+pub besides-sym : (w w' : List ℕ) (b p : ℕ) → Besides w w' b p → Besides w' w b p
+besides-sym w w' b p h = record { len = sym (h .len); before = λ i a. sym (h .before i a); behind = λ i a. sym (h .behind i a) }
+
+-- what a scan asks stays
+pub scan-kept : (w w' : List ℕ) (q : List Float) (s p k n b a other i : ℕ) (o : Wish) (m : Mesh) (g : List Live) → CanScan w q s p k n b a other i o m g → Besides w w' b p → CanScan w' q s p k n b a other i o m g
+scan-kept w w' q s p k n b a other i o m g h z =
+    record {
+      hand = hand-kept w w' q s p k b p m g (h .hand) (h .from) z;
+      count = h .count;
+      first = h .first;
+      second = h .second;
+      from = h .from;
+      to = h .to;
+      wish = wished-kept w w' q s i o m a other (z .len) (λ j f. z .behind j (omega (arith, f, h .to))) (h .wish);
+    }
+
+-- the words from v on stay where a node comes to place r
+pub words-kept : (w₀ w w' : List ℕ) (b r v k : ℕ) (yes : Bool) → r ≤ v → AddedTo w w' b r v yes k → ((u : ℕ) → v ≤ u → getD w (b + u) 0 ≡ getD w₀ (b + u) 0) → (u : ℕ) → v + 1 ≤ u
+    → getD w' (b + u) 0 ≡ getD w₀ (b + u) 0
+words-kept w₀ w w' b r v k true h a f u l = ap (λ (x : List ℕ). getD x (b + u) 0) (a .text) ∙ off w (b + r) v (b + u) (omega arith) ∙ f u (omega arith)
+words-kept w₀ w w' b r v k false h a f u l = ap (λ (x : List ℕ). getD x (b + u) 0) (a .text) ∙ f u (omega arith)
+
+-- the words were others before
+pub scanned-from : (w w₁ w' : List ℕ) (p n b r : ℕ) (cs : List ℕ) → Besides w w₁ b p → ScannedTo w₁ w' p n b r cs → ScannedTo w w' p n b r cs
+scanned-from w w₁ w' p n b r cs z h = record { len = h .len; few = h .few; stored = h .stored; known = h .known; besides = besides-trans w w₁ w' b p z (h .besides) }
 
 -- ---- the whole search
 

@@ -1,6 +1,11 @@
 // The side nodes for an end of a front edge, ascending.
+pub mod aim;
+mod marks;
 mod spans;
 
+use crate::aim::Aim;
+use crate::aim::Known;
+use crate::marks::mark_nodes;
 use crate::spans::span_for;
 use cells::layout::stack_at;
 use edge_candidates::EDGE_HIGH;
@@ -19,7 +24,7 @@ use side_candidates::sides::ahead;
 use side_candidates::sides::in_view;
 ghost use mathlib.Core.Path.{_≡_};
 ghost use mathlib.Core.List.{List};
-ghost use Prim.Native.Nat.{_+_, _*_, _<_};
+ghost use Prim.Native.Nat.{_+_, _*_, _<_, _≤_};
 ghost use lib.ListN.{length};
 ghost use Rattle.definition.specs.Floats.{_⊕_, _⊗_};
 ghost use Rattle.definition.specs.Lists.{filter, below};
@@ -30,8 +35,11 @@ ghost use Rattle.plane.specs.Vectors.{vec};
 ghost use Rattle.rules.specs.Settings.{quality-of};
 ghost use Rattle.live_regions.specs.Stack.{Lent, LiveTo};
 ghost use Rattle.side_candidates.specs.Hand.{InHand, Ends};
-ghost use Rattle.edge_candidates.specs.Wanted.{turn};
+ghost use Rattle.cells.specs.Rep.{Rep, Pts};
+ghost use Rattle.edge_candidates.specs.Wanted.{turn, At, by-edge};
 ghost use Rattle.edge_candidates.specs.Wishes.{Wished};
+ghost use Rattle.candidates.specs.Spans.{Beside};
+ghost use Rattle.candidates.specs.Words.{Told};
 ghost use Rattle.candidates.specs.Choice.{CanChoose, ChosenTo, too-far, square, FarFrom, is-choice, CanScan, ScannedTo};
 
 // Side nodes are looked for within the set's high factor and this many targets more.
@@ -74,42 +82,71 @@ fn far_square(y: Quality, target: f64) -> f64
     1.0 / 0.0
 }
 
-// v is a side node for a: an edge candidate by what is wanted, listed from b on, or a side candidate in the region of k triangles in hand. A node whose distance has a square beyond `far` is neither, which is found out first.
+// v is an edge candidate, by what is wanted; its word `here` is 2 or more where it has an edge with the end.
+fn by_edge(
+    w: &[u32],
+    q: &[f64],
+    s: usize,
+    p: usize,
+    aim: Aim,
+    o: Known,
+    v: usize,
+    here: u32,
+) -> bool
+    requires { ⌜ ((m : Mesh) × Rep (now w) s p m × Pts (now q) p m × Wished (now w) (now q) s (o .at) (o .wish) m (aim .end) (aim .other) × At m (aim .end) v) ⌝ }
+    ensures { λ r. ⌜ ((m : Mesh) → Rep (now (w .entry)) s p m → Pts (now (q .entry)) p m → Wished (now (w .entry)) (now (q .entry)) s (o .at) (o .wish) m (aim .end) (aim .other) → At m (aim .end) v → (Beside m (aim .end) v → 2 ≤ here) → r ≡ by-edge (turn (aim .left)) m (aim .end) (aim .other) (aim .target) v) ⌝ }
+{
+    if here < 2 {
+        return false;
+    }
+    edge_candidate(
+        w,
+        q,
+        s,
+        p,
+        aim.end,
+        aim.other,
+        aim.target,
+        aim.left,
+        o.at,
+        o.wish,
+        v,
+    )
+}
+
+// v is a side node: an edge candidate, or a side candidate in the region of k triangles in hand, where its word `here` is odd. A node that is too far is none, which is found out first.
 fn is_choice(
     w: &[u32],
     q: &[f64],
     s: usize,
     p: usize,
     k: usize,
-    left: bool,
-    a: usize,
-    other: usize,
-    normal: Vec,
-    target: f64,
-    far: f64,
-    b: usize,
-    o: Wish,
+    aim: Aim,
+    o: Known,
     v: usize,
-    y: Quality,
+    here: u32,
 ) -> bool
-    requires { ⌜ ((m : Mesh) × (region : List Live) × InHand (now w) (now q) s p k m region × Wished (now w) (now q) s b o m a other × Ends m a v) ⌝ }
-    requires { ⌜ FarFrom (quality-of y) far target ⌝ }
-    ensures { λ r. ⌜ ((m : Mesh) (region : List Live) → InHand (now (w .entry)) (now (q .entry)) s p k m region → Wished (now (w .entry)) (now (q .entry)) s b o m a other → Ends m a v → r ≡ is-choice (quality-of y) (turn left) m a other (vec normal) target region v) ⌝ }
+    requires { ⌜ ((m : Mesh) × (region : List Live) × InHand (now w) (now q) s p k m region × Wished (now w) (now q) s (o .at) (o .wish) m (aim .end) (aim .other) × Ends m (aim .end) v × Told m (aim .end) region v here) ⌝ }
+    requires { ⌜ FarFrom (quality-of (aim .quality)) (o .far) (aim .target) ⌝ }
+    ensures { λ r. ⌜ ((m : Mesh) (region : List Live) → InHand (now (w .entry)) (now (q .entry)) s p k m region → Wished (now (w .entry)) (now (q .entry)) s (o .at) (o .wish) m (aim .end) (aim .other) → Ends m (aim .end) v → Told m (aim .end) region v here → r ≡ is-choice (quality-of (aim .quality)) (turn (aim .left)) m (aim .end) (aim .other) (vec (aim .normal)) (aim .target) region v) ⌝ }
 {
-    let d = from_to(q, a, v);
-    if square(d) > far {
-        return false;
-    }
-    if edge_candidate(w, q, s, p, a, other, target, left, b, o, v) {
+    if by_edge(w, q, s, p, aim, o, v, here) {
         return true;
     }
-    if !ahead(y, normal, d, target) {
+    if here % 2 == 0 {
         return false;
     }
-    in_view(w, q, s, p, k, a, other, v)
+    let d = from_to(q, aim.end, v);
+    if square(d) > o.far {
+        return false;
+    }
+    if !ahead(aim.quality, aim.normal, d, aim.target) {
+        return false;
+    }
+    in_view(w, q, s, p, k, aim.end, aim.other, v)
 }
 
-// The side nodes for a, with the region of k triangles in hand and what is wanted listed from i on, ascending, come to b; how many they are. Only nodes of that region and nodes that have an edge with a can be such.
+// The side nodes, with the region of k triangles in hand and what is wanted listed from i on, ascending, come to b; how many they are. Only nodes of that region and nodes that have an edge with the end can be such: words from b on tell them, each until a side node may stand there.
 fn scan(
     w: &mut [u32],
     q: &[f64],
@@ -118,40 +155,24 @@ fn scan(
     k: usize,
     n: usize,
     b: usize,
-    left: bool,
-    a: usize,
-    other: usize,
-    normal: Vec,
-    target: f64,
+    aim: Aim,
     i: usize,
     o: Wish,
-    y: Quality,
 ) -> usize
-    requires { ⌜ ((m : Mesh) × (region : List Live) × CanScan (now w) (now q) s p k n b a other i o m region) ⌝ }
-    ensures { λ r. ⌜ ((m : Mesh) (region : List Live) → CanScan (now (w .entry)) (now (q .entry)) s p k n b a other i o m region → ScannedTo (now (w .entry)) (now (w .exit)) p n b r (filter (is-choice (quality-of y) (turn left) m a other (vec normal) target region) (below n))) ⌝ }
+    requires { ⌜ ((m : Mesh) × (region : List Live) × CanScan (now w) (now q) s p k n b (aim .end) (aim .other) i o m region) ⌝ }
+    ensures { λ r. ⌜ ((m : Mesh) (region : List Live) → CanScan (now (w .entry)) (now (q .entry)) s p k n b (aim .end) (aim .other) i o m region → ScannedTo (now (w .entry)) (now (w .exit)) p n b r (filter (is-choice (quality-of (aim .quality)) (turn (aim .left)) m (aim .end) (aim .other) (vec (aim .normal)) (aim .target) region) (below n))) ⌝ }
 {
-    let far = far_square(y, target);
-    let g = span_for(w, s, p, k, a);
+    let g = span_for(w, s, p, k, aim.end);
+    mark_nodes(w, s, p, k, b, aim.end, g);
+    let known = Known {
+        far: far_square(aim.quality, aim.target),
+        at: i,
+        wish: o,
+    };
     let mut r: usize = 0;
     let mut v: usize = g.low;
     while v <= g.high {
-        let yes = is_choice(
-            w,
-            q,
-            s,
-            p,
-            k,
-            left,
-            a,
-            other,
-            normal,
-            target,
-            far,
-            i,
-            o,
-            v,
-            y,
-        );
+        let yes = is_choice(w, q, s, p, k, aim, known, v, w[b + v]);
         r = add(w, b, r, v, yes);
         v += 1;
     }
@@ -211,21 +232,13 @@ pub fn candidates(
     let k = region_around(w, q, s, p, used, seed, a, target, y);
     let i = stack_at(s, p);
     let o = wish_at(w, q, s, p, a, other, i);
-    scan(
-        w,
-        q,
-        s,
-        p,
-        k,
-        n,
-        at,
+    let aim = Aim {
         left,
-        a,
+        end: a,
         other,
         normal,
         target,
-        i,
-        o,
-        y,
-    )
+        quality: y,
+    };
+    scan(w, q, s, p, k, n, at, aim, i, o)
 }

@@ -34,13 +34,9 @@ module _ (m : Mesh) (a other : ℕ) (g : List Live) (v : ℕ) where
   unfolding in-view
   view-other d e = rw (ne-eqb v a d, eq-eqb v other e)
 
-  pub view-outside : v ≢ a → v ≢ other → false ≡ any (has-node v) g → false ≡ in-view m a other g v
+  pub view-inside : (x : Bool) → v ≢ a → v ≢ other → any (has-node v) g ≡ true → x ≡ segment-inside m a v (walls m g) → x ≡ in-view m a other g v
   unfolding in-view
-  view-outside d e f = rw (ne-eqb v a d, ne-eqb v other e, ← f)
-
-  pub view-inside : (x : Bool) → v ≢ a → v ≢ other → true ≡ any (has-node v) g → x ≡ segment-inside m a v (walls m g) → x ≡ in-view m a other g v
-  unfolding in-view
-  view-inside x d e f k = rw (ne-eqb v a d, ne-eqb v other e, ← f) k
+  view-inside x d e f k = rw (ne-eqb v a d, ne-eqb v other e, f) k
 
   -- a side candidate, where it is ahead
   pub side-ahead : (y : Quality) (n : Vec) (target : Float) → true ≡ ahead y n (from-to (node-at m a) (node-at m v)) target

@@ -183,19 +183,6 @@ pub has-tri : (i : ℕ) (t : Tri) (v : ℕ) → has-node v (new-live i (tri t)) 
 unfolding has-node contains any nodes tri-nodes tri-has new-live
 has-tri i t v = rw (eqb-swap v (t .n0), eqb-swap v (t .n1), eqb-swap v (t .n2)) (left-first (eqb (t .n0) v) (eqb (t .n1) v) (eqb (t .n2) v))
 
-module _ (t : Tri) (v : ℕ) where
-  pub has-0 : (a : ℕ) → a ≡ t .n0 → a ≡ v → true ≡ tri-has t v
-  unfolding tri-has
-  has-0 a e h = rw (eq-eqb (t .n0) v (sym e ∙ h))
-
-  pub has-1 : (a b : ℕ) → a ≡ t .n0 → b ≡ t .n1 → a ≢ v → b ≡ v → true ≡ tri-has t v
-  unfolding tri-has
-  has-1 a b e f h k = rw (ne-eqb (t .n0) v (λ z. h (e ∙ z)), eq-eqb (t .n1) v (sym f ∙ k))
-
-  pub has-2 : (a b c : ℕ) → a ≡ t .n0 → b ≡ t .n1 → c ≡ t .n2 → a ≢ v → b ≢ v → eqb c v ≡ tri-has t v
-  unfolding tri-has
-  has-2 a b c e f g h k = rw (ne-eqb (t .n0) v (λ z. h (e ∙ z)), ne-eqb (t .n1) v (λ z. k (f ∙ z)), g)
-
 -- ---- small facts of nodes as they were read
 
 pub below-of : (u v : ℕ) → v ≤ u → (u ≡ v → ⊥) → v < u

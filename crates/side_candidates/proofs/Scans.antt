@@ -6,7 +6,7 @@ use Prim.Native.Nat.{ℕ, _+_, _*_, _≤_, _<_}
 use native.Mathlib.Omega.{arith}
 use lib.ListN.{length, getD}
 use lib.Ieee.{Float}
-use Rattle.definition.specs.Lists.{all, any}
+use Rattle.definition.specs.Lists.{all}
 use Rattle.definition.specs.Cells.{Live, Mesh, tri, new-live, edges, tri-edges, has-node, tri-has}
 use Rattle.definition.specs.Candidates.{walls, segment-inside}
 use Rattle.laws.specs.Lists.{Stored}
@@ -67,26 +67,12 @@ pub record Passing (w : List ℕ) (s p n k : ℕ) (m : Mesh) (f : Live → Bool)
   pub scan : Scan w s p n k m rest
   pub same : total ≡ all f rest
 
--- no cell passes so far
-pub record Failing (w : List ℕ) (s p n k : ℕ) (m : Mesh) (f : Live → Bool) (total : Bool) : Type 0 where
-  pub rest : List Live
-  pub scan : Scan w s p n k m rest
-  pub same : total ≡ any f rest
-
 module _ (w : List ℕ) (s p n k : ℕ) (m : Mesh) (f : Live → Bool) (total : Bool) where
   pub passing-end : Passing w s p n k m f total → n ≤ k → true ≡ total
   unfolding all
   passing-end h l = go (h .rest) (h .scan .len) (h .same)
     where
       go : (rest : List Live) → k + length rest ≡ n → total ≡ all f rest → true ≡ total
-      go [] e z = sym z
-      go (x ∷ rest) e z = absurd (omega arith)
-
-  pub failing-end : Failing w s p n k m f total → n ≤ k → false ≡ total
-  unfolding any
-  failing-end h l = go (h .rest) (h .scan .len) (h .same)
-    where
-      go : (rest : List Live) → k + length rest ≡ n → total ≡ any f rest → false ≡ total
       go [] e z = sym z
       go (x ∷ rest) e z = absurd (omega arith)
 
@@ -98,14 +84,6 @@ module _ (w : List ℕ) (s p n k : ℕ) (m : Mesh) (f : Live → Bool) (total : 
     pub passing-more : (h : Passing w s p n k m f total) (g : Spot w s p n k i m (h .rest)) → f (g .x) ≡ true → Passing w s p n (k + 1) m f total
     unfolding all
     passing-more h g e = let z : all f (g .x ∷ g .more) ≡ all f (g .more) = rw e in record { rest = g .more; scan = g .next; same = h .same ∙ ap (all f) (g .is) ∙ z }
-
-    pub failing-stop : (h : Failing w s p n k m f total) (g : Spot w s p n k i m (h .rest)) → f (g .x) ≡ true → true ≡ total
-    unfolding any
-    failing-stop h g e = let z : any f (g .x ∷ g .more) ≡ true = rw e in sym (h .same ∙ ap (any f) (g .is) ∙ z)
-
-    pub failing-more : (h : Failing w s p n k m f total) (g : Spot w s p n k i m (h .rest)) → f (g .x) ≡ false → Failing w s p n (k + 1) m f total
-    unfolding any
-    failing-more h g e = let z : any f (g .x ∷ g .more) ≡ any f (g .more) = rw e in record { rest = g .more; scan = g .next; same = h .same ∙ ap (any f) (g .is) ∙ z }
 
 -- the mark at a place, by its triangle
 pub spot-walls : (w : List ℕ) (s p n k i : ℕ) (m : Mesh) (rest : List Live) (g : Spot w s p n k i m rest) → getD w (marks-at s p + i) 0 ≡ wall-mark m (new-live i (tri (g .top .t .t)))
@@ -122,9 +100,6 @@ spot-has m i v x g = ap (has-node v) (g .is) ∙ has-tri i (g .t .t) v
 pub passing-start : (w : List ℕ) (q : List Float) (s p n a b : ℕ) (m : Mesh) (region : List Live) → InHand w q s p n m region
     → Passing w s p n 0 m (open-cell m a b) (segment-inside m a b (walls m region))
 passing-start w q s p n a b m region h = record { rest = region; scan = scan-start w q s p n m region h; same = inside-cells m a b region }
-
-pub failing-start : (w : List ℕ) (q : List Float) (s p n v : ℕ) (m : Mesh) (region : List Live) → InHand w q s p n m region → Failing w s p n 0 m (has-node v) (any (has-node v) region)
-failing-start w q s p n v m region h = record { rest = region; scan = scan-start w q s p n m region h; same = refl }
 
 -- the region of a search in hand
 pub in-hand : (w w' : List ℕ) (q : List Float) (s p used k : ℕ) (m : Mesh) (region : List Live) → Lent w q s p used m → LiveTo w w' s p k m region → InHand w' q s p k m region

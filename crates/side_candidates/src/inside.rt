@@ -6,8 +6,8 @@ ghost use mathlib.Core.Path.{_≡_};
 ghost use mathlib.Core.List.{List};
 ghost use Prim.Native.Nat.{_*_, _<_};
 ghost use lib.ListN.{length};
-ghost use Rattle.definition.specs.Lists.{all, any};
-ghost use Rattle.definition.specs.Cells.{Live, Mesh, tri, new-live, key, tri-edges, has-node, tri-has};
+ghost use Rattle.definition.specs.Lists.{all};
+ghost use Rattle.definition.specs.Cells.{Live, Mesh, tri, new-live, key, tri-edges};
 ghost use Rattle.definition.specs.Candidates.{shared-by-tris, passes-by, walls, segment-inside};
 ghost use Rattle.cells.specs.Rep.{Rep, Pts, TriIn};
 ghost use Rattle.cells.specs.Walk.{IsEdge};
@@ -101,34 +101,4 @@ pub fn segment_inside(
         k += 1;
     }
     true
-}
-
-// v is a node of the triangle in slot i.
-fn cell_has(w: &[u32], s: usize, p: usize, i: usize, v: usize) -> bool
-    requires { ⌜ ((m : Mesh) × Rep (now w) s p m × TriIn m i) ⌝ }
-    requires { ⌜ i < s ⌝ }
-    ensures { λ r. ⌜ ((m : Mesh) → Rep (now (w .entry)) s p m → (t : TriIn m i) → r ≡ tri-has (t .t) v) ⌝ }
-{
-    if node(w, s, i, 0) == v {
-        return true;
-    }
-    if node(w, s, i, 1) == v {
-        return true;
-    }
-    node(w, s, i, 2) == v
-}
-
-// v is a node of the region in hand.
-pub fn in_region(w: &[u32], q: &[f64], s: usize, p: usize, n: usize, v: usize) -> bool
-    requires { ⌜ ((m : Mesh) × (region : List Live) × InHand (now w) (now q) s p n m region) ⌝ }
-    ensures { λ r. ⌜ ((m : Mesh) (region : List Live) → InHand (now (w .entry)) (now (q .entry)) s p n m region → r ≡ any (has-node v) region) ⌝ }
-{
-    let mut k: usize = 0;
-    while k < n {
-        if cell_has(w, s, p, wide(w[21 * s + 3 * p + k]), v) {
-            return true;
-        }
-        k += 1;
-    }
-    false
 }

@@ -1,5 +1,4 @@
 // Side candidates: nodes of the region in hand that lie ahead.
-use crate::inside::in_region;
 use crate::inside::segment_inside;
 use plane::floats::abs;
 use plane::vectors::Vec;
@@ -7,8 +6,10 @@ use plane::vectors::dot;
 use plane::vectors::norm;
 use rules::Quality;
 ghost use mathlib.Core.Path.{_≡_};
+ghost use mathlib.Core.Bool.{true};
 ghost use mathlib.Core.List.{List};
-ghost use Rattle.definition.specs.Cells.{Live, Mesh};
+ghost use Rattle.definition.specs.Lists.{any};
+ghost use Rattle.definition.specs.Cells.{Live, Mesh, has-node};
 ghost use Rattle.definition.specs.Candidates.{ahead};
 ghost use Rattle.plane.specs.Vectors.{vec};
 ghost use Rattle.rules.specs.Settings.{quality-of};
@@ -37,7 +38,7 @@ pub fn ahead(y: Quality, n: Vec, d: Vec, target: f64) -> bool
     !(abs(d.dx * n.dy - d.dy * n.dx) > SIDE_ACROSS * along)
 }
 
-// v is a node of the region in hand, other than the two ends, and the segment from a stays inside.
+// The node v of the region in hand is another than the two ends, and the segment from a stays inside.
 pub fn in_view(
     w: &[u32],
     q: &[f64],
@@ -49,15 +50,12 @@ pub fn in_view(
     v: usize,
 ) -> bool
     requires { ⌜ ((m : Mesh) × (region : List Live) × InHand (now w) (now q) s p k m region × Ends m a v) ⌝ }
-    ensures { λ r. ⌜ ((m : Mesh) (region : List Live) → InHand (now (w .entry)) (now (q .entry)) s p k m region → Ends m a v → r ≡ in-view m a other region v) ⌝ }
+    ensures { λ r. ⌜ ((m : Mesh) (region : List Live) → InHand (now (w .entry)) (now (q .entry)) s p k m region → Ends m a v → any (has-node v) region ≡ true → r ≡ in-view m a other region v) ⌝ }
 {
     if v == a {
         return false;
     }
     if v == other {
-        return false;
-    }
-    if !in_region(w, q, s, p, k, v) {
         return false;
     }
     segment_inside(w, q, s, p, k, a, v)
