@@ -1,2 +1,5 @@
 pub mod Stored
 pub mod Laws
+pub mod Parts
+pub mod Places
+pub mod Kept

@@ -11,8 +11,8 @@ use Rattle.definition.specs.Plane.{Edge}
 use Rattle.definition.specs.Cells.{touches}
 use Rattle.definition.specs.Loops.{far-end}
 use Rattle.cells.specs.Layout.{front-u-at, front-v-at, front-links-at}
-use Rattle.loops.specs.Trace.{edge-of, seek, AtNode, FarTo}
-use Rattle.loops.proofs.Lists.{edge-up, edge-known}
+use Rattle.edges.specs.Parts.{edge-of, edge-in-range}
+use Rattle.loops.specs.Trace.{seek, AtNode, FarTo}
 
 second-touched : (e : Edge) (v : ℕ) → touches e v ≡ true → e .0 ≢ v → e .1 ≡ v
 unfolding touches
@@ -41,14 +41,14 @@ module _ (w : List ℕ) (s p n k c l v : ℕ) (es : List Edge) (a : AtNode w s p
     far-by-first h r z =
         let i : edge-of es c .0 ≡ v = sym first-is ∙ sym q ∙ h in
         let k : r ≡ edge-of es c .1 = z ∙ second-is in
-        record { is = k ∙ sym (far-first (edge-of es c) v i); known = omega (arith, edge-known n es c (a .ready .front .edges) inside, k) }
+        record { is = k ∙ sym (far-first (edge-of es c) v i); known = omega (arith, edge-in-range n es c (a .ready .front .edges) inside .1, k) }
 
     pub far-by-second : u ≢ v → FarTo n c v u es
     far-by-second h =
         let i : u ≡ edge-of es c .0 = q ∙ first-is in
         record {
           is = i ∙ sym (far-second (edge-of es c) v (λ z. h (i ∙ z)));
-          known = omega (arith, edge-known n es c (a .ready .front .edges) inside, edge-up n es c (a .ready .front .edges) inside, i);
+          known = omega (arith, edge-in-range n es c (a .ready .front .edges) inside, i);
         }
 
     pub next-by-first : u ≡ v → (r : ℕ) → r ≡ getD w (front-links-at s p + 2 * c) 0 → r ≡ seek es v (suc c) l

@@ -1,10 +1,10 @@
 pub mod Lists
+pub mod Paths
 pub mod Unused
 pub mod Places
 pub mod Ends
 pub mod Walking
 pub mod Linking
 pub mod Tracing
+pub mod Keeping
 pub mod Looping
-pub mod Measuring
-pub mod Sifting

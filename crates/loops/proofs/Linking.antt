@@ -16,26 +16,12 @@ use Rattle.laws.specs.Frames.{on, off}
 use Rattle.laws.specs.Numbers.{later}
 use Rattle.cells.specs.Layout.{front-u-at, front-v-at, front-links-at, front-used-at, heads-at}
 use Rattle.cells.specs.Rep.{Room}
-use Rattle.edges.specs.Stored.{edge-in}
+use Rattle.edges.specs.Parts.{edge-of, edge-in-range}
 use Rattle.loops.specs.Loop.{CanLoop}
-use Rattle.loops.specs.Trace.{edge-of, seek}
+use Rattle.loops.specs.Trace.{seek}
 use Rattle.loops.specs.Link.{Filled, CanLink, linked, Linking, LinkTo, ListTo}
-use Rattle.loops.proofs.Lists.{edge-up, edge-known}
+use Rattle.loops.proofs.Places.{front-kept}
 use Rattle.loops.proofs.Unused.{seek-hit, seek-miss, seek-end}
-
--- ---- the front below the links
-
-pub front-low : (w w' : List ℕ) (s p n k : ℕ) (es : List Edge) → length w' ≡ length w → ((x : ℕ) → x < front-links-at s p → getD w' x 0 ≡ getD w x 0) → CanLoop w s p n k es → CanLoop w' s p n k es
-front-low w w' s p n k es len below r =
-    record {
-      room = record { fits = omega (arith, r .room .fits); small = r .room .small };
-      at = record { len = r .at .len; few = r .at .few; each = λ i h. same-in i (omega (arith, r .at .few)) ∙ r .at .each i h };
-      edges = r .edges;
-      nodes = r .nodes;
-    }
-  where
-    same-in : (i : ℕ) → i < 3 * s → edge-in w' s p i ≡ edge-in w s p i
-    same-in i h = rw (below (front-u-at s p + i) (omega arith), below (front-v-at s p + i) (omega arith))
 
 -- ---- filled words
 
@@ -151,10 +137,10 @@ module _ (w w' : List ℕ) (s p n k : ℕ) (es : List Edge) (i m : ℕ) (g : Lin
   second-at = ap (λ (e : Edge). e .1) (g .front .at .each i in-range)
 
   pub up : edge-of es i .0 < edge-of es i .1
-  up = edge-up n es i (g .front .edges) (omega (arith, in-range, g .front .at .len))
+  up = edge-in-range n es i (g .front .edges) (omega (arith, in-range, g .front .at .len)) .0
 
   pub known : edge-of es i .1 < n
-  known = edge-known n es i (g .front .edges) (omega (arith, in-range, g .front .at .len))
+  known = edge-in-range n es i (g .front .edges) (omega (arith, in-range, g .front .at .len)) .1
 
   module _ (j : Joined w w' s p (edge-of es i .0) (edge-of es i .1) i) where
     heads-on : (x : ℕ) → x < n → Same x (edge-of es i .0) → Same x (edge-of es i .1) → getD w' (heads-at s p + x) 0 ≡ seek es x i (suc m)
@@ -187,7 +173,7 @@ module _ (w w' : List ℕ) (s p n k : ℕ) (es : List Edge) (i m : ℕ) (g : Lin
     link-to =
         record {
           linking = record {
-            front = front-low w w' s p n k es (j .len) (j .below) (g .front);
+            front = front-kept (j .len) (j .below) (g .front);
             lists = record {
               heads = λ x h. heads-on x h (decide x (edge-of es i .0)) (decide x (edge-of es i .1));
               firsts = λ x l a b. firsts-on x l a b (decide x i);
@@ -276,7 +262,7 @@ module _ (w w1 w2 : List ℕ) (s p n k : ℕ) (es : List Edge) (r : CanLoop w s 
   pub cleared : Linking w2 s p n k es k 0
   cleared =
       record {
-        front = front-low w w2 s p n k es (b .len ∙ a .len) cleared-below r;
+        front = front-kept (b .len ∙ a .len) cleared-below r;
         lists = record {
           heads = λ v h. b .inside v h ∙ sym (seek-end es v k);
           firsts = λ j l x y. absurd (omega (arith, x, y));

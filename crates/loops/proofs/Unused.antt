@@ -2,7 +2,7 @@
 use mathlib.Core.Path.{_≡_, refl, ap, sym, _∙_, subst}
 use mathlib.Core.Logic.{_≢_}
 use mathlib.Core.Bool.{Bool, true, false, false≢true}
-use mathlib.Core.List.{List, [], _∷_, _++_}
+use mathlib.Core.List.{List, [], _∷_, _++_, append-assoc}
 use Prim.Native.Nat.{ℕ, zero, suc, _+_, _-_, _≤_, _<_}
 use native.Mathlib.Omega.{arith}
 use native.Mathlib.Numerals.{add-one}
@@ -15,8 +15,9 @@ use Rattle.definition.specs.Cells.{same-edge, touches}
 use Rattle.definition.specs.Loops.{without-edge}
 use Rattle.laws.specs.Cells.{same-self}
 use Rattle.edges.specs.Stored.{Edges}
-use Rattle.loops.specs.Trace.{edge-of, fresh, unused, seek, Found}
-use Rattle.loops.proofs.Lists.{apart, drop-it, keep-it, without-nil, append-same, find-hit, find-miss, find-none}
+use Rattle.edges.specs.Parts.{edge-of, edges-apart}
+use Rattle.loops.specs.Trace.{fresh, unused, seek, Found}
+use Rattle.loops.proofs.Lists.{drop-it, keep-it, without-nil, find-hit, find-miss, find-none}
 
 -- ---- one edge
 
@@ -71,7 +72,7 @@ unused-all w s p es done [] e h = unused-none w s p es (length done)
 unused-all w s p es done (f ∷ l) e h =
     let len : length es ≡ length done + suc (length l) = ap length e ∙ length-append done (f ∷ l) in
     let z : length (done ++ f ∷ []) ≡ suc (length done) = length-append done (f ∷ []) ∙ add-one (length done) in
-    let r = unused-all w s p es (done ++ f ∷ []) l (e ∙ sym (append-same done (f ∷ []) l)) h in
+    let r = unused-all w s p es (done ++ f ∷ []) l (e ∙ sym (append-assoc done (f ∷ []) l)) h in
     let x : edge-of es (length done) ≡ f = ap (λ (k : List Edge). edge-of k (length done)) e ∙ getD-append-seam done f l (0, 0) in
     unused-hit w s p es (length done) (length l) (h (length done) (omega arith))
     ∙ ap (λ (g : Edge). g ∷ unused w s p es (suc (length done)) (length l)) x
@@ -106,7 +107,7 @@ module _ (w w' : List ℕ) (s p n c : ℕ) (es : List Edge) (ed : Edges n es) (i
           unused-miss w' s p es i m g ∙ r ∙ ap (without-edge (edge-of es c)) (sym (unused-miss w s p es i m f))
       go (differ q) true f r =
           let g : fresh w' s p i ≡ true = rest i (omega arith) q ∙ f in
-          let d : same-edge (edge-of es c) (edge-of es i) ≡ false = apart n es c i ed inside (omega arith) (λ z. q (sym z)) in
+          let d : same-edge (edge-of es c) (edge-of es i) ≡ false = edges-apart n es c i ed inside (omega arith) (λ z. q (sym z)) in
           unused-hit w' s p es i m g ∙ ap (λ (l : List Edge). edge-of es i ∷ l) r ∙ sym (keep-it (edge-of es c) (edge-of es i) (unused w s p es (suc i) m) d)
           ∙ ap (without-edge (edge-of es c)) (sym (unused-hit w s p es i m f))
       go (differ q) false f r =

@@ -1,6 +1,5 @@
 pub mod Loop
 pub mod Trace
 pub mod Link
-pub mod Span
 pub mod Sift
 pub mod Keep

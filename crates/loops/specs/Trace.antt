@@ -6,22 +6,19 @@ use mathlib.Core.Option.{none, some}
 use Prim.Native.Nat.{ℕ, zero, suc, _+_, _*_, _<_, _≤_}
 use lib.Dec.{eqb}
 use lib.ListN.{length, getD}
-use Rattle.definition.specs.Lists.{find, concat}
+use Rattle.definition.specs.Lists.{find}
 use Rattle.definition.specs.Plane.{Edge}
 use Rattle.definition.specs.Cells.{touches}
 use Rattle.definition.specs.Loops.{Walk, walk, far-end, without-edge}
 use Rattle.cells.specs.Layout.{front-links-at, front-used-at, order-at, starts-at, heads-at}
 use Rattle.cells.specs.Rep.{Room}
-use Rattle.edges.specs.Stored.{Edges, edges-on, LoopsAt}
+use Rattle.edges.specs.Stored.{edges-on}
+use Rattle.edges.specs.Parts.{edge-of}
 use Rattle.loops.specs.Loop.{CanLoop}
 
 -- ---- edges by number
 
--- edge number i
-abbrev pub edge-of : List Edge → ℕ → Edge
-edge-of es i = getD es i (0, 0)
-
--- it is in no loop yet
+-- edge number i is in no loop yet
 abbrev pub fresh : List ℕ → ℕ → ℕ → ℕ → Bool
 fresh w s p i = eqb (getD w (front-used-at s p + i) 0) 0
 
@@ -68,80 +65,76 @@ pub record FarTo (n c v r : ℕ) (es : List Edge) : Type 0 where
 
 -- ---- placed edges
 
--- b edges are placed: done
-pub record Placed (w : List ℕ) (s p n k b : ℕ) (es done : List Edge) : Type 0 where
+-- path stands at the places from a to b, and behind it is room for the edges in no loop
+pub record Placed (w : List ℕ) (s p n k a b : ℕ) (es path : List Edge) : Type 0 where
   pub ready : Ready w s p n k es
-  pub count : b + length (unused w s p es 0 k) ≡ k
-  pub are : edges-on w s p 0 b ≡ done
-  pub places : (i : ℕ) → i < b → getD w (order-at s p + i) 0 < k
-  pub taken : (i : ℕ) → i < b → fresh w s p (getD w (order-at s p + i) 0) ≡ false
-  pub edges : Edges n done
+  pub room : b + length (unused w s p es 0 k) ≤ k
+  pub sum : a + length path ≡ b
+  pub are : edges-on w s p a (length path) ≡ path
+  pub places : (i : ℕ) → a ≤ i → i < b → getD w (order-at s p + i) 0 < k
 
--- nothing changed before the links, nor the first b places and the starts, and no edge left a loop
-pub record Aside (w w' : List ℕ) (s p b : ℕ) : Type 0 where
+-- nothing changed before the links, nor the first b places and the first j starts, and no edge left a loop
+pub record Aside (w w' : List ℕ) (s p b j : ℕ) : Type 0 where
   pub len : length w' ≡ length w
   pub below : (i : ℕ) → i < front-links-at s p → getD w' i 0 ≡ getD w i 0
   pub order : (i : ℕ) → i < b → getD w' (order-at s p + i) 0 ≡ getD w (order-at s p + i) 0
-  pub starts : (i : ℕ) → i < 3 * s → getD w' (starts-at s p + i) 0 ≡ getD w (starts-at s p + i) 0
+  pub starts : (i : ℕ) → i < j → getD w' (starts-at s p + i) 0 ≡ getD w (starts-at s p + i) 0
   pub used : (i : ℕ) → i < 3 * s → fresh w s p i ≡ false → fresh w' s p i ≡ false
 
 -- the edge c may come to place b
-pub record CanPlace (w : List ℕ) (s p n k b c : ℕ) (es done : List Edge) : Type 0 where
-  pub placed : Placed w s p n k b es done
+pub record CanPlace (w : List ℕ) (s p n k a b c : ℕ) (es path : List Edge) : Type 0 where
+  pub placed : Placed w s p n k a b es path
   pub inside : c < k
   pub free : fresh w s p c ≡ true
 
 -- it is there
-pub record PlaceTo (w w' : List ℕ) (s p n k b c : ℕ) (es done : List Edge) : Type 0 where
-  pub placed : Placed w' s p n k (b + 1) es (done ++ edge-of es c ∷ [])
+pub record PlaceTo (w w' : List ℕ) (s p n k a b c : ℕ) (es path : List Edge) : Type 0 where
+  pub placed : Placed w' s p n k a (b + 1) es (path ++ edge-of es c ∷ [])
   pub left : unused w' s p es 0 k ≡ without-edge (edge-of es c) (unused w s p es 0 k)
-  pub aside : Aside w w' s p b
+  pub less : length (unused w s p es 0 k) ≡ suc (length (unused w' s p es 0 k))
+  pub aside : Aside w w' s p b (3 * s)
   pub gone : fresh w' s p c ≡ false
 
 -- ---- a walk
 
--- path stands behind done, and ends here
-pub record CanWalk (w : List ℕ) (s p n k b here : ℕ) (es done path : List Edge) : Type 0 where
-  pub placed : Placed w s p n k b es (done ++ path)
+-- path ends here
+pub record CanWalk (w : List ℕ) (s p n k a b here : ℕ) (es path : List Edge) : Type 0 where
+  pub placed : Placed w s p n k a b es path
   pub known : here < n
 
--- the walk's path stands behind done
-pub record WalkTo (w w' : List ℕ) (s p n k b r : ℕ) (es done : List Edge) (t : Walk) : Type 0 where
-  pub placed : Placed w' s p n k r es (done ++ t .path)
+-- the walk's path stands in its place
+pub record WalkTo (w w' : List ℕ) (s p n k a b r : ℕ) (es : List Edge) (t : Walk) : Type 0 where
+  pub placed : Placed w' s p n k a r es (t .path)
   pub left : unused w' s p es 0 k ≡ t .left
-  pub aside : Aside w w' s p b
+  pub fewer : length (unused w' s p es 0 k) ≤ length (unused w s p es 0 k)
+  pub aside : Aside w w' s p b (3 * s)
   pub more : b ≤ r
 
--- ---- loops
+-- ---- a loop
 
--- the j loops ls stand on the first b places
-pub record Loops (w : List ℕ) (s p n k b j : ℕ) (es : List Edge) (ls : List (List Edge)) : Type 0 where
-  pub placed : Placed w s p n k b es (concat ls)
-  pub at : LoopsAt w s p 0 0 ls
-  pub len : length ls ≡ j
+-- the edge i is the first in no loop; its loop has number j and place b
+pub record CanTrace (w : List ℕ) (s p n k b j i : ℕ) (es : List Edge) : Type 0 where
+  pub ready : Ready w s p n k es
+  pub room : b + length (unused w s p es 0 k) ≤ k
   pub few : j ≤ b
-
--- the edge i is the first in no loop
-pub record CanTrace (w : List ℕ) (s p n k b j i : ℕ) (es : List Edge) (ls : List (List Edge)) : Type 0 where
-  pub loops : Loops w s p n k b j es ls
   pub inside : i < k
   pub free : fresh w s p i ≡ true
   pub rest : List Edge
   pub first : unused w s p es 0 k ≡ edge-of es i ∷ rest
 
--- the walk from edge i on, through the edges left
+-- the walk from the edge e on, through the edges left
 abbrev pub walk-of : Edge → List Edge → Walk
 walk-of e rest = walk (length rest) (e .0) (e .1) (e ∷ []) rest
 
--- its path is one loop more
-pub record TraceTo (w w' : List ℕ) (s p n k r j i : ℕ) (es : List Edge) (ls : List (List Edge)) (t : Walk) : Type 0 where
-  pub loops : Loops w' s p n k r (j + 1) es (ls ++ t .path ∷ [])
+-- the loop stands there
+pub record TraceTo (w w' : List ℕ) (s p n k b r j i : ℕ) (es : List Edge) (t : Walk) : Type 0 where
+  pub placed : Placed w' s p n k b r es (t .path)
+  pub start : getD w' (starts-at s p + j) 0 ≡ b
   pub left : unused w' s p es 0 k ≡ t .left
   pub fewer : length (unused w' s p es 0 k) < length (unused w s p es 0 k)
+  pub aside : Aside w w' s p b j
   pub gone : fresh w' s p i ≡ false
-  pub len : length w' ≡ length w
-  pub below : (x : ℕ) → x < front-links-at s p → getD w' x 0 ≡ getD w x 0
-  pub used : (x : ℕ) → x < 3 * s → fresh w s p x ≡ false → fresh w' s p x ≡ false
+  pub more : b < r
 
 -- ---- the next edge in no loop
 

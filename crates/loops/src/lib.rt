@@ -1,6 +1,5 @@
 // The front's loops and their perimeters.
 pub mod front;
+pub mod keep;
 pub mod links;
-pub mod measure;
-pub mod sift;
 pub mod walks;

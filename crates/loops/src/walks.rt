@@ -56,8 +56,8 @@ fn far(w: &[u32], s: usize, p: usize, c: usize, v: usize) -> usize
 
 // The edge c comes to place b of the loops.
 pub fn place(w: &mut [u32], s: usize, p: usize, b: usize, c: usize)
-    requires { ⌜ ((n : ℕ) × (k : ℕ) × (es : List Edge) × (done : List Edge) × CanPlace (now w) s p n k b c es done) ⌝ }
-    ensures { λ r. ⌜ ((n k : ℕ) (es done : List Edge) → CanPlace (now (w .entry)) s p n k b c es done → PlaceTo (now (w .entry)) (now (w .exit)) s p n k b c es done) ⌝ }
+    requires { ⌜ ((n : ℕ) × (k : ℕ) × (a : ℕ) × (es : List Edge) × (path : List Edge) × CanPlace (now w) s p n k a b c es path) ⌝ }
+    ensures { λ r. ⌜ ((n k a : ℕ) (es path : List Edge) → CanPlace (now (w .entry)) s p n k a b c es path → PlaceTo (now (w .entry)) (now (w .exit)) s p n k a b c es path) ⌝ }
 {
     w[front_used_at(s, p) + c] = 1;
     w[order_at(s, p) + b] = c as u32;
@@ -73,8 +73,8 @@ pub fn walk(
     start: usize,
     here: usize,
 ) -> usize
-    requires { ⌜ ((n : ℕ) × (es : List Edge) × (done : List Edge) × (path : List Edge) × CanWalk (now w) s p n k b here es done path) ⌝ }
-    ensures { λ r. ⌜ ((n : ℕ) (es done path : List Edge) → CanWalk (now (w .entry)) s p n k b here es done path → WalkTo (now (w .entry)) (now (w .exit)) s p n k b r es done (walk (length (unused (now (w .entry)) s p es 0 k)) start here path (unused (now (w .entry)) s p es 0 k))) ⌝ }
+    requires { ⌜ ((n : ℕ) × (a : ℕ) × (es : List Edge) × (path : List Edge) × CanWalk (now w) s p n k a b here es path) ⌝ }
+    ensures { λ r. ⌜ ((n a : ℕ) (es path : List Edge) → CanWalk (now (w .entry)) s p n k a b here es path → WalkTo (now (w .entry)) (now (w .exit)) s p n k a b r es (walk (length (unused (now (w .entry)) s p es 0 k)) start here path (unused (now (w .entry)) s p es 0 k))) ⌝ }
 {
     let mut count = b;
     let mut end = here;

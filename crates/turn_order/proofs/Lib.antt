@@ -2,6 +2,5 @@ pub mod Tests
 pub mod Ways
 pub mod Picks
 pub mod Turns
-pub mod Kept
 pub mod Lines
 pub mod Ranking

@@ -10,7 +10,7 @@ use Rattle.definition.specs.Loops.{Ranked, ranked-edge, in-order, by-length}
 use Rattle.definition.specs.Lists.{concat}
 use Rattle.laws.specs.Cells.{point-stays}
 use Rattle.edges.specs.Stored.{Edges}
-use Rattle.turn_order.specs.Pick.{Known}
+use Rattle.edges.specs.Places.{Known}
 
 -- an edge's length
 pub length-behind : (ps more : List Node) (e : Edge) → Known (length ps) e → edge-length (ps ++ more) e ≡ edge-length ps e

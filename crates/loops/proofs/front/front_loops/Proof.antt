@@ -5,140 +5,98 @@ use Prim.Native.Nat.{_-_}
 use native.Mathlib.Omega.{arith}
 use lib.ListN.{length}
 use Rattle.definition.specs.Plane.{Edge}
+use Rattle.definition.specs.Cells.{Mesh}
+use Rattle.edges.specs.Parts.{edge-of}
 use Rattle.loops.specs.Link.{Clear}
-use Rattle.loops.proofs.Tracing.{trace-room}
-use Rattle.loops.proofs.Looping.{Looping, looping-start, looping-end, looping-trace, looping-next, looping-on, looping-to}
+use Rattle.loops.specs.Sift.{CanSift}
+use Rattle.loops.specs.Trace.{walk-of}
+use Rattle.loops.proofs.Looping.{Looping, looping-start, looping-end, looping-trace, looping-next, looping-keep, looping-on, listed-sift, looping-to}
 use borrow.Author.Needs.{needs}
 use Rattle.loops.proofs.front.front_loops.Statement.{statement}
 use Rattle.loops.proofs.front.front_loops.Tie as tie
 
 abbrev Inv-loop : tie.InvT-loop
-Inv-loop w₀ s p n k j₀ b₀ i₀ w j b i =
-    (length w ≡ length w₀) × ((es : List Edge) → Clear w₀ s p n k es → Looping w₀ w s p n k b j i es)
+Inv-loop w₀ q f₀ s p n k x₀ i₀ w f x i =
+    (length w ≡ length w₀) × (length f ≡ length f₀) × ((m : Mesh) (es bl : List Edge) → CanSift w₀ q f₀ s p n k m es bl → Clear w₀ s p n k es → Looping w₀ w f₀ f s p n k (x .edges) (x .loops) i (m .points) es bl)
 
 abbrev μ-loop : tie.MeasureT-loop
-μ-loop w₀ s p n k j₀ b₀ i₀ w j b i = k - i
+μ-loop w₀ q f₀ s p n k x₀ i₀ w f x i = k - i
+
+list-edges-requires : tie.Need-list-edges-requires Inv-loop μ-loop
+list-edges-requires c κs = let t = c .before .before .before .before .pre in (t .1, t .3 .front)
 
 next-fresh-requires : tie.Need-next-fresh-requires Inv-loop μ-loop
 next-fresh-requires c κs =
     let le = c .before .before .before in
-    let t = le .before .before .before in
-    let cl = le .list-edges .ensures (t .pre .0) (t .pre .1) .clear in
+    let t = le .before .before .before .before .before in
+    let cl = le .list-edges .ensures (t .pre .1) (t .pre .3 .front) .clear in
     record { room = cl .ready .front .room; few = cl .ready .front .at .few; within = omega arith }
 
 loop-holds : tie.Need-loop-holds Inv-loop μ-loop
-loop-holds c =
-    let le = c .before .before .before .before in
-    let t = le .before .before .before in
-    let a = t .args in
-    (refl, λ es cl. looping-start (le .list-edges .last .0) (a .s) (a .p) (a .n) (a .k) (c .next-fresh .result) es cl (c .next-fresh .ensures))
+loop-holds c = (refl, refl, λ m es bl k cl. looping-start (m .points) bl cl (c .next-fresh .ensures))
 
 trace-requires : tie.Need-trace-requires Inv-loop μ-loop
 trace-requires c κs =
     let i = c .before in
     let l = i .before in
-    let x = l .loop in
-    let nf = l .before in
-    let le = nf .before .before .before .before in
-    let t = le .before .before .before in
-    let a = t .args in
-    let w0 = le .list-edges .last .0 in
-    let es = t .pre .0 in
-    let cl = le .list-edges .ensures es (t .pre .1) .clear in
-    let g = x .inv .1 es cl in
-    (a .n, es, g .ls, looping-trace w0 (x .w) (a .s) (a .p) (a .n) (a .k) (x .b) (x .j) (x .i) es g (i .loop-test .taken))
+    let le = l .before .before .before .before .before in
+    let t = le .before .before .before .before .before in
+    let z = le .list-edges .ensures (t .pre .1) (t .pre .3 .front) in
+    let g = l .loop .inv .2 (t .pre .0) (t .pre .1) (t .pre .2) (listed-sift z (t .pre .3)) (z .clear) in
+    (t .args .n, t .pre .1, looping-trace g (i .loop-test .taken))
 
-add-j : tie.Need-add-j Inv-loop μ-loop
-add-j c =
-    let tr = c .before .before in
+keep-requires : tie.Need-keep-requires Inv-loop μ-loop
+keep-requires c κs =
+    let tr = c .before .before .before .before in
     let i = tr .before .before in
     let l = i .before in
-    let x = l .loop in
-    let nf = l .before in
-    let le = nf .before .before .before .before in
-    let t = le .before .before .before in
-    let a = t .args in
-    let w0 = le .list-edges .last .0 in
-    let es = t .pre .0 in
-    let cl = le .list-edges .ensures es (t .pre .1) .clear in
-    let g = x .inv .1 es cl in
-    let q = looping-trace w0 (x .w) (a .s) (a .p) (a .n) (a .k) (x .b) (x .j) (x .i) es g (i .loop-test .taken) in
-    omega (arith, trace-room (x .w) (a .s) (a .p) (a .n) (a .k) (x .b) (x .j) (x .i) es (g .ls) q, g .loops .few, t .fits .k)
-
-add-next-fresh : tie.Need-add-next-fresh Inv-loop μ-loop
-add-next-fresh c =
-    let tr = c .before .before .before in
-    let i = tr .before .before in
-    let l = i .before in
-    let nf = l .before in
-    let t = nf .before .before .before .before .before .before .before in
-    omega (arith, i .loop-test .taken, t .fits .k)
+    let le = l .before .before .before .before .before in
+    let t = le .before .before .before .before .before in
+    let z = le .list-edges .ensures (t .pre .1) (t .pre .3 .front) in
+    let k = listed-sift z (t .pre .3) in
+    let g = l .loop .inv .2 (t .pre .0) (t .pre .1) (t .pre .2) k (z .clear) in
+    let h = i .loop-test .taken in
+    (t .pre .0, t .pre .2, walk-of (edge-of (t .pre .1) (l .loop .i)) (looping-trace g h .rest) .path, looping-keep g h (tr .trace .ensures (t .args .n) (t .pre .1) (looping-trace g h)) k)
 
 next-fresh-requires-2 : tie.Need-next-fresh-requires-2 Inv-loop μ-loop
 next-fresh-requires-2 c κs =
-    let tr = c .before .before .before in
+    let tr = c .before .before .before .before .before .before .before .before in
     let i = tr .before .before in
     let l = i .before in
-    let x = l .loop in
-    let nf = l .before in
-    let le = nf .before .before .before .before in
-    let t = le .before .before .before in
-    let a = t .args in
-    let w0 = le .list-edges .last .0 in
-    let es = t .pre .0 in
-    let cl = le .list-edges .ensures es (t .pre .1) .clear in
-    let g = x .inv .1 es cl in
+    let le = l .before .before .before .before .before in
+    let t = le .before .before .before .before .before in
+    let z = le .list-edges .ensures (t .pre .1) (t .pre .3 .front) in
+    let g = l .loop .inv .2 (t .pre .0) (t .pre .1) (t .pre .2) (listed-sift z (t .pre .3)) (z .clear) in
     let h = i .loop-test .taken in
-    let q = looping-trace w0 (x .w) (a .s) (a .p) (a .n) (a .k) (x .b) (x .j) (x .i) es g h in
-    looping-next w0 (x .w) (a .s) (a .p) (a .n) (a .k) (x .b) (x .j) (x .i) es g h (tr .trace .last .0) (tr .trace .result) (tr .trace .ensures (a .n) es (g .ls) q)
-
-loop-less : tie.Need-loop-less Inv-loop μ-loop
-loop-less c =
-    let tr = c .before .before .before .before in
-    let i = tr .before .before in
-    omega (arith, i .loop-test .taken, c .next-fresh2 .ensures .from)
+    looping-next g h (tr .trace .ensures (t .args .n) (t .pre .1) (looping-trace g h))
 
 loop-again : tie.Need-loop-again Inv-loop μ-loop
 loop-again c =
-    let tr = c .before .before .before .before in
+    let ke = c .before .before .before .before in
+    let tr = ke .before .before .before .before .before in
     let i = tr .before .before in
     let l = i .before in
-    let x = l .loop in
-    let nf = l .before in
-    let le = nf .before .before .before .before in
-    let t = le .before .before .before in
-    let a = t .args in
-    let w0 = le .list-edges .last .0 in
     let h = i .loop-test .taken in (
-      tr .trace .kept .0 ∙ x .inv .0,
-      λ es cl.
-          let g = x .inv .1 es cl in
-          let q = looping-trace w0 (x .w) (a .s) (a .p) (a .n) (a .k) (x .b) (x .j) (x .i) es g h in
-          looping-on w0 (x .w) (a .s) (a .p) (a .n) (a .k) (x .b) (x .j) (x .i) es g h (tr .trace .last .0) (tr .trace .result) (tr .trace .ensures (a .n) es (g .ls) q) (c .next-fresh2 .result) (c .next-fresh2 .ensures),
+      tr .trace .kept .0 ∙ l .loop .inv .0,
+      ke .keep .kept .1 .1 .0 ∙ l .loop .inv .1,
+      λ m es bl k cl.
+          let g = l .loop .inv .2 m es bl k cl in
+          let t = tr .trace .ensures _ es (looping-trace g h) in
+          let u = looping-keep g h t k in
+          looping-on g h t (u .inside) (ke .keep .ensures m bl _ u) (c .next-fresh2 .ensures),
     )
-
-same-length : tie.Need-same-length Inv-loop μ-loop
-same-length c =
-    let l = c .before in
-    l .loop .inv .0 ∙ l .before .before .before .before .before .list-edges .kept .0
 
 returns : tie.Need-returns Inv-loop μ-loop
 returns c =
     let l = c .before in
-    let x = l .loop in
-    let nf = l .before in
-    let le = nf .before .before .before .before in
-    let t = le .before .before .before in
-    let a = t .args in
-    let w0 = le .list-edges .last .0 in
-    λ es q.
-    let z = le .list-edges .ensures es q in
-    let g = x .inv .1 es (z .clear) in
-    looping-to (a .w .now) w0 (x .w) (a .s) (a .p) (a .n) (a .k) (x .j) es z (looping-end w0 (x .w) (a .s) (a .p) (a .n) (a .k) (x .b) (x .j) (x .i) es g (c .loop-test .left))
+    let le = l .before .before .before .before .before in
+    λ m es bl q.
+    let z = le .list-edges .ensures es (q .front) in
+    looping-to z (looping-end (l .loop .inv .2 m es bl (listed-sift z q) (z .clear)) (c .loop-test .left))
 
 pub front-loops-spec : {M : Type 1} → statement M
 front-loops-spec =
     tie.close
     (tie.spec
-    Inv-loop μ-loop (λ c κs. search needs) next-fresh-requires loop-holds trace-requires add-j add-next-fresh next-fresh-requires-2 loop-less loop-again
-    same-length returns)
+    Inv-loop μ-loop list-edges-requires next-fresh-requires loop-holds trace-requires keep-requires (λ c. search needs) next-fresh-requires-2 (λ c. search needs) loop-again
+    (λ c. search needs) (λ c. search needs) returns)
