@@ -6,6 +6,7 @@ mod asked;
 mod cases;
 mod filing;
 mod jobs;
+mod left;
 mod memory;
 mod preview;
 mod replay;

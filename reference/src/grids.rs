@@ -2,7 +2,7 @@
 
 use crate::input::{Input, Lent};
 use crate::patched::FrontResult;
-use crate::records::records;
+use crate::records::{counts, records};
 
 /// Squares on a side, each cut into two triangles.
 const SQUARES: usize = 14;
@@ -47,27 +47,6 @@ fn grid(size: f64, stop: u32) -> Input {
         points: rows(SQUARES + 1).map(point).collect(),
         ..Input::default()
     }
-}
-
-/// The counts, the lengths and the trials of a finished run.
-pub fn counts(r: &FrontResult) -> [usize; 14] {
-    let c = &r.refusals;
-    [
-        c.front_empty,
-        c.attempts,
-        c.placement,
-        c.invalid_quad,
-        c.recovery,
-        c.region,
-        c.odd_region,
-        c.mismatch_insertions,
-        c.limit,
-        r.quads.len(),
-        r.triangles.len(),
-        r.points.len(),
-        r.region_components.len(),
-        c.trials,
-    ]
 }
 
 /// An answer as numbers: the counts, the lengths, the trials, the lists.

@@ -1,4 +1,4 @@
-//! A quad's record, as a run hands it out.
+//! A quad's record and a finished run's numbers, as a run hands them out.
 
 use crate::patched::FrontResult;
 
@@ -17,4 +17,25 @@ pub fn records(r: &FrontResult) -> Vec<[usize; WORDS]> {
         [a, b, c, d, u, v, birth.round, birth.replaced]
     };
     (0..r.quads.len()).map(record).collect()
+}
+
+/// The counts, the lengths and the trials of a finished run.
+pub fn counts(r: &FrontResult) -> [usize; 14] {
+    let c = &r.refusals;
+    [
+        c.front_empty,
+        c.attempts,
+        c.placement,
+        c.invalid_quad,
+        c.recovery,
+        c.region,
+        c.odd_region,
+        c.mismatch_insertions,
+        c.limit,
+        r.quads.len(),
+        r.triangles.len(),
+        r.points.len(),
+        r.region_components.len(),
+        c.trials,
+    ]
 }

@@ -1,9 +1,9 @@
 //! Every list of one to three different triangles on 3, 4 or 5 points, meshed in 128 settings;
 //! the hashes that the crate `acceptance` holds.
 
-use crate::grids::{counts, hash_on, BASIS};
+use crate::grids::{hash_on, BASIS};
 use crate::input::{Input, Lent};
-use crate::records::{records, WORDS};
+use crate::records::{counts, records, WORDS};
 
 type Triangle = [u32; 3];
 

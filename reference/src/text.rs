@@ -2,7 +2,7 @@
 
 use crate::input::{Input, Lent, PROGRAM};
 use crate::patched::FrontResult;
-use crate::records::{records, NAMES};
+use crate::records::{counts, records, NAMES};
 
 pub const MOST_BYTES: usize = 8192;
 pub const MOST_LISTED: u64 = 64;
@@ -157,26 +157,11 @@ fn refused(number: u32) -> Vec<u8> {
 
 /// A finished run.
 fn finished(input: &Input, r: &FrontResult) -> Vec<u8> {
-    let c = &r.refusals;
+    let numbers = counts(r);
     let mut out = String::from("front_empty attempts placement invalid_quad recovery region odd_region mismatch_insertions limit\n");
-    out += &line(&[
-        c.front_empty,
-        c.attempts,
-        c.placement,
-        c.invalid_quad,
-        c.recovery,
-        c.region,
-        c.odd_region,
-        c.mismatch_insertions,
-        c.limit,
-    ]);
+    out += &line(&numbers[..9]);
     out += "quads triangles points components\n";
-    out += &line(&[
-        r.quads.len(),
-        r.triangles.len(),
-        r.points.len(),
-        r.region_components.len(),
-    ]);
+    out += &line(&numbers[9..13]);
     out += &quads(r);
     out += "n0 n1 n2\n";
     r.triangles.iter().for_each(|t| out += &line(t));

@@ -1,7 +1,10 @@
 //! What an edge would give: its tests, by what can be seen of the given mesh and of runs.
 
+mod meshes;
+
 use std::collections::BTreeMap;
 
+use meshes::{meshes, taken};
 use reference::generators::{self, joints, of_case, on_grid, sets, SMALL};
 use reference::input::{Input, Lent, LARGEST};
 use reference::patched::FrontResult;
@@ -50,34 +53,6 @@ fn owners(input: &Input) -> BTreeMap<(usize, usize), usize> {
 fn front(input: &Input) -> Vec<(usize, usize)> {
     let one = owners(input).into_iter().filter(|&(_, n)| n == 1);
     one.map(|(edge, _)| edge).collect()
-}
-
-/// The least size of a mesh here: below it long edges stand in very many buckets.
-const LEAST_SIZE: f64 = 0.5;
-
-/// Not refused, and quickly run.
-fn taken(input: &Input) -> bool {
-    let fine = input.size() != 0.0 && input.size() < LEAST_SIZE;
-    !fine && input.refusal(LARGEST).is_none()
-}
-
-/// Small meshes of all kinds that are not refused, with sets, joints and the profile among them.
-fn meshes(seed: u64, count: u64) -> Vec<Input> {
-    let one = |case: u64| {
-        let mut r = Random::new(seed, case);
-        let mut input = of_case(None, case).1(&mut r, &SMALL);
-        if !taken(&input) {
-            return None;
-        }
-        match r.below(6) {
-            0 => input = on_grid::good(&input, &mut r),
-            1 => input.quality = sets::good(&mut r),
-            2 => input.joints = joints::good(&input, &mut r),
-            _ => {}
-        }
-        Some(input)
-    };
-    (0..count).filter_map(one).collect()
 }
 
 fn shown(input: &Input, (u, v): (usize, usize)) -> Shown {

@@ -1,9 +1,12 @@
 //! The trace of a run and its replay: small ones by hand, runs with every room, damaged words.
 
+mod meshes;
+
 use std::collections::BTreeMap;
 
+use meshes::{meshes, taken};
 use reference::account::slots_used;
-use reference::generators::{self, joints, of_case, on_grid, sets, traces, SMALL};
+use reference::generators::{self, traces, SMALL};
 use reference::input::{Input, Lent, LARGEST};
 use reference::patched::FrontResult;
 use reference::random::Random;
@@ -275,31 +278,6 @@ fn a_replay_opens_with_1_and_4_to_7() {
     (odd.size, odd.stop, odd.quality.pairs) = (f64::NAN.to_bits(), 7, 0);
     odd.points[0][2] = f64::NAN.to_bits();
     assert_eq!(refusal(&odd, 4, 3, 11, &QUAD), None);
-}
-
-/// Quickly run.
-fn taken(input: &Input) -> bool {
-    let fine = input.size() != 0.0 && input.size() < 0.5;
-    !fine && input.refusal(LARGEST).is_none()
-}
-
-/// Small meshes of all kinds that are not refused, with sets, joints and the profile among them.
-fn meshes(seed: u64, count: u64) -> Vec<Input> {
-    let one = |case: u64| {
-        let mut r = Random::new(seed, case);
-        let mut input = of_case(None, case).1(&mut r, &SMALL);
-        if !taken(&input) {
-            return None;
-        }
-        match r.below(6) {
-            0 => input = on_grid::good(&input, &mut r),
-            1 => input.quality = sets::good(&mut r),
-            2 => input.joints = joints::good(&input, &mut r),
-            _ => {}
-        }
-        Some(input)
-    };
-    (0..count).filter_map(one).collect()
 }
 
 fn with_room(input: &Input, room: usize) -> Input {

@@ -10,6 +10,7 @@ pub use replay::{replay, Lengths, Told};
 
 use std::cmp::Ordering;
 
+use crate::raw::{sedgepick_filing_order, sedgepick_run_front, sedgepick_run_front_with};
 use crate::{Counts, Quad, Refusal};
 
 /// Numbers that a finished run writes: nine counts, four lengths, the trials and the words of the trace.
@@ -21,88 +22,46 @@ pub const QUAD_WORDS: usize = 8;
 /// u32 of work for a triangle whose mesh is filed.
 pub const FILING_WORK: usize = 4;
 
-extern "C" {
-    /// include/sedgepick.h says what it takes and gives.
-    fn sedgepick_run_front(
-        points: *mut f64,
-        points_len: usize,
-        triangles: *const u32,
-        triangles_len: usize,
-        quads: *mut u32,
-        quads_len: usize,
-        triangles_out: *mut u32,
-        triangles_out_len: usize,
-        components: *mut u32,
-        components_len: usize,
-        work: *mut u32,
-        work_len: usize,
-        float_work: *mut f64,
-        float_work_len: usize,
-        given: usize,
-        capacity: usize,
-        count: usize,
-        slots: usize,
-        size: f64,
-        stop: u32,
-        answer: *mut usize,
-        answer_len: usize,
-    ) -> usize;
-
-    fn sedgepick_run_front_with(
-        points: *mut f64,
-        points_len: usize,
-        triangles: *const u32,
-        triangles_len: usize,
-        joints: *const u32,
-        joints_len: usize,
-        quads: *mut u32,
-        quads_len: usize,
-        triangles_out: *mut u32,
-        triangles_out_len: usize,
-        components: *mut u32,
-        components_len: usize,
-        work: *mut u32,
-        work_len: usize,
-        float_work: *mut f64,
-        float_work_len: usize,
-        trace: *mut u32,
-        trace_len: usize,
-        given: usize,
-        capacity: usize,
-        count: usize,
-        slots: usize,
-        joint_count: usize,
-        size: f64,
-        stop: u32,
-        least_jacobian: f64,
-        largest_cosine: f64,
-        side_low: f64,
-        side_high: f64,
-        pairs: usize,
-        grid: u32,
-        answer: *mut usize,
-        answer_len: usize,
-    ) -> usize;
-
-    fn sedgepick_filing_order(
-        first_points: *const f64,
-        first_points_len: usize,
-        first_triangles: *const u32,
-        first_triangles_len: usize,
-        first_work: *mut u32,
-        first_work_len: usize,
-        first_given: usize,
-        first_count: usize,
-        second_points: *const f64,
-        second_points_len: usize,
-        second_triangles: *const u32,
-        second_triangles_len: usize,
-        second_work: *mut u32,
-        second_work_len: usize,
-        second_given: usize,
-        second_count: usize,
-    ) -> usize;
+/// A call of an export that takes what `sedgepick_run_front_with` does up to the grid profile, and then these.
+macro_rules! call_with {
+    ($export:ident, $triangles:expr, $memory:expr, $call:expr, $further:expr, $($behind:expr),+ $(,)?) => {
+        $export(
+            $memory.points.as_mut_ptr(),
+            $memory.points.len(),
+            $triangles.as_ptr(),
+            $triangles.len(),
+            $further.joints.as_ptr(),
+            $further.joints.len(),
+            $memory.quads.as_mut_ptr(),
+            $memory.quads.len(),
+            $memory.triangles.as_mut_ptr(),
+            $memory.triangles.len(),
+            $memory.components.as_mut_ptr(),
+            $memory.components.len(),
+            $memory.work.as_mut_ptr(),
+            $memory.work.len(),
+            $memory.float_work.as_mut_ptr(),
+            $memory.float_work.len(),
+            $memory.trace.as_mut_ptr(),
+            $memory.trace.len(),
+            $call.given,
+            $call.capacity,
+            $call.count,
+            $call.slots,
+            $further.joint_count,
+            $call.size,
+            $call.stop,
+            $further.set.least_jacobian,
+            $further.set.largest_cosine,
+            $further.set.side_low,
+            $further.set.side_high,
+            $further.set.pairs,
+            $further.grid,
+            $($behind),+
+        )
+    };
 }
+use call_with;
 
 /// The numbers of a call. Any are safe: those that do not fit are refused.
 #[derive(Clone, Copy, Debug, PartialEq)]
@@ -254,41 +213,14 @@ pub fn run_front_with(
     further: Further<'_>,
 ) -> Result<Answer, Refusal> {
     let mut a = [0usize; ANSWER];
-    let set = further.set;
     // As above.
     let number = unsafe {
-        sedgepick_run_front_with(
-            memory.points.as_mut_ptr(),
-            memory.points.len(),
-            triangles.as_ptr(),
-            triangles.len(),
-            further.joints.as_ptr(),
-            further.joints.len(),
-            memory.quads.as_mut_ptr(),
-            memory.quads.len(),
-            memory.triangles.as_mut_ptr(),
-            memory.triangles.len(),
-            memory.components.as_mut_ptr(),
-            memory.components.len(),
-            memory.work.as_mut_ptr(),
-            memory.work.len(),
-            memory.float_work.as_mut_ptr(),
-            memory.float_work.len(),
-            memory.trace.as_mut_ptr(),
-            memory.trace.len(),
-            call.given,
-            call.capacity,
-            call.count,
-            call.slots,
-            further.joint_count,
-            call.size,
-            call.stop,
-            set.least_jacobian,
-            set.largest_cosine,
-            set.side_low,
-            set.side_high,
-            set.pairs,
-            further.grid,
+        call_with!(
+            sedgepick_run_front_with,
+            triangles,
+            memory,
+            call,
+            further,
             a.as_mut_ptr(),
             a.len(),
         )

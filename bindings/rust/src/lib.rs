@@ -116,6 +116,8 @@ mod job;
 pub mod lent;
 mod preview;
 mod quality;
+#[doc(hidden)]
+pub mod raw;
 mod refusal;
 mod sheet;
 mod small;

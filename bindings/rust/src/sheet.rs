@@ -1,5 +1,6 @@
 //! The quality sheet of a list of quads.
 
+use crate::raw::sedgepick_sheet;
 use crate::{Mesh, Refusal, MOST_CAPACITY, MOST_SLOTS};
 
 /// Steps of the scaled Jacobian, bounded by the doubles nearest 0.1, 0.2 and so on to 0.9; a bound counts upward.
@@ -10,22 +11,6 @@ pub const SHEET_NUMBERS: usize = STEPS + 3;
 
 /// Numbers of a quad's record: four corners, then what it says of its birth, which a sheet does not read.
 pub const RECORD: usize = 8;
-
-extern "C" {
-    /// include/sedgepick.h says what it takes and gives.
-    fn sedgepick_sheet(
-        points: *const f64,
-        points_len: usize,
-        quads: *const u32,
-        quads_len: usize,
-        out: *mut f64,
-        out_len: usize,
-        given: usize,
-        count: usize,
-        answer: *mut usize,
-        answer_len: usize,
-    ) -> usize;
-}
 
 /// The sheet of the first `count` quads over the first `given` points, in memory that the caller lends: three f64 a point, eight numbers a quad, two f64 a
 /// quad to write, and [`SHEET_NUMBERS`] numbers. Any numbers are safe: those that do not fit are refused, which touches nothing.

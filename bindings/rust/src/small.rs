@@ -1,14 +1,10 @@
 //! Every small mesh, for acceptance runs.
 
+use crate::raw::sedgepick_small_mesh;
 use crate::Refusal;
 
 /// Numbers of the longest list: how many triangles it has, and three nodes each.
 const NUMBERS: usize = 10;
-
-extern "C" {
-    /// include/sedgepick.h says what it takes and gives.
-    fn sedgepick_small_mesh(points: u32, place: usize, list: *mut u32, list_len: usize) -> usize;
-}
 
 /// The list at a place, from 0, of all lists of one to three different triangles on 3, 4 or 5 points; `None` where the order has ended.
 ///

@@ -1,15 +1,11 @@
 //! Calls over the linked library: document 01's table, every refusal, and memory that grows.
 
+mod shapes;
+
 use sedgepick::lent::{self, Call, Memory};
 use sedgepick::{run_front, Mesh, Quad, Refusal, Stop, MOST_CAPACITY, MOST_SLOTS};
+use shapes::{HALVES, SQUARE};
 
-const SQUARE: [[f64; 3]; 4] = [
-    [0.0, 0.0, 0.0],
-    [1.0, 0.0, 0.0],
-    [1.0, 1.0, 0.0],
-    [0.0, 1.0, 0.0],
-];
-const HALVES: [[u32; 3]; 2] = [[0, 1, 2], [0, 2, 3]];
 const CORNER: [[f64; 3]; 3] = [[0.0, 0.0, 0.0], [1.0, 0.0, 0.0], [0.0, 1.0, 0.0]];
 
 #[test]

@@ -1,17 +1,12 @@
 //! The filing order over the linked library: which meshes are equal, which stand first, and every refusal.
 
+mod shapes;
+
 use std::cmp::Ordering;
 
 use sedgepick::lent::{self, Lent};
 use sedgepick::{filing_order, Filed, Refusal};
-
-const SQUARE: [[f64; 3]; 4] = [
-    [0.0, 0.0, 0.0],
-    [1.0, 0.0, 0.0],
-    [1.0, 1.0, 0.0],
-    [0.0, 1.0, 0.0],
-];
-const HALVES: [[u32; 3]; 2] = [[0, 1, 2], [0, 2, 3]];
+use shapes::{HALVES, SQUARE};
 
 fn filed<'a>(points: &'a [[f64; 3]], triangles: &'a [[u32; 3]]) -> Filed<'a> {
     Filed::new(points, triangles).unwrap()

@@ -1,32 +1,11 @@
 //! Quality sets over the linked library: the standard one, others, and those that are refused.
 
+mod shapes;
+
 use sedgepick::lent::{self, Call, Further, Memory, Set};
 use sedgepick::{run_front, run_front_with, Options, Quad, Quality, QualityBuilder, Refusal, Stop};
 use sedgepick::{COSINES, JACOBIANS, PAIRS, SIDES};
-
-/// A grid of so many squares a side, its inner points moved.
-fn grid(side: u32) -> (Vec<[f64; 3]>, Vec<[u32; 3]>) {
-    let mut points = Vec::new();
-    for j in 0..=side {
-        for i in 0..=side {
-            let (x, y) = (f64::from(i), f64::from(j));
-            let inner = 0 < i && i < side && 0 < j && j < side;
-            let moved = if inner { 0.08 } else { 0.0 };
-            let shift = [(7.0 * x + 3.0 * y).sin(), (5.0 * x + 11.0 * y).cos()];
-            points.push([
-                0.25 * x + moved * shift[0],
-                0.25 * y + moved * shift[1],
-                0.0,
-            ]);
-        }
-    }
-    let square = |k: u32| {
-        let a = k / side * (side + 1) + k % side;
-        let b = a + side + 1;
-        [[a, a + 1, b + 1], [a, b + 1, b]]
-    };
-    (points, (0..side * side).flat_map(square).collect())
-}
+use shapes::grid;
 
 /// Cosine and sine of each corner of the quads.
 fn corners(points: &[[f64; 3]], quads: &[Quad]) -> Vec<(f64, f64)> {

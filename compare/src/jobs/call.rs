@@ -3,53 +3,14 @@
 use reference::input::{Input, Lent};
 use reference::job::{Job, Step};
 use reference::patched::FrontResult;
+use reference::records::counts;
+use sedgepick::raw::sedgepick_job;
 
 use crate::memory::{self, Slices};
 
 /// Numbers of a job, and of an answer.
 pub const JOB: usize = 5;
 pub const ANSWER: usize = 15;
-
-extern "C" {
-    /// include/sedgepick.h says what it takes and gives.
-    fn sedgepick_job(
-        points: *mut f64,
-        points_len: usize,
-        triangles: *const u32,
-        triangles_len: usize,
-        joints: *const u32,
-        joints_len: usize,
-        quads: *mut u32,
-        quads_len: usize,
-        triangles_out: *mut u32,
-        triangles_out_len: usize,
-        components: *mut u32,
-        components_len: usize,
-        work: *mut u32,
-        work_len: usize,
-        float_work: *mut f64,
-        float_work_len: usize,
-        trace: *mut u32,
-        trace_len: usize,
-        given: usize,
-        capacity: usize,
-        count: usize,
-        slots: usize,
-        joint_count: usize,
-        size: f64,
-        stop: u32,
-        least_jacobian: f64,
-        largest_cosine: f64,
-        side_low: f64,
-        side_high: f64,
-        pairs: usize,
-        grid: u32,
-        job: *mut usize,
-        job_len: usize,
-        answer: *mut usize,
-        answer_len: usize,
-    ) -> usize;
-}
 
 /// What a call returns and leaves.
 #[derive(PartialEq)]
@@ -146,22 +107,7 @@ pub fn after(before: &Left, step: Step) -> Left {
 
 /// The numbers of an answer.
 fn words(rust: &FrontResult) -> [usize; ANSWER] {
-    let c = &rust.refusals;
-    [
-        c.front_empty,
-        c.attempts,
-        c.placement,
-        c.invalid_quad,
-        c.recovery,
-        c.region,
-        c.odd_region,
-        c.mismatch_insertions,
-        c.limit,
-        rust.quads.len(),
-        rust.triangles.len(),
-        rust.points.len(),
-        rust.region_components.len(),
-        c.trials,
-        rust.trace.len(),
-    ]
+    let mut words = [rust.trace.len(); ANSWER];
+    words[..ANSWER - 1].copy_from_slice(&counts(rust));
+    words
 }

@@ -2,59 +2,13 @@
 
 use reference::input::{Input, Lent};
 use reference::preview::{Kind, Shown};
+use sedgepick::raw::sedgepick_preview;
 
-use crate::memory::{self, Slices};
+use crate::left::Left;
+use crate::memory;
 
 /// Numbers of an answer.
 pub const ANSWER: usize = 12;
-
-extern "C" {
-    /// include/sedgepick.h says what it takes and gives.
-    fn sedgepick_preview(
-        points: *mut f64,
-        points_len: usize,
-        triangles: *const u32,
-        triangles_len: usize,
-        joints: *const u32,
-        joints_len: usize,
-        quads: *const u32,
-        quads_len: usize,
-        triangles_out: *const u32,
-        triangles_out_len: usize,
-        components: *const u32,
-        components_len: usize,
-        work: *mut u32,
-        work_len: usize,
-        float_work: *mut f64,
-        float_work_len: usize,
-        given: usize,
-        capacity: usize,
-        count: usize,
-        slots: usize,
-        joint_count: usize,
-        size: f64,
-        stop: u32,
-        least_jacobian: f64,
-        largest_cosine: f64,
-        side_low: f64,
-        side_high: f64,
-        pairs: usize,
-        grid: u32,
-        u: usize,
-        v: usize,
-        answer: *mut usize,
-        answer_len: usize,
-    ) -> usize;
-}
-
-/// What a call returns and leaves. The given triangles and the joints are only read.
-#[derive(Clone)]
-pub struct Left {
-    pub number: usize,
-    pub answer: Vec<usize>,
-    pub triangles: Vec<u32>,
-    pub slices: Slices,
-}
 
 /// The port's call over these slices.
 pub fn port(input: &Input, lent: Lent, (u, v): (usize, usize), mut l: Left) -> Left {
@@ -144,19 +98,4 @@ pub fn place(kind: Kind) -> usize {
         Kind::Region => 4,
         Kind::OddRegion => 5,
     }
-}
-
-/// The first thing in which the two differ.
-pub fn difference(got: &Left, want: &Left) -> Option<String> {
-    if got.number != want.number {
-        return Some(format!("port {}, Rust {}", got.number, want.number));
-    }
-    if got.answer != want.answer {
-        let (port, rust) = (&got.answer, &want.answer);
-        return Some(format!("answer\n  port {port:?}\n  Rust {rust:?}"));
-    }
-    if got.triangles != want.triangles {
-        return Some("the given triangles".to_string());
-    }
-    memory::first_difference(&got.slices, &want.slices)
 }

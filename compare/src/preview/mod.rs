@@ -12,9 +12,10 @@ use reference::random::Random;
 
 use crate::asked::asked;
 use crate::cases::{self, BEFORE_SLICES, REFUSALS};
+use crate::left::{difference, Left};
 use crate::memory::{self, Tails, SLICES};
 use crate::threads;
-use call::{after, difference, place, port, Left, ANSWER};
+use call::{after, place, port, ANSWER};
 use pairs::Pair;
 
 /// Partings that are printed whole.

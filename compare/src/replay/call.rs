@@ -2,49 +2,13 @@
 
 use reference::input::{Input, Lent};
 use reference::replay::Replayed;
+use sedgepick::raw::sedgepick_replay;
 
-use crate::memory::{self, Slices};
+use crate::left::Left;
+use crate::memory;
 
 /// Numbers of an answer.
 pub const ANSWER: usize = 4;
-
-extern "C" {
-    /// include/sedgepick.h says what it takes and gives.
-    fn sedgepick_replay(
-        points: *mut f64,
-        points_len: usize,
-        triangles: *const u32,
-        triangles_len: usize,
-        trace: *const u32,
-        trace_len: usize,
-        quads: *mut u32,
-        quads_len: usize,
-        triangles_out: *mut u32,
-        triangles_out_len: usize,
-        components: *mut u32,
-        components_len: usize,
-        work: *mut u32,
-        work_len: usize,
-        float_work: *mut f64,
-        float_work_len: usize,
-        given: usize,
-        capacity: usize,
-        count: usize,
-        slots: usize,
-        words: usize,
-        answer: *mut usize,
-        answer_len: usize,
-    ) -> usize;
-}
-
-/// What a call returns and leaves. The given triangles and the trace are only read.
-#[derive(Clone)]
-pub struct Left {
-    pub number: usize,
-    pub answer: Vec<usize>,
-    pub triangles: Vec<u32>,
-    pub slices: Slices,
-}
 
 /// The port's call over these slices, with so many words stated.
 pub fn port(input: &Input, lent: Lent, words: usize, mut l: Left) -> Left {
@@ -116,19 +80,4 @@ fn lists(l: &mut Left, rust: &Replayed) {
         ];
         l.answer[..ANSWER].copy_from_slice(&lengths);
     }
-}
-
-/// The first thing in which the two differ.
-pub fn difference(got: &Left, want: &Left) -> Option<String> {
-    if got.number != want.number {
-        return Some(format!("port {}, Rust {}", got.number, want.number));
-    }
-    if got.answer != want.answer {
-        let (port, rust) = (&got.answer, &want.answer);
-        return Some(format!("answer\n  port {port:?}\n  Rust {rust:?}"));
-    }
-    if got.triangles != want.triangles {
-        return Some("the given triangles".to_string());
-    }
-    memory::first_difference(&got.slices, &want.slices)
 }

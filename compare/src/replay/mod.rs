@@ -14,9 +14,10 @@ use reference::replays;
 
 use crate::asked::asked;
 use crate::cases::{self, REFUSALS};
+use crate::left::{difference, Left};
 use crate::memory::{self, Export, Tails, SLICES};
 use crate::threads;
-use call::{after, difference, port, Left, ANSWER};
+use call::{after, port, ANSWER};
 
 /// Partings that are printed whole.
 const SHOWN: usize = 3;

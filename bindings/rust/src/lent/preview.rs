@@ -1,49 +1,11 @@
 //! The call of a preview.
 
 use super::{quad, Call, Further, Memory, QUAD_WORDS};
+use crate::raw::sedgepick_preview;
 use crate::{Cost, Kind, Refusal, Shown};
 
 /// Numbers that a preview writes: what it is, the kind of refusal, insertions, flips, and the quad's record.
 const SHOWN: usize = 4 + QUAD_WORDS;
-
-extern "C" {
-    /// include/sedgepick.h says what it takes and gives.
-    fn sedgepick_preview(
-        points: *mut f64,
-        points_len: usize,
-        triangles: *const u32,
-        triangles_len: usize,
-        joints: *const u32,
-        joints_len: usize,
-        quads: *const u32,
-        quads_len: usize,
-        triangles_out: *const u32,
-        triangles_out_len: usize,
-        components: *const u32,
-        components_len: usize,
-        work: *mut u32,
-        work_len: usize,
-        float_work: *mut f64,
-        float_work_len: usize,
-        given: usize,
-        capacity: usize,
-        count: usize,
-        slots: usize,
-        joint_count: usize,
-        size: f64,
-        stop: u32,
-        least_jacobian: f64,
-        largest_cosine: f64,
-        side_low: f64,
-        side_high: f64,
-        pairs: usize,
-        grid: u32,
-        u: usize,
-        v: usize,
-        answer: *mut usize,
-        answer_len: usize,
-    ) -> usize;
-}
 
 /// What the edge between two nodes would give, their numbers in either order and whatever they are: one attempt on the mesh that `run_front_with` would start
 /// from, of which nothing stays.

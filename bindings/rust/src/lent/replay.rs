@@ -1,39 +1,11 @@
 //! The call of a replay.
 
 use super::Memory;
+use crate::raw::sedgepick_replay;
 use crate::Refusal;
 
 /// Numbers that a replay writes: the lengths of its four lists.
 const REPLAYED: usize = 4;
-
-extern "C" {
-    /// include/sedgepick.h says what it takes and gives.
-    fn sedgepick_replay(
-        points: *mut f64,
-        points_len: usize,
-        triangles: *const u32,
-        triangles_len: usize,
-        trace: *const u32,
-        trace_len: usize,
-        quads: *mut u32,
-        quads_len: usize,
-        triangles_out: *mut u32,
-        triangles_out_len: usize,
-        components: *mut u32,
-        components_len: usize,
-        work: *mut u32,
-        work_len: usize,
-        float_work: *mut f64,
-        float_work_len: usize,
-        given: usize,
-        capacity: usize,
-        count: usize,
-        slots: usize,
-        words: usize,
-        answer: *mut usize,
-        answer_len: usize,
-    ) -> usize;
-}
 
 /// The numbers of a replay. Any are safe: those that do not fit are refused.
 #[derive(Clone, Copy, Debug, PartialEq, Eq)]
