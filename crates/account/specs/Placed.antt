@@ -9,23 +9,23 @@ use Prim.Native.Nat.{ℕ, zero, suc, _+_}
 use native.Mathlib.Omega.{arith}
 use lib.Dec.{eqb}
 use lib.ListN.{length, length-append, length-map, getD, drop}
-use borrow.Author.Tests.{eqb-true}
+use borrow.Author.Tests.{eqb-true, not-false}
 use Rattle.definition.specs.Lists.{filter, numbers}
 use Rattle.definition.specs.Numbers.{Settings}
 use Rattle.definition.specs.Plane.{Node, Edge}
-use Rattle.definition.specs.Cells.{Tri, Quad, Cell, tri, quad, Live, Event, was-flipped, Mesh, new-tri, new-live, is-tri, live-tri, in-slot, all-edges, this-round, with-live, noting, without, among, without-all, set-cell, push-cell, remove-cells}
+use Rattle.definition.specs.Cells.{Tri, Quad, tri, quad, Live, Event, was-flipped, Mesh, new-tri, new-live, is-tri, live-tri, in-slot, all-edges, this-round, with-live, noting, without, among, without-all, set-cell, push-cell, remove-cells}
 use Rattle.definition.specs.Flips.{set-tris, flip}
 use Rattle.definition.specs.Insertion.{with-point, split-triangle}
 use Rattle.definition.specs.Region.{region}
 use Rattle.definition.specs.Attempt.{replaced}
 use Rattle.definition.specs.Front.{counting, Result, ran, new-mesh, in-slots, start, result, run-front}
 use Rattle.laws.specs.Bools.{which}
-use Rattle.laws.specs.Lists.{In, in-either, filter-yes, filter-no, filter-append, any-in, numbers-length}
+use Rattle.laws.specs.Lists.{In, in-either, filter-yes, filter-no, filter-append, numbers-length}
 use Rattle.account.specs.Flips.{flip-made, Tri-at}
 use Rattle.account.specs.FlipKeeps.{own-x, own-y}
 use Rattle.account.specs.Valid.{Valid, in-without, one-cell}
 use Rattle.account.specs.Found.{region-slot-tri}
-use Rattle.account.specs.Start.{Proper, in-slots-at, start-valid}
+use Rattle.account.specs.Start.{Proper, start-valid}
 use Rattle.account.specs.Run.{Rule, run-ok}
 
 -- ---- the live quads
@@ -58,17 +58,13 @@ last-tri xs id t =
     filter-append live-quad xs (new-live id (tri t) ∷ []) ∙ ap (λ l. filter live-quad xs ++ l) (filter-no live-quad (new-live id (tri t)) [] (tri-cell (new-live id (tri t)) t refl))
     ∙ append-nil (filter live-quad xs)
 
-there : (b : Bool) → not b ≡ false → b ≡ true
-there true e = refl
-there false e = sym e
-
 -- the slot has no quad
 abbrev No-quad : ℕ → List Live → Type 0
 No-quad id xs = (x : Live) → In x xs → x .slot ≡ id → live-quad x ≡ false
 
 set-quads : (m : Mesh) (id : ℕ) (t : Tri) → No-quad id (m .live) → quad-cells (set-cell m id (tri t)) ≡ quad-cells m
 unfolding quad-cells set-cell with-live without in-slot
-set-quads m id t h = last-tri (without id (m .live)) id t ∙ taken (λ x. not (eqb id (x .slot))) (m .live) (λ x i e. h x i (sym (eqb-true id (x .slot) (there (eqb id (x .slot)) e))))
+set-quads m id t h = last-tri (without id (m .live)) id t ∙ taken (λ x. not (eqb id (x .slot))) (m .live) (λ x i e. h x i (sym (eqb-true id (x .slot) (not-false (eqb id (x .slot)) e))))
 
 new-cell : (i : ℕ) (t : Tri) → new-live i (tri t) .cell ≡ tri t
 unfolding new-live
@@ -128,7 +124,7 @@ quad-placed m seed q cells ok sd h =
     let kept = filter (λ x. not (among cells x)) (m .live) in
     let new = new-live (m .used) (quad q) in
     let a = filter-append live-quad kept (new ∷ []) in
-    let b = taken (λ x. not (among cells x)) (m .live) (λ x i e. let t = region-slot-tri m seed q cells ok sd h x i (there (among cells x) e) in tri-cell x (t .0) (t .1)) in
+    let b = taken (λ x. not (among cells x)) (m .live) (λ x i e. let t = region-slot-tri m seed q cells ok sd h x i (not-false (among cells x) e) in tri-cell x (t .0) (t .1)) in
     let c = filter-yes live-quad new [] (quad-cell (m .used) q) in
     let one : length (filter live-quad (new ∷ [])) ≡ 1 = ap length c ∙ none-more new in
     omega (arith, ap length a, length-append (filter live-quad kept) (filter live-quad (new ∷ [])), ap length b, one)

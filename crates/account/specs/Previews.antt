@@ -1,13 +1,11 @@
 -- Paper 6: a preview leaves every slice but the work; its edge has no order; it shows how the attempt on that edge ends when a run begins with it; and it inserts at most two points.
-use mathlib.Core.Path.{_≡_, refl, sym, ap, _∙_, subst}
-use mathlib.Core.Bool.{Bool, true, false, not, _&&_, _||_, cond}
+use mathlib.Core.Path.{_≡_, refl, ap, _∙_}
+use mathlib.Core.Bool.{true, false, _||_}
 use mathlib.Core.Logic.{_⊎_, inl, inr}
 use mathlib.Core.List.{List, [], _∷_}
 use mathlib.Core.Option.{Option, none, some}
-use Prim.{Unit, tt}
-use Prim.Native.Nat.{ℕ, suc, _+_, _*_, _≤_, _<_, min, max}
+use Prim.Native.Nat.{ℕ, suc, _+_, _*_, _≤_, _<_}
 use native.Mathlib.Omega.{arith}
-use lib.Dec.{eqb, ltb}
 use lib.ListN.{length}
 use borrow.Author.Tests.{le-ltb, ne-eqb}
 use Rattle.definition.specs.Lists.{find}
@@ -21,9 +19,10 @@ use Rattle.definition.specs.Insertion.{Inserted, nowhere, inserted, full}
 use Rattle.definition.specs.Attempt.{Tried, made, failed, orphaned, lacking, try-pair, Attempt, placed, refused, ended, try-pairs, try-trials, Stance, Sides, found, missing, overfull, sides-by, sides-from, side-nodes, try-both, try-first, stance, try-along, lies-left, try-seed, try-owner, try-quad}
 use Rattle.definition.specs.Front.{State, counting, after, make-attempt, past-limit, attempt, new-mesh, start}
 use Rattle.definition.specs.Call.{Asked, Lent, given-points, given-tris, given-locks, conditions, settings-within, settings}
-use Rattle.definition.specs.Preview.{Shown, shown, show-edge, cleared, Previewed, preview}
+use Rattle.definition.specs.Preview.{shown, show-edge, cleared, preview}
 use Rattle.laws.specs.Bools.{cond-ok}
 use Rattle.laws.specs.Lists.{known}
+use Rattle.laws.specs.Cells.{key-swap}
 use Rattle.account.specs.LiveTris.{live-tris-is}
 use Rattle.account.specs.Start.{start-tris}
 
@@ -35,10 +34,6 @@ unfolding preview
 preview-leaves a l u v = elim (known (find (λ c. c .1) (conditions a l))) [ inl f ↦ rw (f, preview) (inr refl) | inr f ↦ rw (f .1, preview) (inl refl) ]
 
 -- ---- the edge has no order
-
-key-swap : (u v : ℕ) → key u v ≡ key v u
-unfolding key
-key-swap u v = let a : min u v ≡ min v u = omega arith in let b : max u v ≡ max v u = omega arith in λ i. (a i, b i)
 
 pub either-order : (a : Asked) (l : Lent) (u v : ℕ) → preview a l u v ≡ preview a l v u
 unfolding preview

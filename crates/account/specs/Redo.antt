@@ -216,7 +216,7 @@ Enterable (was-split id p) = (p ≡ flat (p .x) (p .y)) × T (fits binary64 (p .
 Enterable (was-flipped e) = Unit {0}
 Enterable (was-placed q ids) = q .replaced ≡ length ids
 
-placed-last : (us : List Event) (v : Event) → quads-placed (us ++ (v ∷ [])) ≡ quads-placed us ++ quads-placed (v ∷ [])
+pub placed-last : (us : List Event) (v : Event) → quads-placed (us ++ (v ∷ [])) ≡ quads-placed us ++ quads-placed (v ∷ [])
 unfolding quads-placed
 placed-last [] v = refl
 placed-last (was-split id p ∷ us) v = placed-last us v

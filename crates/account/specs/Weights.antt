@@ -1,27 +1,26 @@
 -- Sums over lists in any order, and the triangles of a region taken out of the live cells.
 use mathlib.Core.Path.{_≡_, refl, sym, ap, _∙_, subst}
-use mathlib.Core.Bool.{Bool, true, false, not, _&&_, _||_}
+use mathlib.Core.Bool.{true}
 use mathlib.Core.Logic.{inl, inr}
 use mathlib.Core.List.{List, [], _∷_, _++_, map, append-nil}
 use mathlib.Core.Option.{Option, none, some}
-use Prim.{tt}
 use Prim.Native.Nat.{ℕ, zero, suc, _+_, _≤_, min}
 use native.Mathlib.Omega.{arith}
-use lib.Dec.{eqb, ltb}
+use lib.Dec.{ltb}
 use lib.ListN.{length}
-use borrow.Author.Tests.{eqb-true, eq-eqb, ltb-true, ltb-false}
+use borrow.Author.Tests.{ltb-true, ltb-false}
 use Rattle.definition.specs.Lists.{filter, any, all, flat-map}
-use Rattle.definition.specs.Plane.{Edge}
-use Rattle.definition.specs.Cells.{Quad, Live, Mesh, live-tri, quad-edges, tri-of, tris-of, in-slot, cell-of, among, without, without-all}
-use Rattle.definition.specs.Region.{reach-all, across, flood, cell-inside, area-agrees, fills, region-from, region}
+use Rattle.definition.specs.Cells.{Quad, Live, Mesh, live-tri, quad-edges, tri-of, tris-of, cell-of, among, without, without-all}
+use Rattle.definition.specs.Region.{cell-inside, area-agrees, fills, region-from, region}
 use Rattle.definition.specs.Account.{Rearranged, sum}
-use Rattle.laws.specs.Bools.{which, both, never}
-use Rattle.laws.specs.Lists.{In, in-left, filter-all, filter-filter, known, no-some}
+use Rattle.laws.specs.Bools.{which, both}
+use Rattle.laws.specs.Lists.{In, filter-all, no-some}
+use Rattle.laws.specs.Cells.{one-by-one}
 use Rattle.account.specs.Rearranged.{number, number-append, number-cons}
 use Rattle.account.specs.Flips.{Tri-at}
 use Rattle.account.specs.Valid.{Slots, slots-filter, without-in, taken-out, Valid, one-cell}
 use Rattle.account.specs.Found.{All-tris, cell-live, region-so, region-tris, filled-is}
-use Rattle.account.specs.Floods.{Flooding, flooding-step, flooding-start}
+use Rattle.account.specs.Floods.{flooding-start, flood-slots}
 use Rattle.account.specs.Fits.{slots-number}
 
 -- ---- a sum has no order
@@ -76,23 +75,6 @@ module _ {A : Type 0} (w : A → ℕ) where
 
 -- ---- the cells of a region taken out
 
-eqb-turned : (a b : ℕ) → eqb a b ≡ eqb b a
-eqb-turned a b = elim (which (eqb a b)) [
-  | inl e ↦ e ∙ sym (eq-eqb b a (sym (eqb-true a b e)))
-  | inr e ↦ elim (which (eqb b a)) [ inl f ↦ never (eqb a b) (eq-eqb a b (sym (eqb-true b a f))) e | inr f ↦ e ∙ sym f ]
-]
-
-neither : (a b : Bool) → (not a && not b) ≡ not (a || b)
-neither true b = refl
-neither false b = refl
-
--- the first slot, and then the others
-one-by-one : (c : Live) (cs xs : List Live) → without-all cs (without (c .slot) xs) ≡ without-all (c ∷ cs) xs
-unfolding without-all without among in-slot any
-one-by-one c cs xs =
-    filter-filter (λ x. not (any (λ y. eqb (x .slot) (y .slot)) cs)) (λ x. not (eqb (c .slot) (x .slot))) (λ x. not (eqb (x .slot) (c .slot) || any (λ y. eqb (x .slot) (y .slot)) cs)) xs
-    (λ x. ap (λ b. not b && not (any (λ y. eqb (x .slot) (y .slot)) cs)) (eqb-turned (c .slot) (x .slot)) ∙ neither (eqb (x .slot) (c .slot)) (any (λ y. eqb (x .slot) (y .slot)) cs))
-
 -- live cells in different slots, taken out
 pub all-taken-out : (cells xs : List Live) → Slots xs → Slots cells → ((x : Live) → In x cells → In x xs) → Rearranged (tris-of xs) (tris-of (without-all cells xs) ++ tris-of cells)
 unfolding tris-of flat-map without without-all among any
@@ -106,19 +88,6 @@ all-taken-out (c ∷ cs) xs h k l p =
     omega (arith, a, b, d, number-append p (tris-of ys) (tri-of (c .cell)), number-append p (tris-of (without-all cs ys)) (tris-of cs), number-append p r (tri-of (c .cell) ++ tris-of cs), number-append p (tri-of (c .cell)) (tris-of cs))
 
 -- ---- the region of a quad
-
-slots-first : (xs ys : List Live) → Slots (xs ++ ys) → Slots xs
-slots-first [] ys h = tt
-slots-first (x ∷ xs) ys h = (λ y i. h .0 y (in-left y xs ys i), slots-first xs ys (h .1))
-
-flood-slots : (n : ℕ) (m : Mesh) (sides : List Edge) (done todo cells : List Live) → Flooding m done todo → flood n m sides done todo ≡ some cells → Slots cells
-unfolding flood
-flood-slots zero m sides done todo cells h e = let f : done ≡ cells = cc in subst (λ l. Slots l) f (slots-first done todo (h .slots))
-flood-slots (suc n) m sides done [] cells h e = let f : done ≡ cells = cc in subst (λ l. Slots l) f (slots-first done [] (h .slots))
-flood-slots (suc n) m sides done (x ∷ todo) cells h e = elim (known (reach-all (done ++ (x ∷ [])) todo (across m sides x))) [
-  | inl f ↦ no-some cells (rw (f, flood) at e)
-  | inr f ↦ flood-slots n m sides (done ++ (x ∷ [])) (f .0) cells (flooding-step m sides done x todo (f .0) h (f .1)) (rw (f .1, flood) at e)
-]
 
 -- what is known of a region
 pub record Known-region (m : Mesh) (q : Quad) (cells : List Live) : Type 0 where

@@ -1,30 +1,29 @@
 -- An attempt that was counted: what its callees ask, and what it leaves.
 use mathlib.Core.Path.{_≡_, refl, ap, sym, _∙_, subst}
 use mathlib.Core.Bool.{Bool, true, false, not, _||_}
-use mathlib.Core.Logic.{inl, inr, _≢_}
+use mathlib.Core.Logic.{inl, inr}
 use mathlib.Core.List.{List, [], _∷_, _++_}
-use Prim.{⊥, absurd, tt}
-use Prim.Native.Nat.{ℕ, suc, _+_, _-_, _*_, _^_, _<_, _≤_}
+use Prim.{⊥, absurd}
+use Prim.Native.Nat.{ℕ, _+_, _-_, _*_, _^_, _<_, _≤_}
 use native.Mathlib.Nat.{mul-le-mul-right}
 use native.Mathlib.Omega.{arith}
 use lib.Dec.{ltb}
 use lib.Ieee.{Float}
-use borrow.Author.Tests.{lt-ltb, le-ltb, not-true, not-false}
+use borrow.Author.Tests.{not-true, not-false}
 use lib.ListN.{length, drop, length-append}
 use lib.Seq.{drop-drop}
 use Rattle.definition.specs.Lists.{flat-map}
 use Rattle.definition.specs.Numbers.{max-attempts, max-triangles}
 use Rattle.definition.specs.Counts.{Counts, tally, _⊞_, one-attempt, Spent, nothing-spent, spending, at-limit, Refusal, Placement, refused-by, Want, of-points, of-slots, of-trace}
 use Rattle.definition.specs.Plane.{Node, Edge}
-use Rattle.definition.specs.Cells.{Mesh, Quad, new-quad, born, quad-nodes, key, is-front, live-tris, same-edge, has-edge-in, this-round}
+use Rattle.definition.specs.Cells.{Mesh, Quad, new-quad, born, quad-nodes, key, is-front, live-tris, this-round}
 use Rattle.definition.specs.Attempt.{Attempt, placed, refused, ended, try-quad}
 use Rattle.definition.specs.Front.{State, counting, freed, after, make-attempt, past-limit, attempt}
 use Rattle.definition.specs.Call.{quad-words}
-use Rattle.definition.specs.Account.{All, Pairwise}
-use Rattle.laws.specs.Bools.{which, never}
-use Rattle.laws.specs.Lists.{In, all-from, in-right, none-in}
-use Rattle.laws.specs.Cells.{same-self}
+use Rattle.definition.specs.Account.{All}
+use Rattle.laws.specs.Lists.{In, in-right}
 use Rattle.laws.specs.Frames.{Under}
+use Rattle.laws.specs.Slices.{quads-length, onto-length}
 use Rattle.account.specs.Counting.{added-refused}
 use Rattle.joints.specs.Table.{Locks}
 use Rattle.traces.specs.Log.{Logged}
@@ -43,9 +42,8 @@ use Rattle.cells.specs.Rep.{Rep}
 use Rattle.cells.proofs.Frames.{rep-under}
 use Rattle.cells.proofs.Edges.{key-up}
 use Rattle.cells.specs.declared.counters.Counters.{Counters}
-use Rattle.blocked_edges.specs.Records.{IsEdge, Distinct, Kept, Same, size}
+use Rattle.blocked_edges.specs.Records.{IsEdge, Kept, Same, size}
 use Rattle.blocked_edges.specs.Blocks.{Blocks, with-edge}
-use Rattle.blocked_edges.proofs.Edges.{with-old, with-new}
 use Rattle.blocked_edges.proofs.Room.{with-distinct}
 use Rattle.blocked_edges.proofs.Framing.{framed}
 use Rattle.outcomes.specs.Ready.{Small, Ready, Behind, Beyond}
@@ -59,7 +57,6 @@ use Rattle.try_quad.specs.Tries.{CanAttempt}
 use Rattle.settling.specs.Standings.{counts-of, sort-of, FewTally, CountedOne, CountsMore}
 use Rattle.settling.specs.Settles.{Kept-so-far, QuadFits, next-quad, CanSettle, SettleTo}
 use Rattle.attempts.specs.Runs.{Setup, Fixed, Holds, Goes, FrontKept, Makes, Stepped, StepTo}
-use Rattle.settling.proofs.Texts.{numbers-length, onto-length}
 use Rattle.settling.proofs.Settling.{sort-of-refusal, sort-of-want, want-sort}
 use Rattle.attempts.proofs.Apart.{pairwise-of, with-in}
 use Rattle.attempts.proofs.Reaching.{Fine, Q, R, Gets, sound, attempt-fine, reach-within, reach-never, made-mismatch}
@@ -266,7 +263,7 @@ module _ (x : Setup) (w : List ℕ) (q : List Float) (quads tr : List ℕ) (g : 
 
   quads-long : length quads ≡ length (x .begun .old)
   unfolding counting
-  quads-long = ap length (k .holds .so-far .text) ∙ onto-length (flat-map quad-words (st .quads)) (x .begun .old) (omega (arith, numbers-length (st .quads), quads-few, fx .room))
+  quads-long = ap length (k .holds .so-far .text) ∙ onto-length (flat-map quad-words (st .quads)) (x .begun .old) (omega (arith, quads-length (st .quads), quads-few, fx .room))
 
   -- ---- with its end
 

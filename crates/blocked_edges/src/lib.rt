@@ -1,4 +1,5 @@
 // Refused edges in lent memory: records that are never removed, in an area of a slice at b with room for n records and p nodes.
+use words::wide;
 ghost use mathlib.Core.Path.{_≡_};
 ghost use mathlib.Core.List.{List};
 ghost use Prim.Native.Nat.{ℕ, _^_, _<_, _≤_};
@@ -6,13 +7,6 @@ ghost use Rattle.definition.specs.Plane.{Edge};
 ghost use Rattle.definition.specs.Cells.{has-edge-in};
 ghost use Rattle.blocked_edges.specs.Records.{Room, IsEdge, Lists, list-of, place};
 ghost use Rattle.blocked_edges.specs.Blocks.{Blocks, OpenTo, CanBlock, BlockTo, CanFree, FreeTo};
-
-// A number of the slice as an index.
-fn wide(x: u32) -> usize
-    ensures { λ r. ⌜ r ≡ x ⌝ }
-{
-    x as usize
-}
 
 // From any content to no edge refused.
 pub fn open(w: &mut [u32], b: usize, n: usize, p: usize)

@@ -6,12 +6,11 @@ use Prim.Native.Nat.{ℕ, zero, suc, _+_, _-_, _*_, _≤_, _<_}
 use native.Mathlib.Numerals.{add-one}
 use native.Mathlib.Omega.{arith}
 use lib.ListN.{length, getD, set, take, drop, length-append}
-use lib.Seq.{drop-cons}
 use lib.Ieee.{Float}
 use Rattle.rings.specs.Rings.{Below}
 use Rattle.definition.specs.Lists.{filter, numbers, below}
 use Rattle.definition.specs.Cells.{Live, Mesh}
-use Rattle.laws.specs.Lists.{numbers-snoc, filter-yes, filter-no, Stored, stored-kept, stored-snoc}
+use Rattle.laws.specs.Lists.{numbers-snoc, filter-yes, filter-no, Stored, stored-kept, stored-snoc, stored-take}
 use Rattle.laws.specs.Frames.{on, off, Under}
 use Rattle.side_candidates.proofs.Scans.{in-hand}
 use Rattle.cells.proofs.Slots.{slots-length, rep-held}
@@ -213,12 +212,6 @@ module _ (w w1 : List ℕ) (q : List Float) (s p used n at a other seed k : ℕ)
         to = omega (arith, e, c .to);
         wish = z .wished;
       }
-
-stored-take : (w : List ℕ) (b : ℕ) (l : List ℕ) → b + length l ≤ length w → Stored w b l → take (length l) (drop b w) ≡ l
-stored-take w b [] h z = refl
-stored-take w b (x ∷ l) h z =
-    let y : Stored w (suc b) l = subst (λ (j : ℕ). Stored w j l) (add-one b) (z .1) in
-    ap (take (suc (length l))) (drop-cons w b 0 (omega arith)) ∙ ap (λ (j : ℕ). j ∷ take (length l) (drop (suc b) w)) (z .0) ∙ ap (λ (k : List ℕ). x ∷ k) (stored-take w (suc b) l (omega arith) y)
 
 stored-at : (w : List ℕ) (b : ℕ) (l : List ℕ) (i : ℕ) → i < length l → Stored w b l → getD w (b + i) 0 ≡ getD l i 0
 stored-at w b [] i h z = absurd (omega (arith, h))

@@ -9,6 +9,7 @@ use Rattle.rings.proofs.Lists.{Same, same, differ, decide}
 use Rattle.definition.specs.Lists.{any}
 use Rattle.definition.specs.Cells.{Tri, Quad, tri, quad, key, tri-has, has-side, has-edge-in, same-edge, quad-edges}
 use Rattle.laws.specs.Bools.{and-left, and-right, fails}
+pub use Rattle.laws.specs.Cells.{key-swap, key-up}
 
 -- the edge a-b is the edge u-v
 abbrev pub joins : ℕ → ℕ → ℕ → ℕ → Bool
@@ -50,15 +51,6 @@ keys u v a b = go (joins u v a b) refl
     go true h = yes-key (ends u v a b h)
     go false h = fails (eqb (min u v) (min a b) && eqb (max u v) (max a b))
         (λ t. false≢true (sym h ∙ join (decide a u) (eqb-true (min u v) (min a b) (and-left (eqb (min u v) (min a b)) (eqb (max u v) (max a b)) t)) (eqb-true (max u v) (max a b) (and-right (eqb (min u v) (min a b)) (eqb (max u v) (max a b)) t))))
-
--- an edge is the same from both ends
-pub key-swap : (u v : ℕ) → key u v ≡ key v u
-unfolding key
-key-swap u v = let p : min u v ≡ min v u = omega arith in let q : max u v ≡ max v u = omega arith in rw (p, q)
-
-pub key-up : (u v : ℕ) → u < v → key u v ≡ (u, v)
-unfolding key
-key-up u v h = let p : min u v ≡ u = omega arith in let q : max u v ≡ v = omega arith in rw (p, q)
 
 pub key-down : (u v : ℕ) → v < u → key u v ≡ (v, u)
 unfolding key

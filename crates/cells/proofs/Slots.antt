@@ -12,9 +12,11 @@ use Rattle.rings.specs.Rings.{Out, Distinct, without, Below}
 use Rattle.rings.proofs.Lists.{Same, same, differ, decide, without-hit, without-miss}
 use Rattle.definition.specs.Plane.{Node, Edge, point}
 use Rattle.definition.specs.Lists.{filter, find, first}
-use Rattle.definition.specs.Cells.{Tri, Quad, Cell, tri, quad, Live, Mesh, node-at, nodes, tri-nodes, quad-nodes, new-live, is-tri, live-tri, in-slot, cell-of, owns, owners, tri-owners, tri-owner, without as without-slot}
+use Rattle.definition.specs.Cells.{Tri, Quad, Cell, tri, quad, Live, Mesh, node-at, nodes, tri-nodes, quad-nodes, new-live, is-tri, live-tri, in-slot, cell-of, owns, owners, tri-owners, tri-owner, without as without-slot, Event, noting}
 use Rattle.definition.specs.Insertion.{with-point}
 use Rattle.laws.specs.Lists.{filter-yes, filter-no, In}
+use Rattle.laws.specs.Bools.{which}
+use Rattle.cells.proofs.Notes.{grown-same}
 use Rattle.cells.specs.Layout.{Sizes}
 use Rattle.cells.specs.Rep.{CellAt, Held, slots, Has, here, there, Room, Rep, TriIn, QuadIn, Cells}
 use Rattle.cells.specs.Walk.{node-in, CanSee, slot-or}
@@ -194,6 +196,24 @@ module _ (w : List ℕ) (s p : ℕ) (m : Mesh) (r : Rep w s p m) where
           let y : i ≡ x .slot = q ∙ ap (slot-or s) z in
           absurd (omega (arith, rep-held (owner-live m e (k .0)) .inside, r .used))
 
+-- no cell is found in a slot that none has
+pub find-out : (i : ℕ) (l : List Live) → Out i (slots l) → find (in-slot i) l ≡ none
+unfolding find in-slot
+find-out i [] o = refl
+find-out i (x ∷ l) o = rw (ne-eqb i (x .slot) (λ e. o .0 (sym e))) (find-out i l (o .1))
+
+pub cell-none : (m : Mesh) (i : ℕ) → Out i (slots (m .live)) → cell-of m i ≡ none
+unfolding cell-of
+cell-none m i o = find-out i (m .live) o
+
+pub cell-some : (w : List ℕ) (s p : ℕ) (m : Mesh) → Rep w s p m → (i : ℕ) (x : Live) → x .slot ≡ i → Has x (m .live) → cell-of m i ≡ some x
+cell-some w s p m r i x q h = subst (λ (j : ℕ). cell-of m j ≡ some x) q (rep-cell w s p m r h)
+
+-- an event that is noted changes nothing that the memory stands for
+pub rep-noting : (v : Event) (m : Mesh) (w : List ℕ) (s p : ℕ) → Rep w s p m → Rep w s p (noting v m)
+unfolding noting
+rep-noting v m w s p r = rep-as w s p m (noting v m) r (omega arith) (r .used) (grown-same m (noting v m) refl) (r .points) refl
+
 -- ---- live cells and their slots
 
 pub slots-length : (l : List Live) → length (slots l) ≡ length l
@@ -203,6 +223,23 @@ slots-length (x ∷ l) = ap suc (slots-length l)
 pub slots-below : (w : List ℕ) (s k n : ℕ) (l : List Live) → Cells w s k n l → Below k (slots l)
 slots-below w s k n [] h = tt
 slots-below w s k n (x ∷ l) h = (h .0 .inside, slots-below w s k n l (h .1))
+
+-- a filter of the cells keeps a slot out, the slots apart and below a number
+pub out-filter : (f : Live → Bool) (i : ℕ) (l : List Live) → Out i (slots l) → Out i (slots (filter f l))
+unfolding filter
+out-filter f i [] o = tt
+out-filter f i (x ∷ l) o = elim (which (f x)) [
+  | inl e ↦ rw e ((o .0, out-filter f i l (o .1)))
+  | inr e ↦ rw e (out-filter f i l (o .1))
+]
+
+pub distinct-filter : (f : Live → Bool) (l : List Live) → Distinct (slots l) → Distinct (slots (filter f l))
+unfolding filter
+distinct-filter f [] d = tt
+distinct-filter f (x ∷ l) d = elim (which (f x)) [
+  | inl e ↦ rw e ((out-filter f (x .slot) l (d .0), distinct-filter f l (d .1)))
+  | inr e ↦ rw e (distinct-filter f l (d .1))
+]
 
 pub slot-hit : (i : ℕ) (x : Live) (l : List Live) → x .slot ≡ i → without-slot i (x ∷ l) ≡ without-slot i l
 unfolding without-slot filter in-slot

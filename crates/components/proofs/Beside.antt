@@ -23,11 +23,12 @@ use Rattle.account.specs.Classes.{All-distinct, meets-says, shares-meets}
 use Rattle.account.specs.Sizes.{none-odd, sizes-even}
 use Rattle.cells.specs.Rep.{slots}
 use Rattle.cells.proofs.Corners.{slots-append}
+use Rattle.cells.proofs.Slots.{distinct-filter}
 use Rattle.components.specs.Flood.{body, Whole}
 use Rattle.components.specs.Near.{BesideOne}
 use Rattle.components.proofs.Members.{out-from, same-slot}
 use Rattle.components.proofs.Classes.{number-agree, number-none, number-all, count, classes-parted}
-use Rattle.components.proofs.Sweeps.{joined, in-joined, joined-in, Piece, number-map, same-number, distinct-left, distinct-filter, tris-body, left-over, left-tris, over-distinct, gone-or-left, in-left-over, left-over-in, over-tri, tri-over}
+use Rattle.components.proofs.Sweeps.{joined, in-joined, joined-in, Piece, number-map, same-number, distinct-left, tris-body, left-over, left-tris, over-distinct, gone-or-left, in-left-over, left-over-in, over-tri, tri-over}
 
 -- ---- even numbers of members
 

@@ -19,7 +19,7 @@ use Rattle.account.specs.Rearranged.{number, number-append}
 use Rattle.account.specs.Triangles.{Shares, turned, shares-self}
 use Rattle.account.specs.Classes.{All-apart, All-distinct, meets-says, shares-meets}
 use Rattle.cells.specs.Rep.{slots}
-use Rattle.cells.proofs.Slots.{rep-held, in-has}
+use Rattle.cells.proofs.Slots.{rep-held, in-has, distinct-filter}
 use Rattle.regions.specs.Listing.{Aside}
 use Rattle.regions.proofs.Listings.{aside-trans}
 use Rattle.components.specs.Flood.{body, Marked, Whole, Flooded}
@@ -153,14 +153,6 @@ distinct-left (x ∷ l) k d = (out-from (x .slot) l (λ y i q. out-not (x .slot)
 distinct-right : (l k : List Live) → Distinct (slots (l ++ k)) → Distinct (slots k)
 distinct-right [] k d = d
 distinct-right (x ∷ l) k d = distinct-right l k (d .1)
-
-pub distinct-filter : (c : Live → Bool) (l : List Live) → Distinct (slots l) → Distinct (slots (filter c l))
-unfolding filter
-distinct-filter c [] d = tt
-distinct-filter c (x ∷ l) d = elim (which (c x)) [
-  | inl e ↦ rw (filter-yes c x l e) (out-from (x .slot) (filter c l) (λ y i q. out-not (x .slot) y l (d .0) (in-filter c l i .0) q), distinct-filter c l (d .1))
-  | inr e ↦ rw (filter-no c x l e) (distinct-filter c l (d .1))
-]
 
 -- ---- the triangles that are left
 

@@ -1,6 +1,6 @@
 -- The box around a node and its neighbours, found in the node's ring.
 use mathlib.Core.Path.{_≡_, refl, ap, sym, _∙_, subst}
-use mathlib.Core.Logic.{_≢_, inl, inr}
+use mathlib.Core.Logic.{_≢_, _⊎_, inl, inr}
 use mathlib.Core.Bool.{Bool, true, false, _||_, or-true, false≢true}
 use mathlib.Core.List.{List}
 use Prim.Native.Nat.{ℕ, _+_, _*_, _≤_, _<_}
@@ -28,8 +28,6 @@ use Rattle.crossings.specs.Cross.{Known}
 use Rattle.crossings.specs.Boxes.{up, down, Starts, Comes, old, new, Picks, Bound, StartsAt, Widens, Bounds}
 use Rattle.crossings.specs.declared.boxes.Side.{Side}
 use Rattle.crossings.specs.declared.boxes.Sides.{Sides}
-use Rattle.crossings.proofs.Sorts as sorts
-use Rattle.crossings.proofs.Sorts.{Or}
 use Rattle.crossings.proofs.Sides.{edge-known}
 use Rattle.crossings.proofs.Crosses.{some-in, edge-some, own-hit, own-miss, own-keep}
 
@@ -80,7 +78,7 @@ pub record SideOf (R : Float → Float → Bool) (f : ℕ → Float) (m : Mesh) 
   pub known : b .node < length (m .points)
   pub at : b .at ≡ f (b .node)
   pub self : b .fine ≡ true → R (b .at) (f a) ≡ true
-  pub cover : b .fine ≡ true → (v : ℕ) → a ≢ v → has-edge m a v ≡ true → Or (R (b .at) (f v) ≡ true) (some-in (own a v rest) ≡ true)
+  pub cover : b .fine ≡ true → (v : ℕ) → a ≢ v → has-edge m a v ≡ true → (R (b .at) (f v) ≡ true) ⊎ (some-in (own a v rest) ≡ true)
 
 comes-known : (n : ℕ) (b : Side) (i : ℕ) (x : Float) (r : Side) → Comes b i x r → b .node < n → i < n → r .node < n
 comes-known n b i x r (old e g) h k = rw e h
@@ -97,7 +95,7 @@ module _ (R : Float → Float → Bool) (f : ℕ → Float) (m : Mesh) (a : ℕ)
         known = rw (s .node) h;
         at = s .at ∙ (ex ∙ ap f (sym (s .node)));
         self = λ e. rw (s .at, ← ex) (g (s .here e));
-        cover = λ e v d k. sorts.right (sym (edge-some m a v) ∙ k);
+        cover = λ e v d k. inr (sym (edge-some m a v) ∙ k);
       }
 
   -- two nodes more, which are all that the place had
@@ -112,14 +110,14 @@ module _ (R : Float → Float → Bool) (f : ℕ → Float) (m : Mesh) (a : ℕ)
         cover = λ e v d g. go e v d (s .cover (p1 .fine (p2 .fine e)) v d g) (decide x v) (decide y v);
       }
     where
-      go : b2 .fine ≡ true → (v : ℕ) → a ≢ v → Or (R (b .at) (f v) ≡ true) (some-in (own a v l) ≡ true) → Same x v → Same y v
-          → Or (R (b2 .at) (f v) ≡ true) (some-in (own a v l') ≡ true)
-      go e v d (sorts.left q) sx sy = let e1 = p2 .fine e in sorts.left (p2 .keeps e (f v) (p1 .keeps e1 (f v) q))
-      go e v d (sorts.right q) (same z) sy =
+      go : b2 .fine ≡ true → (v : ℕ) → a ≢ v → (R (b .at) (f v) ≡ true) ⊎ (some-in (own a v l) ≡ true) → Same x v → Same y v
+          → (R (b2 .at) (f v) ≡ true) ⊎ (some-in (own a v l') ≡ true)
+      go e v d (inl q) sx sy = let e1 = p2 .fine e in inl (p2 .keeps e (f v) (p1 .keeps e1 (f v) q))
+      go e v d (inr q) (same z) sy =
           let e1 = p2 .fine e in
-          sorts.left (p2 .keeps e (f v) (subst (λ (t : Float). R (b1 .at) t ≡ true) (ex ∙ ap f z) (p1 .here e1)))
-      go e v d (sorts.right q) (differ z) (same y') = sorts.left (subst (λ (t : Float). R (b2 .at) t ≡ true) (ey ∙ ap f y') (p2 .here e))
-      go e v d (sorts.right q) (differ z) (differ y') = sorts.right (skip v d z y' q)
+          inl (p2 .keeps e (f v) (subst (λ (t : Float). R (b1 .at) t ≡ true) (ex ∙ ap f z) (p1 .here e1)))
+      go e v d (inr q) (differ z) (same y') = inl (subst (λ (t : Float). R (b2 .at) t ≡ true) (ey ∙ ap f y') (p2 .here e))
+      go e v d (inr q) (differ z) (differ y') = inr (skip v d z y' q)
 
   side-end : (l : List Live) (b : Side) → ((v : ℕ) → a ≢ v → some-in (own a v l) ≡ true → ⊥) → SideOf R f m a l b → Bound R f m a b
   side-end l b none s = record { known = s .known; all = λ e v g. subst (λ (t : Float). R t (f v) ≡ true) (s .at) (go e v g) }
@@ -127,9 +125,9 @@ module _ (R : Float → Float → Bool) (f : ℕ → Float) (m : Mesh) (a : ℕ)
       own-self : (v : ℕ) → v ≡ a → b .fine ≡ true → R (b .at) (f v) ≡ true
       own-self v z e = subst (λ (i : ℕ). R (b .at) (f i) ≡ true) (sym z) (s .self e)
 
-      or : (v : ℕ) → a ≢ v → Or (R (b .at) (f v) ≡ true) (some-in (own a v l) ≡ true) → R (b .at) (f v) ≡ true
-      or v d (sorts.left q) = q
-      or v d (sorts.right q) = absurd (none v d q)
+      or : (v : ℕ) → a ≢ v → (R (b .at) (f v) ≡ true) ⊎ (some-in (own a v l) ≡ true) → R (b .at) (f v) ≡ true
+      or v d (inl q) = q
+      or v d (inr q) = absurd (none v d q)
 
       on : (v : ℕ) → b .fine ≡ true → has-edge m a v ≡ true → Same a v → R (b .at) (f v) ≡ true
       on v e g (same z) = own-self v (sym z) e

@@ -15,12 +15,13 @@ use Rattle.definition.specs.Plane.{Edge}
 use Rattle.definition.specs.Lists.{filter, any, first}
 use Rattle.definition.specs.Cells.{Live, Mesh, key, has-side, owns, has-edge, edge-before, all-edges}
 use Rattle.definition.specs.Flips.{is-crossing, first-crossing}
+use Rattle.laws.specs.Lists.{In, in-filter, filter-in}
 use Rattle.cells.specs.Layout.{rings-at}
 use Rattle.cells.specs.Rep.{Rep}
 use Rattle.cells.specs.Walk.{own, Pos, left, beside, node-after, node-before, CanRead}
 use Rattle.cells.proofs.Walks.{There, there, seek-end, ended, start, pos-walk, can-read}
 use Rattle.crossings.specs.Cross.{Choice, stays, takes, Meets, LeastAt, NoneBelow, FirstAt}
-use Rattle.crossings.proofs.Sorts.{In, sort-least, sort-none, in-filter, filter-in}
+use Rattle.crossings.proofs.Sorts.{sort-least, sort-none}
 use Rattle.crossings.proofs.Sides.{edge-of, edge-in, edge-known}
 
 -- ---- some owner
@@ -191,7 +192,7 @@ not-before e a b h k = go (decide (e .0) a)
 module _ (w : List ℕ) (s p n u v : ℕ) (m : Mesh) (r : Rep w s p m) where
   meets-of : (e : Edge) → In e (filter (is-crossing m u v) (all-edges m)) → Meets m u v (e .0) (e .1)
   meets-of e h =
-      let k = in-filter (is-crossing m u v) e (all-edges m) h in
+      let k = in-filter (is-crossing m u v) (all-edges m) h in
       let g = edge-of w s p m r e (k .0) in
       record { up = g .up; edge = g .has; crosses = k .1 }
 
@@ -210,7 +211,7 @@ module _ (w : List ℕ) (s p n u v : ℕ) (m : Mesh) (r : Rep w s p m) where
       let g = l .meets h in
       record {
         is = sort-least edge-before edges-total (a, b) (filter (is-crossing m u v) (all-edges m))
-            (filter-in (is-crossing m u v) (a, b) (all-edges m) (edge-in m a b (g .up) (g .edge)) (g .crosses))
+            (filter-in (is-crossing m u v) (all-edges m) (edge-in m a b (g .up) (g .edge)) (g .crosses))
             (λ e k. let z = meets-of e k in not-before e a b (low e z (ltb (e .0) a) refl) (λ q. l .least (e .1) (subst (λ (t : ℕ). Meets m u v t (e .1)) q z)));
         up = g .up;
         known = h;

@@ -1,72 +1,31 @@
 -- The edges of the mesh: each is the key of two nodes of a live cell, and an edge that a cell has is one of its edges.
 use mathlib.Core.Path.{_≡_, refl, ap, sym, _∙_, subst}
-use mathlib.Core.Logic.{_≢_}
-use mathlib.Core.Bool.{Bool, true, false, _&&_, _||_, false≢true}
-use mathlib.Core.List.{List, [], _∷_}
+use mathlib.Core.Logic.{_≢_, inl, inr}
+use mathlib.Core.Bool.{Bool, true, false, _&&_, _||_}
+use mathlib.Core.List.{List}
 use Prim.Native.Nat.{ℕ, _<_}
 use native.Mathlib.Omega.{arith}
 use lib.Dec.{eqb}
 use lib.ListN.{length}
 use borrow.Author.Tests.{eq-eqb}
 use Rattle.definition.specs.Plane.{Edge}
-use Rattle.definition.specs.Lists.{any, flat-map}
-use Rattle.definition.specs.Cells.{Tri, Quad, Cell, tri, quad, Live, Mesh, nodes, quad-nodes, key, edges, tri-edges, quad-edges, same-edge, tri-has, has-side, has-edge-in, has-edge, owns, all-edges}
+use Rattle.definition.specs.Lists.{any}
+use Rattle.definition.specs.Cells.{Tri, Quad, Cell, tri, quad, Mesh, nodes, quad-nodes, key, edges, tri-edges, quad-edges, same-edge, tri-has, has-side, has-edge-in, has-edge, owns, all-edges}
 use Rattle.laws.specs.Bools.{and-left, and-right}
 use Rattle.laws.specs.Cells.{same-self, same-is}
-use Rattle.cells.specs.Rep.{Shape, Has, here, there, Rep}
+use Rattle.laws.specs.Lists.{In, in-any, any-in, in-flat-map, flat-map-in}
+use Rattle.cells.specs.Rep.{Shape, Rep}
 use Rattle.cells.proofs.Edges.{key-up, key-down, tri-side}
-use Rattle.cells.proofs.Slots.{rep-held}
-use Rattle.crossings.proofs.Sorts.{Or, left, right, In, in-left, in-right, in-append}
+use Rattle.cells.proofs.Slots.{rep-held, in-has}
 use Rattle.crossings.proofs.Tris.{TriOk, tri-ok, Which, is0, is1, is2, which}
 
--- ---- lists
+-- ---- an edge among others
 
-any-hit : {A : Type 0} (f : A → Bool) (x : A) (l : List A) → f x ≡ true → any f (x ∷ l) ≡ true
-unfolding any
-any-hit f x l h = rw h
+edge-listed : (e : Edge) (l : List Edge) → In e l → any (same-edge e) l ≡ true
+edge-listed e l i = in-any (same-edge e) l (e, i, same-self e)
 
-any-more : {A : Type 0} (f : A → Bool) (x : A) (l : List A) → any f l ≡ true → any f (x ∷ l) ≡ true
-unfolding any
-any-more f x l h = go (f x)
-  where
-    go : (b : Bool) → (b || any f l) ≡ true
-    go true = refl
-    go false = h
-
-has-any : (f : Live → Bool) (x : Live) (l : List Live) → Has x l → f x ≡ true → any f l ≡ true
-has-any f x (y ∷ l) here e = any-hit f x l e
-has-any f x (y ∷ l) (there h) e = any-more f y l (has-any f x l h e)
-
-record Some (f : Live → Bool) (l : List Live) : Type 0 where
-  pub x : Live
-  pub has : Has x l
-  pub is : f x ≡ true
-
-any-has : (f : Live → Bool) (l : List Live) → any f l ≡ true → Some f l
-unfolding any
-any-has f [] h = absurd (false≢true h)
-any-has f (x ∷ l) h = go (f x) refl (any-has f l)
-  where
-    on : Some f l → Some f (x ∷ l)
-    on z = record { x = z .x; has = there (z .has); is = z .is }
-
-    go : (b : Bool) → f x ≡ b → (any f l ≡ true → Some f l) → Some f (x ∷ l)
-    go true e r = record { x = x; has = here; is = e }
-    go false e r = on (r (sym (rw e) ∙ h))
-
-in-any : (e : Edge) (l : List Edge) → In e l → any (same-edge e) l ≡ true
-in-any e [] h = absurd h
-in-any e (f ∷ l) (left q) = any-hit (same-edge e) f l (subst (λ (g : Edge). same-edge e g ≡ true) (sym q) (same-self e))
-in-any e (f ∷ l) (right h) = any-more (same-edge e) f l (in-any e l h)
-
-any-in : (e : Edge) (l : List Edge) → any (same-edge e) l ≡ true → In e l
-unfolding any
-any-in e [] h = absurd (false≢true h)
-any-in e (f ∷ l) h = go (same-edge e f) refl (any-in e l)
-  where
-    go : (b : Bool) → same-edge e f ≡ b → (any (same-edge e) l ≡ true → In e l) → In e (f ∷ l)
-    go true q r = left (sym (same-is e f q))
-    go false q r = right (r (sym (rw q) ∙ h))
+listed-edge : (e : Edge) (l : List Edge) → any (same-edge e) l ≡ true → In e l
+listed-edge e l h = let r = any-in (same-edge e) l h in subst (λ (f : Edge). In f l) (sym (same-is e (r .0) (r .2))) (r .1)
 
 -- ---- an edge of a cell
 
@@ -106,37 +65,37 @@ module _ (t : Tri) where
   unfolding tri-has
   has2 = rw (eq-eqb (t .n2) (t .n2) refl) (last (eqb (t .n0) (t .n2)) (eqb (t .n1) (t .n2)))
 
-  tri-key : (n x y : ℕ) (e : Edge) → key x y ≡ e → tri-has t x ≡ true → tri-has t y ≡ true → x ≢ y → x < n → y < n → Side n (tri t) e
+  tri-key : (n x y : ℕ) (e : Edge) → e ≡ key x y → tri-has t x ≡ true → tri-has t y ≡ true → x ≢ y → x < n → y < n → Side n (tri t) e
   tri-key n x y e q f g d h k =
-      subst (λ (z : Edge). Side n (tri t) z) q (record { up = key-above x y d; known = key-below n x y h k; has = tri-side t x y ∙ (rw (f, g)) })
+      subst (λ (z : Edge). Side n (tri t) z) (sym q) (record { up = key-above x y d; known = key-below n x y h k; has = tri-side t x y ∙ (rw (f, g)) })
 
   tri-edge : (n : ℕ) → TriOk n (t .n0) (t .n1) (t .n2) → (e : Edge) → In e (tri-edges t) → Side n (tri t) e
   unfolding tri-edges
-  tri-edge n o e (left q) = tri-key n (t .n0) (t .n1) e q has0 has1 (o .ab) (o .a-known) (o .b-known)
-  tri-edge n o e (right (left q)) = tri-key n (t .n1) (t .n2) e q has1 has2 (o .bc) (o .b-known) (o .c-known)
-  tri-edge n o e (right (right (left q))) = tri-key n (t .n2) (t .n0) e q has2 has0 (o .ca) (o .c-known) (o .a-known)
-  tri-edge n o e (right (right (right h))) = absurd h
+  tri-edge n o e (inl q) = tri-key n (t .n0) (t .n1) e q has0 has1 (o .ab) (o .a-known) (o .b-known)
+  tri-edge n o e (inr (inl q)) = tri-key n (t .n1) (t .n2) e q has1 has2 (o .bc) (o .b-known) (o .c-known)
+  tri-edge n o e (inr (inr (inl q))) = tri-key n (t .n2) (t .n0) e q has2 has0 (o .ca) (o .c-known) (o .a-known)
+  tri-edge n o e (inr (inr (inr h))) = absurd h
 
 module _ (n : ℕ) (q : Quad) (e : Edge) where
-  quad-key : (x y : ℕ) → key x y ≡ e → In e (quad-edges q) → x ≢ y → x < n → y < n → Side n (quad q) e
+  quad-key : (x y : ℕ) → e ≡ key x y → In e (quad-edges q) → x ≢ y → x < n → y < n → Side n (quad q) e
   unfolding has-side has-edge-in
   quad-key x y z i d h k =
       record {
-        up = subst (λ (f : Edge). f .0 < f .1) z (key-above x y d);
-        known = subst (λ (f : Edge). f .1 < n) z (key-below n x y h k);
-        has = in-any e (quad-edges q) i;
+        up = subst (λ (f : Edge). f .0 < f .1) (sym z) (key-above x y d);
+        known = subst (λ (f : Edge). f .1 < n) (sym z) (key-below n x y h k);
+        has = edge-listed e (quad-edges q) i;
       }
 
   quad-edge : Shape n (quad q) → In e (quad-edges q) → Side n (quad q) e
   unfolding nodes quad-nodes quad-edges
-  quad-edge s (left z) = quad-key (q .n0) (q .n1) z (left z) (λ f. s .distinct .0 .0 (sym f)) (s .known .0) (s .known .1 .0)
-  quad-edge s (right (left z)) =
-      quad-key (q .n1) (q .n2) z (right (left z)) (λ f. s .distinct .1 .0 .0 (sym f)) (s .known .1 .0) (s .known .1 .1 .0)
-  quad-edge s (right (right (left z))) =
-      quad-key (q .n2) (q .n3) z (right (right (left z))) (λ f. s .distinct .1 .1 .0 .0 (sym f)) (s .known .1 .1 .0) (s .known .1 .1 .1 .0)
-  quad-edge s (right (right (right (left z)))) =
-      quad-key (q .n3) (q .n0) z (right (right (right (left z)))) (s .distinct .0 .1 .1 .0) (s .known .1 .1 .1 .0) (s .known .0)
-  quad-edge s (right (right (right (right h)))) = absurd h
+  quad-edge s (inl z) = quad-key (q .n0) (q .n1) z (inl z) (λ f. s .distinct .0 .0 (sym f)) (s .known .0) (s .known .1 .0)
+  quad-edge s (inr (inl z)) =
+      quad-key (q .n1) (q .n2) z (inr (inl z)) (λ f. s .distinct .1 .0 .0 (sym f)) (s .known .1 .0) (s .known .1 .1 .0)
+  quad-edge s (inr (inr (inl z))) =
+      quad-key (q .n2) (q .n3) z (inr (inr (inl z))) (λ f. s .distinct .1 .1 .0 .0 (sym f)) (s .known .1 .1 .0) (s .known .1 .1 .1 .0)
+  quad-edge s (inr (inr (inr (inl z)))) =
+      quad-key (q .n3) (q .n0) z (inr (inr (inr (inl z)))) (s .distinct .0 .1 .1 .0) (s .known .1 .1 .1 .0) (s .known .0)
+  quad-edge s (inr (inr (inr (inr h)))) = absurd h
 
 cell-edge : (n : ℕ) (c : Cell) → Shape n c → (e : Edge) → In e (edges c) → Side n c e
 unfolding edges
@@ -144,27 +103,27 @@ cell-edge n (tri t) s e h = tri-edge t n (tri-ok n t s) e h
 cell-edge n (quad q) s e h = quad-edge n q e s h
 
 module _ (a b : ℕ) (up : a < b) where
-  forth : (x y : ℕ) → x ≡ a → y ≡ b → key x y ≡ (a, b)
-  forth x y e f = rw (e, f) (key-up a b up)
+  forth : (x y : ℕ) → x ≡ a → y ≡ b → (a, b) ≡ key x y
+  forth x y e f = rw (e, f) (sym (key-up a b up))
 
-  back : (x y : ℕ) → x ≡ b → y ≡ a → key x y ≡ (a, b)
-  back x y e f = rw (e, f) (key-down b a up)
+  back : (x y : ℕ) → x ≡ b → y ≡ a → (a, b) ≡ key x y
+  back x y e f = rw (e, f) (sym (key-down b a up))
 
   edge-tri : (t : Tri) → Which t a → Which t b → In (a, b) (tri-edges t)
   unfolding tri-edges
   edge-tri t (is0 e) (is0 f) = absurd (omega arith)
-  edge-tri t (is0 e) (is1 f) = left (forth (t .n0) (t .n1) e f)
-  edge-tri t (is0 e) (is2 f) = right (right (left (back (t .n2) (t .n0) f e)))
-  edge-tri t (is1 e) (is0 f) = left (back (t .n0) (t .n1) f e)
+  edge-tri t (is0 e) (is1 f) = inl (forth (t .n0) (t .n1) e f)
+  edge-tri t (is0 e) (is2 f) = inr (inr (inl (back (t .n2) (t .n0) f e)))
+  edge-tri t (is1 e) (is0 f) = inl (back (t .n0) (t .n1) f e)
   edge-tri t (is1 e) (is1 f) = absurd (omega arith)
-  edge-tri t (is1 e) (is2 f) = right (left (forth (t .n1) (t .n2) e f))
-  edge-tri t (is2 e) (is0 f) = right (right (left (forth (t .n2) (t .n0) e f)))
-  edge-tri t (is2 e) (is1 f) = right (left (back (t .n1) (t .n2) f e))
+  edge-tri t (is1 e) (is2 f) = inr (inl (forth (t .n1) (t .n2) e f))
+  edge-tri t (is2 e) (is0 f) = inr (inr (inl (forth (t .n2) (t .n0) e f)))
+  edge-tri t (is2 e) (is1 f) = inr (inl (back (t .n1) (t .n2) f e))
   edge-tri t (is2 e) (is2 f) = absurd (omega arith)
 
   edge-quad : (q : Quad) → has-side (key a b) (quad q) ≡ true → In (a, b) (quad-edges q)
   unfolding has-side has-edge-in
-  edge-quad q k = subst (λ (e : Edge). In e (quad-edges q)) (key-up a b up) (any-in (key a b) (quad-edges q) k)
+  edge-quad q k = subst (λ (e : Edge). In e (quad-edges q)) (key-up a b up) (listed-edge (key a b) (quad-edges q) k)
 
   edge-cell : (c : Cell) → has-side (key a b) c ≡ true → In (a, b) (edges c)
   unfolding edges
@@ -175,28 +134,6 @@ module _ (a b : ℕ) (up : a < b) where
 
 -- ---- the edges of the mesh
 
-record Of (e : Edge) (l : List Live) : Type 0 where
-  pub x : Live
-  pub has : Has x l
-  pub at : In e (edges (x .cell))
-
-flat-of : (e : Edge) (l : List Live) → In e (flat-map (λ x. edges (x .cell)) l) → Of e l
-unfolding flat-map
-flat-of e [] h = absurd h
-flat-of e (x ∷ l) h = go (in-append e (edges (x .cell)) (flat-map (λ y. edges (y .cell)) l) h) (flat-of e l)
-  where
-    on : Of e l → Of e (x ∷ l)
-    on z = record { x = z .x; has = there (z .has); at = z .at }
-
-    go : Or (In e (edges (x .cell))) (In e (flat-map (λ y. edges (y .cell)) l)) → (In e (flat-map (λ y. edges (y .cell)) l) → Of e l) → Of e (x ∷ l)
-    go (left a) r = record { x = x; has = here; at = a }
-    go (right a) r = on (r a)
-
-of-flat : (e : Edge) (x : Live) (l : List Live) → Has x l → In e (edges (x .cell)) → In e (flat-map (λ y. edges (y .cell)) l)
-unfolding flat-map
-of-flat e x (y ∷ l) here h = in-left e (edges (x .cell)) (flat-map (λ z. edges (z .cell)) l) h
-of-flat e x (y ∷ l) (there k) h = in-right e (edges (y .cell)) (flat-map (λ z. edges (z .cell)) l) (of-flat e x l k h)
-
 -- what is known of an edge of the mesh
 pub record Edged (m : Mesh) (e : Edge) : Type 0 where
   pub up : e .0 < e .1
@@ -206,19 +143,19 @@ pub record Edged (m : Mesh) (e : Edge) : Type 0 where
 pub edge-of : (w : List ℕ) (s p : ℕ) (m : Mesh) → Rep w s p m → (e : Edge) → In e (all-edges m) → Edged m e
 unfolding all-edges has-edge owns
 edge-of w s p m r e h =
-    let o = flat-of e (m .live) h in
-    let k = cell-edge (length (m .points)) (o .x .cell) (rep-held w s p m r (o .has) .shape) e (o .at) in
+    let o = in-flat-map (λ x. edges (x .cell)) e (m .live) h in
+    let k = cell-edge (length (m .points)) (o .0 .cell) (rep-held w s p m r (in-has (o .0) (m .live) (o .1)) .shape) e (o .2) in
     record {
       up = k .up;
       known = k .known;
-      has = has-any (owns (key (e .0) (e .1))) (o .x) (m .live) (o .has) (ap (λ (f : Edge). has-side f (o .x .cell)) (key-up (e .0) (e .1) (k .up)) ∙ k .has);
+      has = in-any (owns (key (e .0) (e .1))) (m .live) (o .0, o .1, ap (λ (f : Edge). has-side f (o .0 .cell)) (key-up (e .0) (e .1) (k .up)) ∙ k .has);
     }
 
 pub edge-in : (m : Mesh) (a b : ℕ) → a < b → has-edge m a b ≡ true → In (a, b) (all-edges m)
 unfolding all-edges has-edge owns
 edge-in m a b up h =
-    let o = any-has (owns (key a b)) (m .live) h in
-    of-flat (a, b) (o .x) (m .live) (o .has) (edge-cell a b up (o .x .cell) (o .is))
+    let o = any-in (owns (key a b)) (m .live) h in
+    flat-map-in (λ x. edges (x .cell)) (o .0) (a, b) (m .live) (o .1) (edge-cell a b up (o .0 .cell) (o .2))
 
 -- a node beside another is a node of the mesh
 pub edge-known : (w : List ℕ) (s p : ℕ) (m : Mesh) → Rep w s p m → (a b : ℕ) → a < b → has-edge m a b ≡ true → b < length (m .points)

@@ -1,6 +1,6 @@
 -- A double written as two words and read back.
-use mathlib.Core.Path.{_≡_, refl, ap, sym, _∙_, subst}
-use mathlib.Core.Bool.{Bool, true, false, not, false≢true}
+use mathlib.Core.Path.{_≡_, refl, sym, _∙_, subst}
+use mathlib.Core.Bool.{Bool, false, not, false≢true}
 use mathlib.Core.List.{List}
 use Prim.{absurd}
 use Prim.Native.Nat.{ℕ, _+_, _*_, _/_, _%_, _^_, _≤_}
@@ -9,22 +9,11 @@ use lib.Dec.{T}
 use lib.ListN.{length, getD, set, length-set}
 use lib.Ieee.{Float, nan, inf, fin, binary64, isNan, nanBits, ne, fits, toBits}
 use lib.Ieee.Bits.{ofBits-toBits, nanBits-is}
-use lib.Ieee.Compare.{differs-from-itself}
 use Rattle.definition.specs.Floats.{f64}
 use Rattle.laws.specs.Frames.{on, off}
 use Rattle.edge_candidates.specs.Words.{float-at, PutTo}
 
 -- ---- bits
-
-pub of-nan : (x : Float) → ne x x ≡ true → 9221120237041090560 ≡ toBits binary64 x
-unfolding toBits
-of-nan x h = let e : x ≡ nan = differs-from-itself x (subst T (sym h) tt) in ap (toBits binary64) (sym e)
-
-pub no-nan : (x : Float) → ne x x ≡ false → T (not (isNan x))
-unfolding ne isNan
-no-nan nan h = absurd (false≢true (sym h))
-no-nan (inf s) h = tt
-no-nan (fin s m e) h = tt
 
 pub a-number : (x : Float) → ne x x ≡ false → isNan x ≡ false
 unfolding ne isNan

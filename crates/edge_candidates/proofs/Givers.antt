@@ -7,7 +7,7 @@ use native.Mathlib.Omega.{arith}
 use lib.Dec.{eqb}
 use lib.ListN.{length, getD, set, length-set}
 use lib.Ieee.{Float}
-use Rattle.rings.specs.Rings.{nx, Below}
+use Rattle.rings.specs.Rings.{nx}
 use Rattle.rings.proofs.Lists.{Same, same, differ, decide, room}
 use Rattle.definition.specs.Plane.{Vec}
 use Rattle.definition.specs.Cells.{Live, Mesh}
@@ -18,6 +18,7 @@ use Rattle.cells.specs.Walk.{one-if, after, before, node-after, node-before, Ca
 use Rattle.cells.proofs.Frames.{rep-under}
 use Rattle.cells.proofs.Views as views
 use Rattle.cells.proofs.Walks.{start, pos-walk}
+use Rattle.cells.proofs.Slots.{slots-below}
 use Rattle.edge_candidates.specs.Wanted.{every, gives}
 use Rattle.edge_candidates.specs.Wishes.{Besides, Place, CanList, Kept, CanNode, NodeTo, ListedTo}
 use Rattle.edge_candidates.specs.declared.wishes.Found.{Found}
@@ -110,10 +111,6 @@ corners-few w s n u (x ∷ l) h = go (views.view w s n u x (h .0)) (corners-few 
     go : views.View w s u (x .slot) (x .cell) → length (corners l u) ≤ length (slots l) → length (corners (x ∷ l) u) ≤ length (slots (x ∷ l))
     go (views.off c f) r = rw c (omega (arith, r))
     go (views.on y c q b t) r = rw c (omega (arith, r))
-
-slots-below : (w : List ℕ) (s k n : ℕ) (l : List Live) → Cells w s k n l → Below k (slots l)
-slots-below w s k n [] h = tt
-slots-below w s k n (x ∷ l) h = (h .0 .inside, slots-below w s k n l (h .1))
 
 -- ---- the walk
 

@@ -9,16 +9,15 @@ use lib.Dec.{lit≤, lit<}
 use lib.Ieee.{Float, binary64, ofBits, add, mul}
 use Rattle.definition.specs.Floats.{f64, 0·0, 2·0}
 use Rattle.definition.specs.Floats as floats
-use Rattle.definition.specs.Plane.{Node, side}
+use Rattle.definition.specs.Plane.{Node}
 use Rattle.definition.specs.Plane as plane
 use Rattle.definition.specs.Exact.{arrow, exact-cross, twice-tri, twice-quad}
 use Rattle.exact.specs.Near.{Whole, Near, Within, within-mul, abs, abs-le, abs-cases, _⊕_, _⊖_, _⊗_, _⊙_}
-use Rattle.exact.specs.Values.{whole}
 use Rattle.exact.specs.Units.{ofℤ, add-same, cross-is, W}
 use Rattle.exact.specs.Cross.{crossW}
 use Rattle.exact.specs.Exactly.{Is, same, add-is, sub-is, mul-is, half-is, abs-is}
 use Rattle.exact.specs.Points.{At, exactly}
-use Rattle.exact.specs.Grid.{Grid-point, parts-of, is-parts, small, cross-parts, exactly-parts}
+use Rattle.exact.specs.Grid.{Grid-point, parts-of, is-parts, small, cross-parts, exactly-parts, within-difference}
 
 -- ---- any points: the unsigned area by differences, whatever the triangle's winding
 
@@ -99,9 +98,6 @@ scaled x k J h = elim (abs-cases k) [
     down : (x k : Whole) (n : ℕ) → k .1 ≡ k .0 + n → Near x (k ⊙ J ⊙ J) 0 → abs x ≡ n * (J * J)
     down x k n e h = abs-known' x (n * (J * J)) (omega (arith, ap (λ (z : ℕ). z * (J * J)) e))
 
-apart : (x y : Whole) → Within x 8192 → Within y 8192 → Within (x ⊖ y) 16384
-apart x y h k = omega arith
-
 both : (x y : Whole) → Within x 268435456 → Within y 268435456 → Within (x ⊖ y) 536870912
 both x y h k = omega arith
 
@@ -123,10 +119,10 @@ module _ (a b c : Node) (ga : Placed a) (gb : Placed b) (gc : Placed c) where
   turn-most =
       let xa = x-small a ga in
       let ya = y-small a ga in
-      let bx = apart (X b gb) (X a ga) (x-small b gb) xa in
-      let by = apart (Y b gb) (Y a ga) (y-small b gb) ya in
-      let cx = apart (X c gc) (X a ga) (x-small c gc) xa in
-      let cy = apart (Y c gc) (Y a ga) (y-small c gc) ya in
+      let bx = within-difference (X b gb) (X a ga) (x-small b gb) xa in
+      let by = within-difference (Y b gb) (Y a ga) (y-small b gb) ya in
+      let cx = within-difference (X c gc) (X a ga) (x-small c gc) xa in
+      let cy = within-difference (Y c gc) (Y a ga) (y-small c gc) ya in
       abs-le turn 536870912 (both ((X b gb ⊖ X a ga) ⊗ (Y c gc ⊖ Y a ga)) ((Y b gb ⊖ Y a ga) ⊗ (X c gc ⊖ X a ga)) (within-mul (X b gb ⊖ X a ga) (Y c gc ⊖ Y a ga) 16384 16384 bx cy) (within-mul (Y b gb ⊖ Y a ga) (X c gc ⊖ X a ga) 16384 16384 by cx))
 
   -- the float area

@@ -1,11 +1,11 @@
 -- Without a size the target is the edge's own length, and no length is off itself: half of it is not above it, nor one and a half times it below it, also as rounded. Assumes nothing.
 use mathlib.Core.Path.{_≡_, refl, sym, ap}
-use mathlib.Core.Bool.{Bool, true, false, _||_}
+use mathlib.Core.Bool.{true, false, _||_}
 use Prim.Native.Nat.{ℕ, _+_, _*_, _^_, _≤_, _<_}
 use native.Mathlib.Nat.{mul-le-mul, mul-le-mul-right}
 use native.Mathlib.Decide.{decLe}
 use native.Mathlib.Omega.{arith}
-use lib.Dec.{T, lit≤, eqb, eqb→eq, ltb→lt}
+use lib.Dec.{lit≤, eqb, eqb→eq, ltb→lt}
 use lib.Ieee.Fits.{and-l}
 use lib.Pow.{pow-pos}
 use lib.Ieee.{Float, nan, inf, fin, binary64, ofBits, up, down, mul, lt, eq, fits}
@@ -14,7 +14,7 @@ use Rattle.definition.specs.Floats as floats
 use Rattle.definition.specs.Numbers.{Settings, mismatch-low, mismatch-high, tiny-length}
 use Rattle.definition.specs.Plane.{size-mismatch}
 use Rattle.definition.specs.Attempt.{target-of}
-use Rattle.laws.specs.Bools.{to-T, fails}
+use Rattle.laws.specs.Bools.{to-T, refuted}
 use Rattle.exact.specs.Near.{Whole, Near, Within, within-mul, _⊗_, _⊙_}
 use Rattle.exact.specs.Values.{whole, Ok, mul-rel}
 use Rattle.exact.specs.Order.{_⊏_, _⊑_, lt-whole, is-not}
@@ -60,9 +60,6 @@ high r X M Q H P q many e n = elim (decLe (X .0 + r .1) (r .0 + X .1)) [
       let s : 1 * 3 ≤ M * Q = mul-le-mul P many in
       absurd (omega (arith, ap (λ (z : ℕ). z * M) q, ap (λ (z : ℕ). 3 * M * z * Q) e))
 ]
-
-refuted : (b : Bool) → (T b → ⊥) → b ≡ false
-refuted b h = fails b (λ e. h (to-T e))
 
 clash : (x y : Whole) → x ⊏ y → y ⊑ x → ⊥
 clash x y h k = omega arith

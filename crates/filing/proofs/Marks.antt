@@ -2,10 +2,9 @@
 use mathlib.Core.Path.{_≡_, refl, sym, ap, _∙_}
 use mathlib.Core.Bool.{Bool, true, false, not, cond}
 use mathlib.Core.Logic.{inl, inr, _≢_}
-use mathlib.Core.List.{List, [], _∷_}
+use mathlib.Core.List.{List}
 use Prim.{absurd}
-use Prim.Native.Nat.{ℕ, zero, suc, _+_, _-_, _*_, _≤_, _<_}
-use native.Mathlib.Nat.{not-suc-le-zero, le-of-suc-le-suc}
+use Prim.Native.Nat.{ℕ, _+_, _-_, _*_, _≤_, _<_}
 use native.Mathlib.Omega.{arith}
 use lib.Dec.{ltb}
 use lib.Ieee.{Float, nan}
@@ -13,6 +12,7 @@ use lib.ListN.{length, getD}
 use Rattle.definition.specs.Floats.{0·0}
 use Rattle.definition.specs.Call.{point-at}
 use Rattle.laws.specs.Bools.{which}
+use Rattle.laws.specs.Lists.{getD-any}
 use Rattle.filing.specs.declared.Order.{Order}
 use Rattle.filing.specs.declared.Order.the-variants.{Before, Same, After}
 use Rattle.sorting.specs.Rows.{row, row-next, row-none}
@@ -29,12 +29,6 @@ pub passes-on : (o p : Order) → is-same o ≡ true → p ≡ then o p
 passes-on Before p h = absurd (let z : _≡_ {A = ℕ} 0 1 = cc in omega arith)
 passes-on Same p h = refl
 passes-on After p h = absurd (let z : _≡_ {A = ℕ} 0 1 = cc in omega arith)
-
--- what stands in a list's place does not turn on the default
-pub getD-any : {A : Type 0} (l : List A) (i : ℕ) (d e : A) → i < length l → getD l i d ≡ getD l i e
-getD-any [] i d e h = absurd (not-suc-le-zero h)
-getD-any (x ∷ xs) zero d e h = refl
-getD-any (x ∷ xs) (suc i) d e h = getD-any xs i d e (le-of-suc-le-suc h)
 
 -- a number before another is the lesser one
 pub earlier-is : (a b : ℕ) → ltb a b ≡ earlier order-numbers a b

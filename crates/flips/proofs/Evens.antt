@@ -1,85 +1,37 @@
 -- A flip keeps the components even: where none was odd, none is odd after it.
-use mathlib.Core.Path.{_≡_, refl, ap, sym, _∙_, subst}
-use mathlib.Core.Logic.{_≢_, inl, inr}
+use mathlib.Core.Path.{_≡_, refl, sym, subst}
+use mathlib.Core.Logic.{inl, inr}
 use mathlib.Core.Bool.{Bool, true, false}
-use mathlib.Core.List.{List, [], _∷_}
+use mathlib.Core.List.{List}
 use mathlib.Core.Option.{some}
 use Prim.Native.Nat.{ℕ, _%_, _≤_, _<_}
 use native.Mathlib.Omega.{arith}
 use lib.Dec.{eqb}
-use lib.ListN.{length, getD, set}
+use lib.ListN.{getD, set}
 use borrow.Author.Tests.{eqb-true}
-use Rattle.rings.specs.Rings as rings
 use Rattle.definition.specs.Lists.{any}
 use Rattle.definition.specs.Plane.{Edge}
-use Rattle.definition.specs.Cells.{Tri, Quad, Cell, tri, quad, Live, Mesh, key, nodes, quad-nodes, owns, owners, has-edge, all-edges, tris-of}
+use Rattle.definition.specs.Cells.{Tri, Live, Mesh, key, owns, owners, has-edge, all-edges, tris-of}
 use Rattle.definition.specs.Components.{component-sizes, odd-one}
 use Rattle.definition.specs.Flips.{flip, flipped}
 use Rattle.definition.specs.Account.{Even}
 use Rattle.laws.specs.Bools.{which}
 use Rattle.laws.specs.Lists.{In, all-at, in-filter, in-any, any-in}
 use Rattle.laws.specs.Frames.{keeps-trans, keeps-set}
-use Rattle.account.specs.Triangles as triangles
 use Rattle.account.specs.Even.{All-even}
 use Rattle.account.specs.Classes.{All-distinct}
 use Rattle.account.specs.Sizes.{sizes-even, even-sizes, none-odd}
-use Rattle.account.specs.Valid.{Slots, Good-tri, Good-quad, Valid, in-tris}
 use Rattle.account.specs.Flips.{flip-made}
 use Rattle.account.specs.FlipKeeps.{flip-kept}
 use Rattle.cells.specs.Layout.{even-at, mesh-end}
-use Rattle.cells.specs.Rep.{Shape, Held, Has, slots, NoneOdd, Rep}
+use Rattle.cells.specs.Rep.{NoneOdd, Rep}
 use Rattle.cells.proofs.Edges.{key-up}
-use Rattle.cells.proofs.Slots.{rep-held, in-has}
 use Rattle.cells.proofs.Frames.{rep-even, even-noted}
 use Rattle.meshes.specs.Changes.{Turns}
-use Rattle.crossings.proofs.Sorts as sorts
-use Rattle.crossings.proofs.Sorts.{left, right}
-use Rattle.crossings.proofs.Tris.{TriOk, tri-ok}
 use Rattle.crossings.proofs.Sides.{edge-in}
+use Rattle.meshes.proofs.Valid.{valid}
 use Rattle.flips.specs.Nodes.{tri-read}
 use Rattle.flips.specs.Flip.{CanTurn, IsFlip}
-
--- ---- the mesh of a memory is valid
-
-slots-of : (l : List Live) → rings.Distinct (slots l) → Slots l
-slots-of [] h = tt
-slots-of (x ∷ l) h = (λ y i. out l (h .0) y i, slots-of l (h .1))
-  where
-    out : (k : List Live) → rings.Out (x .slot) (slots k) → (y : Live) → In y k → x .slot ≢ y .slot
-    out (z ∷ k) o y (inl e) q = o .0 (sym (ap (λ (t : Live). t .slot) e) ∙ sym q)
-    out (z ∷ k) o y (inr i) q = out k (o .1) y i q
-
-tri-good : (n : ℕ) (t : Tri) → TriOk n (t .n0) (t .n1) (t .n2) → Good-tri n t
-tri-good n t o = record { distinct = record { d01 = o .ab; d12 = o .bc; d20 = o .ca }; below = below }
-  where
-    below : (a : ℕ) → triangles.Has t a → a < n
-    below a (inl e) = rw e (o .a-known)
-    below a (inr (inl e)) = rw e (o .b-known)
-    below a (inr (inr e)) = rw e (o .c-known)
-
-quad-good : (n : ℕ) (q : Quad) → Shape n (quad q) → Good-quad n q
-unfolding nodes quad-nodes
-quad-good n q h =
-    let d = h .distinct in
-    record {
-      distinct = (
-        (λ e. d .0 .0 (sym e), (λ e. d .0 .1 .0 (sym e), (λ e. d .0 .1 .1 .0 (sym e), tt))),
-        ((λ e. d .1 .0 .0 (sym e), (λ e. d .1 .0 .1 .0 (sym e), tt)), ((λ e. d .1 .1 .0 .0 (sym e), tt), (tt, tt))),
-      );
-      below = (h .known .0, (h .known .1 .0, (h .known .1 .1 .0, (h .known .1 .1 .1 .0, tt))));
-    }
-
-pub valid : (w : List ℕ) (s p : ℕ) (m : Mesh) → Rep w s p m → Valid m
-valid w s p m r =
-    let n = length (m .points) in
-    let held : (x : Live) → In x (m .live) → Held w s (m .used) n x = λ x i. rep-held w s p m r (in-has x (m .live) i) in
-    let shape : (x : Live) (c : Cell) → In x (m .live) → x .cell ≡ c → Shape n c = λ x c i e. subst (λ (d : Cell). Shape n d) e (held x i .shape) in
-    record {
-      slots = slots-of (m .live) (r .distinct);
-      given = λ x i. held x i .inside;
-      tris = λ t i. let g = in-tris (m .live) t i in tri-good n t (tri-ok n t (shape (g .0) (tri t) (g .1) (g .2)));
-      quads = λ x q i e. quad-good n q (shape x (quad q) i e);
-    }
 
 -- ---- no component is odd
 
@@ -96,10 +48,6 @@ even-none ts d h = elim (which (any (λ n. eqb (n % 2) 1) (component-sizes ts)))
 
 -- ---- a flip
 
-to-in : (e : Edge) (l : List Edge) → sorts.In e l → In e l
-to-in e (d ∷ l) (left h) = inl (sym h)
-to-in e (d ∷ l) (right i) = inr (to-in e l i)
-
 module _ (m : Mesh) (u v : ℕ) (m' : Mesh) (up : u < v) (f : flip m (key u v) ≡ some m') where
   -- an edge that is flipped is one of the mesh
   there-is : has-edge m u v ≡ true
@@ -110,7 +58,7 @@ module _ (m : Mesh) (u v : ℕ) (m' : Mesh) (up : u < v) (f : flip m (key u v) �
       in-any (owns (key u v)) (m .live) (g .x, o .0, o .1)
 
   pub flipped-in : In (key u v) (all-edges m)
-  flipped-in = subst (λ (e : Edge). In e (all-edges m)) (sym (key-up u v up)) (to-in (u, v) (all-edges m) (edge-in m u v up there-is))
+  flipped-in = subst (λ (e : Edge). In e (all-edges m)) (sym (key-up u v up)) (edge-in m u v up there-is)
 
   pub flip-none-odd : (w : List ℕ) (s p : ℕ) → Rep w s p m → NoneOdd m → NoneOdd m'
   flip-none-odd w s p r h =

@@ -22,16 +22,16 @@ use Rattle.cells.specs.Walk.{At, Next}
 use Rattle.meshes.specs.Changes.{CanSet, tri-of-nodes}
 use Rattle.cells.proofs.Edges.{key-up, tri-side}
 use Rattle.cells.proofs.Owners.{Here, at-here, at-end}
-use Rattle.cells.proofs.Slots.{has-filter, rep-held, ReadTri, read-tri}
+use Rattle.cells.proofs.Slots.{has-filter, rep-held, ReadTri, read-tri, rep-noting}
 use Rattle.crossings.specs.Nodes.{Four}
 use Rattle.crossings.proofs.Tris.{TriOk, tri-ok, Which, is0, is1, is2, which, off-first, off-second, off-both}
+use Rattle.account.specs.Flips.{free-flip}
 use Rattle.flips.specs.Nodes.{tri-read}
 use Rattle.flips.specs.Flip.{Kinds, TwinsAt, CanTurn, FlipTo}
 use Rattle.flips.specs.Twins.{OfKinds, IsTwins}
 use Rattle.flips.specs.declared.flip.Turned.the-variants.{Not, Short, Flipped}
 use Rattle.flips.specs.declared.flip.Twins.{Twins}
 use Rattle.flips.specs.declared.flip.Twins.the-variants.{Two, Other}
-use Rattle.flips.proofs.Notes.{rep-noting}
 
 -- ---- the owners
 
@@ -59,19 +59,10 @@ pair-path o x y x' y' h p q = cc
 
 -- ---- the lock
 
-module _ (m : Mesh) (e : Edge) where
-  pub flip-locked : is-locked m e ≡ true → flip m e ≡ none
-  unfolding flip
-  flip-locked h = rw h
-
-  flip-free : is-locked m e ≡ false → flip m e ≡ flip-owners m e (owners m e)
-  unfolding flip
-  flip-free h = rw h
-
-  -- what its owners do not allow is no flip, locked or not
-  unturned : flip-owners m e (owners m e) ≡ none → flip m e ≡ none
-  unfolding flip
-  unturned h = cond-ok (λ o. o ≡ none) (is-locked m e) none (flip-owners m e (owners m e)) (λ z. refl) (λ z. h)
+-- what its owners do not allow is no flip, locked or not
+unturned : (m : Mesh) (e : Edge) → flip-owners m e (owners m e) ≡ none → flip m e ≡ none
+unfolding flip
+unturned m e h = cond-ok (λ o. o ≡ none) (is-locked m e) none (flip-owners m e (owners m e)) (λ z. refl) (λ z. h)
 
 -- the edge u-v is locked as the joints say
 pub lock-is : (m : Mesh) (u v : ℕ) (r : Bool) → u < v → r ≡ m .locked (u, v) → is-locked m (key u v) ≡ r
@@ -235,7 +226,7 @@ module _ (m : Mesh) (u v i j : ℕ) (up : u < v) (t : TwinsAt m u v i j) where
 
     pub flip-turned : is-locked m (key u v) ≡ false → r ≡ true → (o : Tri) → o ≡ t .s → flip m (key u v) ≡ some (flipped m (u, v) i o j x y)
     unfolding flip-tris
-    flip-turned l h o q = rw (flip-free m (key u v) l, flip-two, ← ex, ← ey, ← e, h) (ap (λ (z : Tri). some (flipped m (u, v) i z j x y)) (sym q))
+    flip-turned l h o q = rw (free-flip m (key u v) l, flip-two, ← ex, ← ey, ← e, h) (ap (λ (z : Tri). some (flipped m (u, v) i z j x y)) (sym q))
 
 module _ (w : List ℕ) (s p : ℕ) (m : Mesh) (u v : ℕ) (room : Bool) where
   pub flip-none : flip m (key u v) ≡ none → Rep w s p m → FlipTo w s p m (flip m (key u v)) room Not

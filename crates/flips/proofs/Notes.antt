@@ -1,29 +1,21 @@
--- An event that is noted changes nothing that the memory stands for.
+-- A noted event changes no point, and a flip notes its edge.
 use mathlib.Core.Path.{_≡_, refl, ap, subst}
 use mathlib.Core.List.{List}
 use mathlib.Core.Option.{some}
 use Prim.Native.Nat.{ℕ, _<_}
-use native.Mathlib.Omega.{arith}
 use lib.Ieee.{Float}
 use Rattle.definition.specs.Plane.{Edge}
 use Rattle.definition.specs.Cells.{Event, was-flipped, Mesh, key, noting, set-cell, with-live}
 use Rattle.definition.specs.Flips.{set-tris, flip}
 use Rattle.account.specs.Flips.{flip-made}
-use Rattle.cells.specs.Rep.{Rep, Pts}
+use Rattle.cells.specs.Rep.{Pts}
 use Rattle.cells.proofs.Edges.{key-up}
-use Rattle.cells.proofs.Frames.{rep-as}
-use Rattle.cells.proofs.Notes.{grown-same}
 use Rattle.cells.proofs.Points.{pts-as}
 use Rattle.traces.specs.Log.{Notes}
 
-module _ (v : Event) (m : Mesh) where
-  pub rep-noting : (w : List ℕ) (s p : ℕ) → Rep w s p m → Rep w s p (noting v m)
-  unfolding noting
-  rep-noting w s p r = rep-as w s p m (noting v m) r (omega arith) (r .used) (grown-same m (noting v m) refl) (r .points) refl
-
-  pub pts-noting : (q : List Float) (p : ℕ) → Pts q p m → Pts q p (noting v m)
-  unfolding noting
-  pts-noting q p r = pts-as q p m (noting v m) refl r
+pub pts-noting : (v : Event) (m : Mesh) (q : List Float) (p : ℕ) → Pts q p m → Pts q p (noting v m)
+unfolding noting
+pts-noting v m q p r = pts-as q p m (noting v m) refl r
 
 -- a flip notes its edge
 pub flip-notes : (m : Mesh) (e : Edge) (m' : Mesh) → flip m e ≡ some m' → Notes (was-flipped e) m m'

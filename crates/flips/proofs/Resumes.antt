@@ -16,7 +16,8 @@ use Rattle.cells.specs.Rep.{Rep}
 use Rattle.cells.proofs.Edges.{key-up}
 use Rattle.crossings.specs.Cross.{Meets, NoneBelow}
 use Rattle.flips.specs.Flip.{TwinsAt, StaysBelow}
-use Rattle.flips.proofs.Evens.{valid, flipped-in}
+use Rattle.meshes.proofs.Valid.{valid}
+use Rattle.flips.proofs.Evens.{flipped-in}
 use Rattle.flips.proofs.Recovers.{Kept, KeptBy, flip-kept}
 
 -- ---- edges, and what crosses

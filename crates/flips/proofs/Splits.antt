@@ -15,11 +15,10 @@ use Rattle.cells.specs.Rep.{Shape, Rep, Pts}
 use Rattle.cells.specs.Walk.{node-in, CanSee}
 use Rattle.meshes.specs.Changes.{CanSet, CanPush, tri-of-nodes}
 use Rattle.cells.proofs.Points.{read-point, pts-as, pts-more}
-use Rattle.cells.proofs.Slots.{rep-held, rep-see, tri-held}
+use Rattle.cells.proofs.Slots.{rep-held, rep-see, tri-held, rep-noting}
 use Rattle.crossings.proofs.Tris.{TriOk, tri-ok}
 use Rattle.flips.specs.Nodes.{tri-read}
 use Rattle.flips.specs.Split.{with-spot, HasRoom, CanSplit}
-use Rattle.flips.proofs.Notes.{rep-noting}
 use Rattle.flips.proofs.Flips.{ok-shape, tri-path}
 
 -- ---- the three parts

@@ -12,9 +12,9 @@ use Rattle.laws.specs.Frames.{on, off}
 use Rattle.cells.specs.Layout.{fronts-at, front-u-at, front-v-at}
 use Rattle.cells.specs.Notes.{ends, noted, Fronts}
 use Rattle.cells.proofs.Frames.{room-under, rep-under}
+use Rattle.meshes.proofs.Valid.{valid}
 use Rattle.front_edges.specs.Runs.{Ascending, pairs, Run, Beyond}
 use Rattle.front_edges.specs.Noting.{CanCopy, CopyTo, CanRepeat, EdgesTo}
-use Rattle.front_edges.proofs.Members.{valid}
 use Rattle.front_edges.proofs.Puts.{beyond-refl, beyond-trans, beyond-under}
 use Rattle.front_edges.proofs.Noting.{pairs-length, fronts-are}
 

@@ -26,9 +26,10 @@ use Rattle.cells.proofs.Edges.{tri-side}
 use Rattle.cells.proofs.Fronts.{held-tri}
 use Rattle.cells.proofs.Frames.{rep-under, pos-under}
 use Rattle.cells.proofs.Walks.{There, there, seek-end, ended, start, pos-walk, can-read}
+use Rattle.meshes.proofs.Valid.{valid, tri-distinct, tri-below}
 use Rattle.front_edges.specs.Runs.{Run, Beyond, Good, CanTry, Tried, Met, CanWalk, Here, StepTo, NodeTo}
 use Rattle.front_edges.proofs.Inserts.{insert-length, insert-up}
-use Rattle.front_edges.proofs.Members.{valid, tri-distinct, tri-below, all-ends, few-ends}
+use Rattle.front_edges.proofs.Members.{all-ends, few-ends}
 use Rattle.front_edges.proofs.Puts.{beyond-refl, beyond-trans, beyond-under, Half, half}
 use Rattle.front_edges.proofs.Meets.{met-start, met-quad, met-tri, fresh-x, fresh-y, good-more}
 

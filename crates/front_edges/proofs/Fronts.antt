@@ -18,10 +18,11 @@ use Rattle.account.specs.Listed.{front-differ, front-number}
 use Rattle.cells.specs.Layout.{front-u-at, front-v-at}
 use Rattle.cells.specs.Rep.{Rep}
 use Rattle.edges.specs.Stored.{Edges, edge-in}
+use Rattle.meshes.proofs.Valid.{valid}
 use Rattle.front_edges.specs.Runs.{pairs, Run, CanWalk}
 use Rattle.front_edges.specs.Noting.{Past, EdgesTo}
 use Rattle.front_edges.specs.Front.{FrontTo}
-use Rattle.front_edges.proofs.Members.{valid, front-ascending}
+use Rattle.front_edges.proofs.Members.{front-ascending}
 use Rattle.front_edges.proofs.Noting.{pairs-length}
 
 -- ---- lists

@@ -8,10 +8,9 @@ use native.Mathlib.Omega.{arith}
 use lib.Dec.{eqb, leb, ltb}
 use lib.ListN.{length}
 use borrow.Author.Tests.{eqb-true, eq-eqb, ltb-true, ltb-false, lt-ltb}
-use Rattle.rings.specs.Rings as rings
 use Rattle.definition.specs.Lists.{filter, flat-map, insert, sort, numbers, below}
 use Rattle.definition.specs.Plane.{Edge}
-use Rattle.definition.specs.Cells.{Tri, Quad, Cell, tri, quad, Live, Mesh, key, nodes, tri-nodes, quad-nodes, tri-edges, edge-before, live-tri, owns, owners, has-node, cells-at, tris-of, front-owners, front-from, is-front, front-at, front}
+use Rattle.definition.specs.Cells.{Tri, Live, Mesh, key, tri-edges, edge-before, live-tri, owns, owners, has-node, cells-at, tris-of, front-owners, front-from, is-front, front-at, front}
 use Rattle.definition.specs.Account.{Pairwise}
 use Rattle.laws.specs.Bools.{both}
 use Rattle.laws.specs.Lists.{In, all-from, all-at, in-left, in-either, in-filter, filter-in, insert-in, sort-in, in-sort, map-in, in-map, in-flat-map, flat-map-in, no-more, below-in}
@@ -19,62 +18,11 @@ use Rattle.cells.proofs.Near.{near-front}
 use Rattle.account.specs.Found.{is-a-tri}
 use Rattle.account.specs.Triangles as triangles
 use Rattle.account.specs.Ends.{tri-ends, tri-owns}
-use Rattle.account.specs.Valid.{Slots, Good-quad, Valid, tris-in, in-tris}
+use Rattle.account.specs.Valid.{Valid, tris-in, in-tris}
 use Rattle.account.specs.Listed.{front-differ}
-use Rattle.cells.specs.Rep.{Shape, Held, Cells, slots, Rep}
 use Rattle.cells.proofs.Edges.{key-up, key-down}
 use Rattle.front_edges.specs.Runs.{Ascending, pairs, Good, tris-on}
 use Rattle.front_edges.proofs.Inserts.{ascending-same}
-
--- ---- the mesh of a memory is valid
-
-slots-of : (l : List Live) → rings.Distinct (slots l) → Slots l
-slots-of [] h = tt
-slots-of (x ∷ l) h = (λ y i. out l (h .0) y i, slots-of l (h .1))
-  where
-    out : (k : List Live) → rings.Out (x .slot) (slots k) → (y : Live) → In y k → x .slot ≢ y .slot
-    out (z ∷ k) o y (inl e) q = o .0 (sym (ap (λ (t : Live). t .slot) e) ∙ sym q)
-    out (z ∷ k) o y (inr i) q = out k (o .1) y i q
-
-held-in : (w : List ℕ) (s k n : ℕ) (l : List Live) → Cells w s k n l → (x : Live) → In x l → Held w s k n x
-held-in w s k n (y ∷ l) h x (inl e) = subst (λ (z : Live). Held w s k n z) (sym e) (h .0)
-held-in w s k n (y ∷ l) h x (inr i) = held-in w s k n l (h .1) x i
-
-pub tri-distinct : (n : ℕ) (t : Tri) → Shape n (tri t) → triangles.Distinct t
-unfolding nodes tri-nodes
-tri-distinct n t h = record { d01 = λ e. h .distinct .0 .0 (sym e); d12 = λ e. h .distinct .1 .0 .0 (sym e); d20 = h .distinct .0 .1 .0 }
-
-pub tri-below : (n : ℕ) (t : Tri) → Shape n (tri t) → (a : ℕ) → triangles.Has t a → a < n
-unfolding nodes tri-nodes
-tri-below n t h a (inl e) = rw e (h .known .0)
-tri-below n t h a (inr (inl e)) = rw e (h .known .1 .0)
-tri-below n t h a (inr (inr e)) = rw e (h .known .1 .1 .0)
-
-quad-good : (n : ℕ) (q : Quad) → Shape n (quad q) → Good-quad n q
-unfolding nodes quad-nodes
-quad-good n q h =
-    let d = h .distinct in
-    record {
-      distinct = (
-        (λ e. d .0 .0 (sym e), (λ e. d .0 .1 .0 (sym e), (λ e. d .0 .1 .1 .0 (sym e), tt))),
-        ((λ e. d .1 .0 .0 (sym e), (λ e. d .1 .0 .1 .0 (sym e), tt)), ((λ e. d .1 .1 .0 .0 (sym e), tt), (tt, tt))),
-      );
-      below = (h .known .0, (h .known .1 .0, (h .known .1 .1 .0, (h .known .1 .1 .1 .0, tt))));
-    }
-
-pub valid : (w : List ℕ) (s p : ℕ) (m : Mesh) → Rep w s p m → Valid m
-valid w s p m r =
-    let held : (x : Live) → In x (m .live) → Held w s (m .used) (length (m .points)) x = held-in w s (m .used) (length (m .points)) (m .live) (r .cells) in
-    let n = length (m .points) in
-    record {
-      slots = slots-of (m .live) (r .distinct);
-      given = λ x i. held x i .inside;
-      tris = λ t i.
-          let g = in-tris (m .live) t i in
-          let h : Shape n (tri t) = subst (λ (c : Cell). Shape n c) (g .2) (held (g .0) (g .1) .shape) in
-          record { distinct = tri-distinct n t h; below = tri-below n t h };
-      quads = λ x q i e. quad-good n q (subst (λ (c : Cell). Shape n c) e (held x i .shape));
-    }
 
 -- ---- edges of a triangle
 

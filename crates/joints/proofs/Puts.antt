@@ -1,6 +1,5 @@
 -- The table as it is made: the joints below i are there, and their nodes are marked.
-use mathlib.Core.Path.{_≡_, refl, sym, ap, _∙_}
-use mathlib.Core.Logic.{_≢_}
+use mathlib.Core.Path.{_≡_, sym, ap, _∙_}
 use mathlib.Core.List.{List}
 use Prim.Native.Nat.{ℕ, _+_, _*_, _%_, _≤_, _<_}
 use Prim.{absurd}
@@ -9,12 +8,11 @@ use native.Mathlib.Omega.{arith}
 use native.Mathlib.Decide.{ℕ-discrete}
 use lib.ListN.{length, getD, set, length-set}
 use Rattle.definition.specs.Lists.{table, below}
-use Rattle.definition.specs.Plane.{Edge}
 use Rattle.definition.specs.Call.{joint-at}
 use Rattle.laws.specs.Cells.{same-ends}
 use Rattle.laws.specs.Frames.{on, off}
 use Rattle.laws.specs.Tables.{table-ext}
-use Rattle.joints.specs.Table.{edge-in, mark, Marked, Kept}
+use Rattle.joints.specs.Table.{edge-in, Marked, Kept}
 use Rattle.joints.specs.Put.{Put}
 
 -- a word that is not 0 is not 0 after a 1 is stored

@@ -1,29 +1,18 @@
 -- Whether the table has an edge: by the joints one after the other, and by the marks.
-use mathlib.Core.Path.{_≡_, refl, sym, ap, _∙_}
-use mathlib.Core.Bool.{true, false, _&&_}
+use mathlib.Core.Path.{_≡_, sym, ap, _∙_}
+use mathlib.Core.Bool.{true, false}
 use mathlib.Core.List.{List}
-use Prim.Native.Nat.{ℕ, min, max, _+_, _*_, _%_, _≤_, _<_}
+use Prim.Native.Nat.{ℕ, _+_, _*_, _<_}
 use native.Mathlib.Omega.{arith}
 use lib.Dec.{eqb}
 use lib.ListN.{getD}
 use borrow.Author.Tests.{eqb-true, eq-eqb, ne-eqb}
-use Rattle.definition.specs.Lists.{table, below}
 use Rattle.definition.specs.Plane.{Edge}
-use Rattle.definition.specs.Cells.{key, same-edge, has-edge-in}
+use Rattle.definition.specs.Cells.{same-edge, has-edge-in}
 use Rattle.laws.specs.Bools.{fails, holds, never, both}
 use Rattle.laws.specs.Numbers.{eqb-swap}
-use Rattle.laws.specs.Cells.{same-ends}
 use Rattle.laws.specs.Tables.{none-below, below-none}
 use Rattle.joints.specs.Table.{edge-in, mark, Kept}
-
--- the edge of two nodes
-pub key-up : (a b : ℕ) → a ≤ b → key a b ≡ (a, b)
-unfolding key
-key-up a b h = same-ends (let p : min a b ≡ a = omega arith in p) (let p : max a b ≡ b = omega arith in p)
-
-pub key-down : (a b : ℕ) → b ≤ a → key a b ≡ (b, a)
-unfolding key
-key-down a b h = same-ends (let p : min a b ≡ b = omega arith in p) (let p : max a b ≡ a = omega arith in p)
 
 -- joint i by its two words
 pub joint-is : (j : List ℕ) (i u v x y : ℕ) → x ≡ getD j (1025 + 2 * i) 0 → x ≡ u → y ≡ getD j (1025 + 2 * i + 1) 0 → eqb y v ≡ same-edge (u, v) (edge-in j i)

@@ -1,8 +1,9 @@
 // Joints, the locked edges: a table that is made once and read by every flip and every region.
+use words::wide;
 ghost use mathlib.Core.Path.{_≡_};
 ghost use mathlib.Core.Bool.{Bool};
 ghost use mathlib.Core.List.{List};
-ghost use Prim.Native.Nat.{ℕ, _+_, _*_, _≤_, _<_};
+ghost use Prim.Native.Nat.{_+_, _*_, _≤_, _<_};
 ghost use lib.ListN.{length};
 ghost use Rattle.definition.specs.Lists.{table, below};
 ghost use Rattle.definition.specs.Plane.{Edge};
@@ -20,12 +21,8 @@ const COUNT: usize = 1024;
 // Where the joints begin, two words each.
 const PAIRS: usize = 1025;
 
-// A word of the table as an index.
-fn wide(x: u32) -> usize
-    ensures { λ r. ⌜ r ≡ x ⌝ }
-{
-    x as usize
-}
+// Words of the table: at most 256 joints fit.
+pub const TABLE: usize = 1537;
 
 // ---- the test
 

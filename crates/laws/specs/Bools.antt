@@ -2,7 +2,7 @@
 use mathlib.Core.Path.{_≡_, refl, sym, subst}
 use mathlib.Core.Bool.{Bool, true, false, _&&_, _||_, cond}
 use mathlib.Core.Logic.{_⊎_, inl, inr}
-use Prim.Native.Nat.{ℕ}
+use Prim.Native.Nat.{ℕ, _≤_}
 use native.Mathlib.Omega.{arith}
 use lib.Dec.{T}
 
@@ -33,6 +33,9 @@ to-T e = subst T (sym e) tt
 pub of-T : (b : Bool) → T b → b ≡ true
 of-T true t = refl
 of-T false t = absurd t
+
+pub refuted : (b : Bool) → (T b → ⊥) → b ≡ false
+refuted b h = fails b (λ e. h (to-T e))
 
 -- both branches
 pub cond-ok : {A : Type 0} (Q : A → Type 0) (b : Bool) (x y : A) → (b ≡ true → Q x) → (b ≡ false → Q y) → Q (cond b x y)
@@ -71,6 +74,10 @@ pub or-second : (a b : Bool) → b ≡ true → (a || b) ≡ true
 or-second true b h = refl
 or-second false b h = h
 
+pub or-false : (b : Bool) → b ≡ (b || false)
+or-false true = refl
+or-false false = refl
+
 pub none-left : (a b : Bool) → (a || b) ≡ false → a ≡ false
 none-left true b h = h
 none-left false b h = refl
@@ -97,6 +104,10 @@ T-right true b t = tt
 T-right false b t = t
 
 -- ---- a test kept as a number
+
+pub at-most-one : (b : Bool) → cond b 1 0 ≤ 1
+at-most-one true = omega arith
+at-most-one false = omega arith
 
 pub not-marked : (b : Bool) → _≡_ {A = ℕ} (cond b 1 0) 0 → b ≡ false
 not-marked true e = absurd (omega arith)

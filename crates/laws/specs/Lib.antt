@@ -5,4 +5,5 @@ pub mod Tables
 pub mod Sorts
 pub mod Frames
 pub mod Cells
+pub mod Slices
 pub mod Isqrt

@@ -14,7 +14,8 @@ use Rattle.definition.specs.Lists.{find, insert, sort, flat-map, numbers, below
 use Rattle.definition.specs.Cells.{Tri, Live, Mesh, tri-of, tris-of, in-slot, cell-of, in-slot-order, triangles}
 use Rattle.laws.specs.Lists.{flat-map-append, numbers-snoc}
 use Rattle.laws.specs.Sorts.{insert-yes, insert-no}
-use Rattle.cells.proofs.Slots.{slots-below}
+use Rattle.laws.specs.Cells.{found-slot}
+use Rattle.cells.proofs.Slots.{slots-below, find-out}
 use Rattle.cells.specs.Rep.{slots, Rep}
 use Rattle.leftovers.specs.Wrote.{tris-in, slot-tris}
 
@@ -29,11 +30,6 @@ abbrev one : Option Live → List Live
 one none = []
 one (some x) = x ∷ []
 
-pub find-out : (i : ℕ) (l : List Live) → Out i (slots l) → find (in-slot i) l ≡ none
-unfolding find in-slot
-find-out i [] o = refl
-find-out i (x ∷ l) o = rw (ne-eqb i (x .slot) (λ e. o .0 (sym e))) (find-out i l (o .1))
-
 find-here : (x : Live) (l : List Live) → find (in-slot (x .slot)) (x ∷ l) ≡ some x
 unfolding find in-slot
 find-here x l = rw (eq-eqb (x .slot) (x .slot) refl)
@@ -41,18 +37,6 @@ find-here x l = rw (eq-eqb (x .slot) (x .slot) refl)
 find-past : (i : ℕ) (x : Live) (l : List Live) → x .slot ≢ i → find (in-slot i) (x ∷ l) ≡ find (in-slot i) l
 unfolding find in-slot
 find-past i x l n = rw (ne-eqb i (x .slot) (λ e. n (sym e)))
-
-find-slot : (i : ℕ) (l : List Live) (y : Live) → find (in-slot i) l ≡ some y → y .slot ≡ i
-unfolding find in-slot
-find-slot i [] y e = let z : _≡_ {A = ℕ} 0 1 = cc in absurd (omega arith)
-find-slot i (x ∷ l) y e = go (decide (x .slot) i) (find-slot i l y)
-  where
-    go : Same (x .slot) i → (find (in-slot i) l ≡ some y → y .slot ≡ i) → y .slot ≡ i
-    go (same q) r =
-        let h : _≡_ {A = Option Live} (some x) (some y) = sym (find-here x l) ∙ ap (λ (j : ℕ). find (in-slot j) (x ∷ l)) q ∙ e in
-        let g : x ≡ y = cc in
-        ap (λ (v : Live). v .slot) (sym g) ∙ q
-    go (differ q) r = r (sym (find-past i x l q) ∙ e)
 
 -- ---- slot after slot
 
@@ -69,7 +53,7 @@ insert-first x l a (suc n) h = go (find (in-slot a) l) refl (insert-first x l (s
     go : (o : Option Live) → find (in-slot a) l ≡ o → insert lower x (from l (suc a) n) ≡ x ∷ from l (suc a) n
         → insert lower x (one o ++ from l (suc a) n) ≡ x ∷ (one o ++ from l (suc a) n)
     go none e r = r
-    go (some y) e r = let q : y .slot ≡ a = find-slot a l y e in insert-no lower x y (from l (suc a) n) (le-ltb (y .slot) (x .slot) (omega arith))
+    go (some y) e r = let q : y .slot ≡ a = found-slot a l y e in insert-no lower x y (from l (suc a) n) (le-ltb (y .slot) (x .slot) (omega arith))
 
 -- past its slot a cell is not met
 from-past : (x : Live) (l : List Live) (a n : ℕ) → x .slot < a → from (x ∷ l) a n ≡ from l a n
@@ -99,7 +83,7 @@ insert-from x l a (suc n) o h k = go (decide (x .slot) a) (find (in-slot a) l) r
         ∙ rest q
         ∙ ap (λ (v : Option Live). one v ++ from (x ∷ l) (suc a) n) (sym (find-past a x l q ∙ e))
     go (differ q) (some y) e rest =
-        let s : y .slot ≡ a = find-slot a l y e in
+        let s : y .slot ≡ a = found-slot a l y e in
         ap (λ (v : Option Live). insert lower x (one v ++ from l (suc a) n)) e
         ∙ insert-yes lower x y (from l (suc a) n) (lt-ltb (y .slot) (x .slot) (omega arith))
         ∙ ap (λ (v : List Live). y ∷ v) (rest q)

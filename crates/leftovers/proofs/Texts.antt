@@ -1,22 +1,22 @@
 -- A triangle's three numbers behind those of the others.
 use mathlib.Core.Path.{_≡_, refl, ap, sym, _∙_, subst}
 use mathlib.Core.Logic.{_≢_}
-use mathlib.Core.List.{List, [], _∷_, _++_, append-assoc, append-nil}
-use mathlib.Core.Option.{none}
+use mathlib.Core.List.{List, [], _∷_, _++_, append-nil}
 use Prim.Native.Nat.{ℕ, _+_, _-_, _*_, _<_, _≤_}
 use native.Mathlib.Omega.{arith}
-use lib.ListN.{length, getD, take, drop, set, length-append, length-drop, drop-of-length-le}
-use lib.Seq.{take-all, take-at, drop-at, drop-drop, sets-eq}
+use lib.ListN.{length, getD, drop, set, length-append}
+use lib.Seq.{sets-eq}
 use borrow.Rule.Slice.PartMut.{midOf, putMid}
 use Rattle.definition.specs.Lists.{flat-map}
 use Rattle.definition.specs.Cells.{Tri, Cell, tri, quad, Live, Mesh, new-live, tri-nodes, tri-of, cell-of}
 use Rattle.definition.specs.Call.{onto}
 use Rattle.laws.specs.Lists.{flat-map-append}
+use Rattle.laws.specs.Slices.{put-middle}
 use Rattle.cells.specs.Rep.{Rep, Has, TriIn, CellAt}
-use Rattle.cells.proofs.Slots.{read-tri, rep-held, rep-cell, tri-in, tri-held}
+use Rattle.cells.proofs.Slots.{read-tri, rep-held, rep-cell, tri-in, tri-held, find-out}
 use Rattle.cells.proofs.Members.{Lookup, absent, present, lookup}
 use Rattle.leftovers.specs.Wrote.{three, tris-in, slot-tris, WroteSlot}
-use Rattle.leftovers.proofs.Orders.{find-out, tris-below, tris-none, tris-more}
+use Rattle.leftovers.proofs.Orders.{tris-below, tris-none, tris-more}
 
 -- three stores
 pub written : (l : List ℕ) (a b c : ℕ) → 3 ≤ length l → set (set (set l 0 a) 1 b) 2 c ≡ three a b c ++ drop 3 l
@@ -28,27 +28,13 @@ unfolding flat-map tri-nodes
 numbers-length [] = refl
 numbers-length (k ∷ ts) = omega (arith, numbers-length ts)
 
-put-middle : (F G old xs ys : List ℕ) (at : ℕ) → length G ≡ 3 → xs ≡ F ++ drop (length F) old → at ≡ length F → at + 3 ≤ length xs
-    → ys ≡ G ++ drop 3 (midOf at (length xs - at) xs) → putMid at (length xs - at) xs ys ≡ (F ++ G) ++ drop (length (F ++ G)) old
-put-middle F G old xs ys at g e f h k =
-    let front : take at xs ≡ F = ap (take at) e ∙ take-at F (drop (length F) old) at (sym f) in
-    let rest : drop at xs ≡ drop (length F) old = ap (drop at) e ∙ drop-at F (drop (length F) old) at (sym f) in
-    let mid : take (length xs - at) (drop at xs) ≡ drop at xs = take-all (length xs - at) (drop at xs) (omega (arith, length-drop at xs)) in
-    let none : drop (length xs - at) (drop at xs) ≡ [] = drop-of-length-le (drop at xs) {i = length xs - at} (omega (arith, length-drop at xs)) in
-    let tail : drop 3 (take (length xs - at) (drop at xs)) ≡ drop (length F + 3) old = ap (drop 3) (mid ∙ rest) ∙ drop-drop 3 (length F) old in
-    let both : length (F ++ G) ≡ length F + 3 = length-append F G ∙ ap (λ (z : ℕ). length F + z) g in
-    ap (λ (z : List ℕ). z ++ (ys ++ drop (length xs - at) (drop at xs))) front
-    ∙ ap (λ (z : List ℕ). F ++ (ys ++ z)) none
-    ∙ ap (λ (z : List ℕ). F ++ z) (append-nil ys ∙ k ∙ ap (λ (z : List ℕ). G ++ z) (tail ∙ ap (λ (z : ℕ). drop z old) (sym both)))
-    ∙ sym (append-assoc F G (drop (length (F ++ G)) old))
-
 -- the triangle's numbers behind those of the triangles
 pub put-text : (ls : List Tri) (t : Tri) (old xs ys : List ℕ) (at : ℕ) → xs ≡ onto (flat-map tri-nodes ls) old → at ≡ 3 * length ls → at + 3 ≤ length xs
     → ys ≡ three (t .n0) (t .n1) (t .n2) ++ drop 3 (midOf at (length xs - at) xs)
     → putMid at (length xs - at) xs ys ≡ onto (flat-map tri-nodes (ls ++ t ∷ [])) old
 unfolding onto flat-map tri-nodes
 put-text ls t old xs ys at e f h k =
-    put-middle (flat-map tri-nodes ls) (three (t .n0) (t .n1) (t .n2)) old xs ys at refl e (f ∙ sym (numbers-length ls)) h k
+    put-middle (flat-map tri-nodes ls) (three (t .n0) (t .n1) (t .n2)) old xs ys at e (f ∙ sym (numbers-length ls)) h k
     ∙ ap (λ (z : List ℕ). z ++ drop (length z) old) (sym (flat-map-append tri-nodes ls (t ∷ [])))
 
 -- nothing at the front

@@ -1,13 +1,14 @@
 -- What the slice of an answer holds, and the promise by whether it has room.
 use mathlib.Core.Path.{_≡_, refl, subst}
 use mathlib.Core.Logic.{_≢_}
-use mathlib.Core.List.{List, [], _∷_}
+use mathlib.Core.List.{List, []}
 use Prim.{absurd}
 use Prim.Native.Nat.{ℕ, _<_, _≤_}
 use native.Mathlib.Omega.{arith}
 use lib.ListN.{length}
 use borrow.Author.Tests.{eq-eqb, ne-eqb}
 use Rattle.definition.specs.Call.{Asked, Lent, onto}
+use Rattle.laws.specs.Lists.{nothing}
 use Rattle.refusals.specs.Refusals.{first-refusal}
 use Rattle.mesher.specs.declared.Answer.{Answer}
 use Rattle.answer_numbers.specs.Runs.{numbers, up-to-4}
@@ -38,12 +39,7 @@ without-room a l old k h e =
 pub stated-as : {a b : Asked} {l : Lent} {old : List ℕ} {k : ℕ} {new : List ℕ} {exit : Lent} → a ≡ b → Exported a l old k new exit → Exported b l old k new exit
 stated-as {l = l} {old = old} {k = k} {new = new} {exit = exit} e h = subst (λ a. Exported a l old k new exit) e h
 
--- a slice of no words is the empty one
-empty : (t : List ℕ) → length t ≡ 0 → t ≡ []
-empty [] h = refl
-empty (x ∷ t) h = absurd (omega (arith, h))
-
 -- a trace of no words stays one
 pub untraced : {a : Asked} {l : Lent} {old : List ℕ} {k : ℕ} {new : List ℕ} (exit : List ℕ → Lent) (t : List ℕ) → length t ≡ 0
     → Exported a l old k new (exit t) → Exported a l old k new (exit [])
-untraced {a = a} {l = l} {old = old} {k = k} {new = new} exit t e h = subst (λ s. Exported a l old k new (exit s)) (empty t e) h
+untraced {a = a} {l = l} {old = old} {k = k} {new = new} exit t e h = subst (λ s. Exported a l old k new (exit s)) (nothing t e) h

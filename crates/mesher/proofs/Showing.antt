@@ -23,7 +23,9 @@ use Rattle.definition.specs.Call.{Asked, Lent, point-at, joint-at, first-points
 use Rattle.definition.specs.Preview as defined
 use Rattle.definition.specs.Preview.{Previewed, cost, shown, show-edge, cleared, preview}
 use Rattle.laws.specs.Bools.{which}
-use Rattle.laws.specs.Lists.{known, getD-any, table-at}
+use Rattle.laws.specs.Lists.{known, getD-any}
+use Rattle.laws.specs.Cells.{point-of}
+use Rattle.laws.specs.Slices as slices
 use Rattle.account.specs.Counting.{More, counted-rule, start-counted}
 use Rattle.account.specs.Valid.{Valid}
 use Rattle.account.specs.Start.{start-valid}
@@ -58,7 +60,6 @@ use Rattle.mesher.specs.declared.preview.Shown.the-variants as shows
 use Rattle.mesher.specs.Previews.{shown-of, born-of, cost-of, Previews}
 use Rattle.mesher.specs.Showing.{shown-by, cost-by, Holds, Back, first-of, usual-rules, CanShow, CanTry}
 use Rattle.mesher.proofs.Starts.{can-build, is-new, can-run}
-use Rattle.mesher.proofs.Ends as run
 
 -- ---- the points kept and put back
 
@@ -113,11 +114,6 @@ restored q q' x k g n s h b =
     ])
 
 -- ---- the points of an attempt
-
--- a node below n of the first n points
-point-of : (n : ℕ) (q : List Float) (i : ℕ) → i < n → point (first-points n q) i ≡ point-at q i
-unfolding point first-points below
-point-of n q i h = table-at (point-at q) 0 n i _ h ∙ ap (point-at q) (omega arith)
 
 -- the points are those of ps, then as many as were inserted
 abbrev Points-more : List Node → Attempt → Type 0
@@ -382,7 +378,7 @@ module _ (q : List Float) (ts js qs o cs w : List ℕ) (f : List Float) where
   unfolding cleared
   shown-previews a u v z r q' w₁ w' f' h len ew ef =
       let l = lent-of q ts js qs o cs w f [] in
-      let work : all-of 0 w ≡ w' = run.cleared 0 w w₁ (sym len) ∙ sym ew in
+      let work : all-of 0 w ≡ w' = slices.cleared 0 w w₁ (sym len) ∙ sym ew in
       let points = h .0 in
       subst (λ (x : Previewed). Previews x r (lent-of q' ts js qs o cs w' f' [])) (sym (preview-shows a l u v z))
       (record { shown = h .1; lent = λ i. lent-of (sym points i) ts js qs o cs (work i) (sym ef i) [] })

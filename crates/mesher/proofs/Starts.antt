@@ -1,41 +1,32 @@
 -- A call that is not refused before its run has all that its run asks.
 use mathlib.Core.Path.{_≡_, refl, ap, sym, _∙_, subst}
 use mathlib.Core.List.{List, [], _∷_}
-use Prim.Native.Nat.{ℕ, suc, _+_, _*_, _≤_, _<_}
+use Prim.Native.Nat.{ℕ, suc, _+_, _*_, _≤_}
 use native.Mathlib.Omega.{arith}
-use lib.ListN.{length, getD}
+use lib.ListN.{length}
 use lib.Ieee.{Float}
 use Rattle.definition.specs.Lists.{filter, table, below}
 use Rattle.definition.specs.Numbers.{max-attempts}
-use Rattle.definition.specs.Cells.{Tri, tri, Mesh, new-live, nodes, tri-nodes, new-tri, live-tri, is-tri, live-tris}
+use Rattle.definition.specs.Cells.{Tri, Mesh, new-live, live-tri, is-tri, live-tris}
 use Rattle.definition.specs.Front.{State, Progress, stuck, progressed, limited, stopped, in-slots, new-mesh, start, front-loop}
 use Rattle.definition.specs.Job.{rounds-of}
-use Rattle.definition.specs.Call.{Asked, Lent, tri-at, joint-at, first-points, given-points, given-tris, given-joints, given-locks, bad-size, settings-within}
+use Rattle.definition.specs.Call.{Asked, Lent, joint-at, first-points, given-points, given-tris, given-joints, given-locks, bad-size, settings-within}
 use Rattle.laws.specs.Lists.{all-from}
 use Rattle.rules.specs.declared.Rules.{Rules}
 use Rattle.rules.specs.Settings.{settings-of}
 use Rattle.account.specs.Finished.{sized, given-proper, given-within, points-number, tris-number}
 use Rattle.joints.specs.Table.{Kept, Locks, locks-of}
-use Rattle.cells.specs.Rep.{Shape, Rep, Pts}
+use Rattle.cells.specs.Rep.{Rep, Pts}
 use Rattle.cells.specs.declared.counters.Counters.{Counters}
 use Rattle.meshes.specs.Build.{Given, IsNew, Builds, CanBuild}
-use Rattle.refusals.specs.Passed.{Apart}
 use Rattle.refusals.specs.Refusals.{first-refusal, passed, none-holds}
 use Rattle.outcomes.specs.Ready.{Small}
 use Rattle.settling.specs.declared.standing.Run.{Run}
 use Rattle.rounds.specs.Loop.{CanRun, LeftRun, RunTo}
+use Rattle.meshes.proofs.Valid.{shape-at}
 use Rattle.mesher.specs.Parts.{bucket-of, rules-of, progress-of, CanMesh}
 
 -- ---- the mesh of the given triangles
-
--- a triangle with three nodes among the given points
-shape-at : (ts : List ℕ) (g i : ℕ) → Apart ts i → getD ts (3 * i) 0 < g → getD ts (3 * i + 1) 0 < g → getD ts (3 * i + 2) 0 < g → Shape g (tri (tri-at ts i))
-unfolding nodes tri-nodes tri-at new-tri
-shape-at ts g i h a b c =
-    record {
-      distinct = ((λ e. h .d01 (sym e), (λ e. h .d02 (sym e), tt)), ((λ e. h .d12 (sym e), tt), (tt, tt)));
-      known = (a, (b, (c, tt)));
-    }
 
 live-new : (n : ℕ) (ts : List Tri) → length (filter live-tri (in-slots n ts)) ≡ length ts
 unfolding filter in-slots live-tri is-tri new-live
@@ -46,7 +37,7 @@ module _ (most room : ℕ) (a : Asked) (l : Lent) (h : first-refusal a l ≡ 0) 
   pub given-shapes : Given (l .triangles) (a .count) (a .given)
   given-shapes i k =
       let p = passed a l h in
-      shape-at (l .triangles) (a .given) i (p .apart i k) (p .known (3 * i) (omega arith)) (p .known (3 * i + 1) (omega arith)) (p .known (3 * i + 2) (omega arith))
+      shape-at (l .triangles) (a .given) i (p .apart i k .d01) (p .apart i k .d02) (p .apart i k .d12) (p .known (3 * i) (omega arith)) (p .known (3 * i + 1) (omega arith)) (p .known (3 * i + 2) (omega arith))
 
   pub small : Small (rules-of most room a)
   small = let p = passed a l h in record { slots = p .limited .slots; points = p .limited .capacity; pairs = p .pairs }

@@ -6,6 +6,7 @@ use cells::clear::clear_floats;
 use cells::clear::clear_words;
 use cells::counters::Counters;
 use components::sizes::component_sizes;
+use joints::TABLE;
 use joints::put_joints;
 use leftovers::write_triangles;
 use meshes::build::build;
@@ -93,7 +94,7 @@ fn mesh(
     );
     let c = Counters::new(stated.count, stated.given);
     let rules = rules_of(stated, attempts, trace.len());
-    let mut table = [0u32; 1537];
+    let mut table = [0u32; TABLE];
     put_joints(&mut table, joints, stated.joints);
     front_loop(work, points, float_work, quads, trace, &table, rules, c)
 }

@@ -4,3 +4,4 @@ pub mod Removes
 pub mod Evens
 pub mod Builds
 pub mod Counts
+pub mod Valid

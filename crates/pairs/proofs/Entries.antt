@@ -3,10 +3,9 @@ use mathlib.Core.Path.{_≡_, refl, ap, sym, _∙_, subst}
 use mathlib.Core.Logic.{inl, inr}
 use mathlib.Core.Bool.{not}
 use mathlib.Core.List.{List, [], _∷_, map}
-use Prim.Native.Nat.{ℕ, suc, min, max, _+_, _*_, _^_, _<_, _≤_}
+use Prim.Native.Nat.{ℕ, min, max, _+_, _^_, _<_, _≤_}
 use native.Mathlib.Omega.{arith}
 use lib.ListN.{length, take, drop}
-use lib.Seq.{drop-cons}
 use Rattle.rings.proofs.Lists.{room}
 use Rattle.definition.specs.Lists.{filter}
 use Rattle.definition.specs.Plane.{Edge}
@@ -14,7 +13,7 @@ use Rattle.definition.specs.Cells.{Quad, Live, was-placed, Mesh, key, new-quad,
 use Rattle.definition.specs.Trace.{entry}
 use Rattle.definition.specs.Attempt.{replaced}
 use Rattle.laws.specs.Bools.{which}
-use Rattle.laws.specs.Lists.{filter-yes, filter-no, Stored}
+use Rattle.laws.specs.Lists.{filter-yes, filter-no, stored-take}
 use Rattle.cells.specs.Layout.{Sizes, list-at}
 use Rattle.cells.specs.Rep.{slots, Rep}
 use Rattle.cells.proofs.Slots.{slots-below}
@@ -49,13 +48,6 @@ slots-ids : (xs : List Live) → slots xs ≡ ids xs
 slots-ids [] = refl
 slots-ids (x ∷ xs) = ap (λ (l : List ℕ). x .slot ∷ l) (slots-ids xs)
 
-stored-take : (w : List ℕ) (b : ℕ) (l : List ℕ) → b + length l ≤ length w → Stored w b l → take (length l) (drop b w) ≡ l
-stored-take w b [] h z = refl
-stored-take w b (x ∷ l) h z =
-    let e : b + 1 ≡ suc b = omega arith in
-    let y : Stored w (suc b) l = subst (λ (j : ℕ). Stored w j l) e (z .1) in
-    ap (take (suc (length l))) (drop-cons w b 0 (omega arith)) ∙ ap (λ (j : ℕ). j ∷ take (length l) (drop (suc b) w)) (z .0) ∙ ap (λ (k : List ℕ). x ∷ k) (stored-take w (suc b) l (omega arith) y)
-
 -- ---- the round is a small number
 
 others-few : (l : List Live) → length (filter (λ x. not (live-tri x)) l) ≤ length (slots l)
@@ -73,15 +65,6 @@ round-few w s p m r =
     omega (arith, others-few (m .live), h, r .used)
 
 -- ---- the quad's numbers
-
--- the edge's nodes in their order
-pub edge-up : (a b : ℕ) → a < b → key a b ≡ (a, b)
-unfolding key
-edge-up a b h = let p : min a b ≡ a = omega arith in let q : max a b ≡ b = omega arith in rw (p, q)
-
-pub edge-down : (a b : ℕ) → b ≤ a → key a b ≡ (b, a)
-unfolding key
-edge-down a b h = let p : min a b ≡ b = omega arith in let q : max a b ≡ a = omega arith in rw (p, q)
 
 -- the numbers of a quad
 pub grown-is : (a b d e round : ℕ) (g : Grown) → g .n0 ≡ a → g .n1 ≡ b → g .n2 ≡ d → g .n3 ≡ e → key a b ≡ (g .u, g .v) → g .round ≡ round

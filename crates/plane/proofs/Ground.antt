@@ -34,10 +34,6 @@ module _ {s t : Node} (a b : Node) (e : s ≡ ground a) (f : t ≡ ground b) whe
       unfolding twice-area shoelace ground flat
       twice-area-ground = rw (e, f, g, h)
 
-      pub min-scaled-jacobian-ground : min-scaled-jacobian s t u v ≡ min-scaled-jacobian a b c d
-      unfolding min-scaled-jacobian jacobian-at ground flat
-      min-scaled-jacobian-ground = rw (e, f, g, h)
-
       pub quad-metrics-ground : quad-metrics s t u v ≡ quad-metrics a b c d
       unfolding any quad-metrics min-scaled-jacobian jacobian-at twice-area shoelace corners corner-of not-convex cross angle-of from-to ground flat
       quad-metrics-ground = rw (e, f, g, h)

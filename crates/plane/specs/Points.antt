@@ -1,18 +1,16 @@
 -- Nodes in the lent points: what stands for a node, and how a mesh's nodes are read from the slice.
-use mathlib.Core.Path.{_≡_, ap, _∙_}
+use mathlib.Core.Path.{_≡_, ap}
 use mathlib.Core.List.{List}
 use Prim.Native.Nat.{ℕ, _+_, _*_, _<_}
-use native.Mathlib.Omega.{arith}
 use lib.ListN.{length}
 use mathlib.Core.Bool.{not}
 use lib.Ieee.{Float}
-use Rattle.definition.specs.Lists.{below}
 use Rattle.definition.specs.Floats.{_⊗_, _≼_, 0·0}
-use Rattle.definition.specs.Plane.{Node, flat, point, side, from-to, dist, edge-length}
+use Rattle.definition.specs.Plane.{Node, flat, side, from-to, dist, edge-length}
 use Rattle.definition.specs.Cells.{Mesh, node-at}
 use Rattle.definition.specs.Flips.{apart}
 use Rattle.definition.specs.Call.{point-at, first-points}
-use Rattle.laws.specs.Lists.{table-at}
+use Rattle.laws.specs.Cells.{point-of}
 use Rattle.plane.specs.declared.points.Spot.{Spot}
 
 -- node a is in the slice
@@ -28,11 +26,6 @@ unfoldable pub ground : Node → Node
 ground p = flat (p .x) (p .y)
 
 -- ---- a mesh whose points are the first of the slice
-
--- a node below n of the first n points
-pub point-of : (n : ℕ) (q : List Float) (a : ℕ) → a < n → point (first-points n q) a ≡ point-at q a
-unfolding point first-points below
-point-of n q a h = table-at (point-at q) 0 n a _ h ∙ ap (point-at q) (omega arith)
 
 -- a node of the mesh
 pub node-of : (m : Mesh) (n : ℕ) (q : List Float) → m .points ≡ first-points n q → (a : ℕ) → a < n → node-at m a ≡ point-at q a

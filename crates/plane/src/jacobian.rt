@@ -2,20 +2,17 @@
 ghost use mathlib.Core.Path.{_≡_};
 ghost use mathlib.Core.Bool.{false};
 ghost use lib.Ieee.{Float, inf};
-ghost use Rattle.definition.specs.Call.{point-at};
 ghost use Rattle.definition.specs.Floats.{_⊕_, _⊗_, lesser, 0·25, 1·0};
 ghost use Rattle.definition.specs.Plane.{norm};
 ghost use Rattle.definition.specs.Metrics.{corner, d0, d1, weights, weighted, scaled, min-scaled-jacobian};
 ghost use Rattle.plane.specs.Columns.{column};
 ghost use Rattle.plane.specs.Measures.{LengthsOf};
-ghost use Rattle.plane.specs.Points.{Within, node};
+ghost use Rattle.plane.specs.Points.{node};
 ghost use Rattle.plane.specs.Vectors.{vec};
 use crate::floats::lesser;
 use crate::lengths::Lengths;
-use crate::lengths::lengths_of;
 use crate::lengths::norm_by;
 use crate::points::Spot;
-use crate::points::at;
 use crate::vectors::Vec;
 use crate::vectors::between;
 
@@ -87,7 +84,7 @@ fn least(a: f64, b: f64, c: f64, d: f64) -> f64
 }
 
 // The least scaled Jacobian of the quad a b c d, whose sides' lengths are handed in. Two corners share each column, and a column is half of a side.
-pub fn least_jacobian(a: Spot, b: Spot, c: Spot, d: Spot, sides: Lengths) -> f64
+pub fn min_scaled_jacobian(a: Spot, b: Spot, c: Spot, d: Spot, sides: Lengths) -> f64
     ensures { λ r. ⌜ (LengthsOf sides (node a) (node b) (node c) (node d) → r ≡ min-scaled-jacobian (node a) (node b) (node c) (node d)) ⌝ }
 {
     let low = first_column(-1.0, a, b, c, d);
@@ -104,19 +101,4 @@ pub fn least_jacobian(a: Spot, b: Spot, c: Spot, d: Spot, sides: Lengths) -> f64
         scaled(high, right, high_long, right_long),
         scaled(high, left, high_long, left_long),
     )
-}
-
-// The least scaled Jacobian of the quad a b c d.
-pub fn min_scaled_jacobian_of(a: Spot, b: Spot, c: Spot, d: Spot) -> f64
-    ensures { λ r. ⌜ r ≡ min-scaled-jacobian (node a) (node b) (node c) (node d) ⌝ }
-{
-    least_jacobian(a, b, c, d, lengths_of(a, b, c, d))
-}
-
-// The least scaled Jacobian of the quad of four nodes.
-pub fn min_scaled_jacobian(q: &[f64], a: usize, b: usize, c: usize, d: usize) -> f64
-    requires { ⌜ Within (now q) a × Within (now q) b × Within (now q) c × Within (now q) d ⌝ }
-    ensures { λ r. ⌜ (let p = point-at (now (q .entry)) in r ≡ min-scaled-jacobian (p a) (p b) (p c) (p d)) ⌝ }
-{
-    min_scaled_jacobian_of(at(q, a), at(q, b), at(q, c), at(q, d))
 }

@@ -15,7 +15,7 @@ use crate::area::twice_area;
 use crate::floats::finite;
 use crate::floats::greater;
 use crate::floats::lesser;
-use crate::jacobian::least_jacobian;
+use crate::jacobian::min_scaled_jacobian;
 use crate::lengths::Lengths;
 use crate::lengths::lengths_of;
 use crate::points::Spot;
@@ -138,7 +138,10 @@ pub fn quad_metrics_of(a: Spot, b: Spot, c: Spot, d: Spot) -> Metrics
     if flat_side(s) {
         return Metrics::Absent;
     }
-    Metrics::Measured(least_jacobian(a, b, c, d, l), largest_cosine(a, b, c, d, s))
+    Metrics::Measured(
+        min_scaled_jacobian(a, b, c, d, l),
+        largest_cosine(a, b, c, d, s),
+    )
 }
 
 // Of the quad of four nodes: absent where the area, a corner or a side is zero or negative.

@@ -5,6 +5,7 @@ use cells::clear::clear_floats;
 use cells::clear::clear_words;
 use cells::counters::Counters;
 use cells::find::is_front;
+use joints::TABLE;
 use joints::put_joints;
 use mesher::preview::Born;
 use mesher::preview::Cost;
@@ -110,7 +111,7 @@ fn attempted(
     let usual = ATTEMPTS_EACH * stated.count + ATTEMPTS_MORE;
     let rules = rules_of(stated, usual, 0);
     let counters = Counters::new(stated.count, stated.given);
-    let mut table = [0u32; 1537];
+    let mut table = [0u32; TABLE];
     put_joints(&mut table, joints, stated.joints);
     let mut none = [0u32; 0];
     let log = Log { at: 0, round: 1 };

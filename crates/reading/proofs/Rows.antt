@@ -10,13 +10,10 @@ use lib.ListN.{length, take, drop, set, length-drop, take-append-drop}
 use lib.Seq.{sets-eq, drop-set-lt, take-append-le, drop-append-le, length-take-le}
 use Rattle.definition.specs.Lists.{rows}
 use Rattle.definition.specs.Text.{Bytes, Taken, Reader, take-on, give, _>>=_, times}
+use Rattle.laws.specs.Lists.{nothing}
 use Rattle.reading.specs.Found.{taken}
 
 -- ---- rows
-
-nothing : (p : List ℕ) → length p ≡ 0 → p ≡ []
-nothing [] e = refl
-nothing (x ∷ p) e = absurd (omega arith)
 
 pub rows-append : (w i k : ℕ) (p q : List ℕ) → length p ≡ w * i → rows w (i + k) (p ++ q) ≡ rows w i p ++ rows w k q
 unfolding rows

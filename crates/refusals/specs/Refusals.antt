@@ -5,7 +5,7 @@ use mathlib.Core.Logic.{_≢_}
 use mathlib.Core.List.{List, [], _∷_}
 use mathlib.Core.Option.{Option, none, some}
 use Prim.{absurd}
-use Prim.Native.Nat.{ℕ, _≤_, _<_}
+use Prim.Native.Nat.{ℕ, _<_}
 use native.Mathlib.Omega.{arith}
 use lib.Ieee.{Float}
 use lib.ListN.{length}
@@ -25,16 +25,16 @@ number-of (some c) = c .0
 unfoldable pub first-refusal : Asked → Lent → ℕ
 first-refusal a l = number-of (find (λ c. c .1) (conditions a l))
 
-turn : (k : ℕ) (b : Bool) (cs : List (ℕ × Bool)) → number-of (find (λ c. c .1) ((k, b) ∷ cs)) ≡ cond b k (number-of (find (λ c. c .1) cs))
+pub turn : (k : ℕ) (b : Bool) (cs : List (ℕ × Bool)) → number-of (find (λ c. c .1) ((k, b) ∷ cs)) ≡ cond b k (number-of (find (λ c. c .1) cs))
 unfolding number-of find
 turn k true cs = refl
 turn k false cs = refl
 
-no-turn : number-of (find (λ c. c .1) []) ≡ 0
+pub no-turn : number-of (find (λ c. c .1) []) ≡ 0
 unfolding number-of find
 no-turn = refl
 
-not-taken : (b : Bool) (k n : ℕ) → 0 < k → cond b k n ≡ 0 → (b ≡ false) × (n ≡ 0)
+pub not-taken : (b : Bool) (k n : ℕ) → 0 < k → cond b k n ≡ 0 → (b ≡ false) × (n ≡ 0)
 not-taken true k n l e = absurd (omega arith)
 not-taken false k n l e = (refl, e)
 
@@ -107,7 +107,7 @@ module _ (a : Asked) (l : Lent) (zero-is : first-refusal a l ≡ 0) where
   unfolding call-within
   call-runs most = rw (none-holds, call-within)
 
-some-found : (o : Option (ℕ × Bool)) → number-of o ≢ 0 → (c : ℕ × Bool) × (o ≡ some c)
+pub some-found : (o : Option (ℕ × Bool)) → number-of o ≢ 0 → (c : ℕ × Bool) × (o ≡ some c)
 unfolding number-of
 some-found none h = absurd (h refl)
 some-found (some c) h = (c, refl)

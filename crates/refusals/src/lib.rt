@@ -1,6 +1,8 @@
 // The refusals that open a call of run_front: they read the points, the triangles and the joints, and touch nothing.
+use rules::MOST_PAIRS;
 use rules::Quality;
 use rules::standard_quality;
+use words::wide;
 ghost use mathlib.Core.Path.{_≡_};
 ghost use mathlib.Core.Bool.{false, not};
 ghost use Prim.Native.Nat.{_*_, _≤_};
@@ -44,8 +46,6 @@ const MOST_COSINE: f64 = 0.99;
 const LEAST_FACTOR: f64 = 0.1;
 
 const MOST_FACTOR: f64 = 4.0;
-
-const MOST_PAIRS: usize = 64;
 
 // The greatest magnitude of an x or y.
 const MOST_COORDINATE: f64 = 8.0;
@@ -245,13 +245,6 @@ fn too_short(points: &[f64], triangles: &[u32], joints: &[u32], a: Stated, n: Ro
 }
 
 // ---- the mesh
-
-// A node number as an index.
-fn wide(v: u32) -> usize
-    ensures { λ r. ⌜ r ≡ v ⌝ }
-{
-    v as usize
-}
 
 // 5: a triangle names a node that is not among the given points.
 pub fn unknown_node(triangles: &[u32], a: Stated) -> bool

@@ -1,23 +1,18 @@
 -- The listed cells removed one after the other: what `remove-cells` removes at once.
-use mathlib.Core.Path.{_≡_, refl, ap, sym, _∙_, subst}
-use mathlib.Core.Bool.{Bool, true, false, not, cond, _||_}
+use mathlib.Core.Path.{_≡_, ap, sym, _∙_, subst}
 use mathlib.Core.List.{List, [], _∷_, map}
 use Prim.Native.Nat.{ℕ, _+_, _≤_, _<_}
 use native.Mathlib.Omega.{arith}
-use lib.Dec.{eqb}
 use lib.ListN.{getD, drop}
-use Rattle.definition.specs.Lists.{filter, any}
 use Rattle.definition.specs.Plane.{Edge}
-use Rattle.definition.specs.Cells.{quad, Live, Event, was-placed, Mesh, with-live, noting, in-slot, among, without, without-all, remove-cell, remove-cells, push-cell, new-live}
+use Rattle.definition.specs.Cells.{quad, Live, was-placed, Mesh, with-live, remove-cell, remove-cells, push-cell, new-live}
 use Rattle.definition.specs.Attempt.{replaced}
-use Rattle.laws.specs.Numbers.{eqb-swap}
-use Rattle.laws.specs.Cells.{none-gone}
+use Rattle.laws.specs.Cells.{none-gone, one-by-one}
 use Rattle.laws.specs.Frames.{Keeps, keeps-trans}
 use Rattle.cells.specs.Layout.{mesh-end, list-at}
 use Rattle.cells.specs.Rep.{Rep}
-use Rattle.cells.proofs.Frames.{rep-as}
-use Rattle.cells.proofs.Notes.{grown-same}
 use Rattle.meshes.specs.Changes.{Turns, Anything, CanPush, quad-of-nodes, born-of-nodes}
+use Rattle.cells.proofs.Slots.{rep-noting}
 use Rattle.regions.specs.Listing.{Listed}
 use Rattle.regions.specs.Fill.{Gone, Replaced}
 use Rattle.regions.proofs.Visits.{tri-inside}
@@ -29,26 +24,10 @@ unfoldable pub removes : Mesh → List Live → Mesh
 removes m [] = m
 removes m (x ∷ xs) = removes (remove-cell m (x .slot)) xs
 
-one-gone : (x : Live) (xs l : List Live) → without-all xs (without (x .slot) l) ≡ without-all (x ∷ xs) l
-unfolding without-all without filter among any in-slot
-one-gone x xs [] = refl
-one-gone x xs (y ∷ l) = go (eqb (x .slot) (y .slot)) refl (one-gone x xs l)
-  where
-    go : (b : Bool) → eqb (x .slot) (y .slot) ≡ b → without-all xs (without (x .slot) l) ≡ without-all (x ∷ xs) l
-        → without-all xs (cond (not (eqb (x .slot) (y .slot))) (y ∷ without (x .slot) l) (without (x .slot) l))
-        ≡ cond (not (eqb (y .slot) (x .slot) || any (in-slot (y .slot)) xs)) (y ∷ without-all (x ∷ xs) l) (without-all (x ∷ xs) l)
-    go true e h =
-        ap (λ (b : Bool). without-all xs (cond (not b) (y ∷ without (x .slot) l) (without (x .slot) l))) e ∙ h
-        ∙ sym (ap (λ (b : Bool). cond (not (b || any (in-slot (y .slot)) xs)) (y ∷ without-all (x ∷ xs) l) (without-all (x ∷ xs) l)) (eqb-swap (y .slot) (x .slot) ∙ e))
-    go false e h =
-        ap (λ (b : Bool). without-all xs (cond (not b) (y ∷ without (x .slot) l) (without (x .slot) l))) e
-        ∙ ap (λ (k : List Live). cond (not (any (in-slot (y .slot)) xs)) (y ∷ k) k) h
-        ∙ sym (ap (λ (b : Bool). cond (not (b || any (in-slot (y .slot)) xs)) (y ∷ without-all (x ∷ xs) l) (without-all (x ∷ xs) l)) (eqb-swap (y .slot) (x .slot) ∙ e))
-
 removes-all : (m : Mesh) (xs : List Live) → removes m xs ≡ remove-cells m xs
 unfolding removes remove-cells remove-cell with-live
 removes-all m [] = sym (ap (λ (l : List Live). with-live m (m .used) l) (none-gone (m .live)))
-removes-all m (x ∷ xs) = removes-all (remove-cell m (x .slot)) xs ∙ ap (λ (l : List Live). with-live m (m .used) l) (one-gone x xs (m .live))
+removes-all m (x ∷ xs) = removes-all (remove-cell m (x .slot)) xs ∙ ap (λ (l : List Live). with-live m (m .used) l) (one-by-one x xs (m .live))
 
 -- ---- the loop: the cells of the first i places are gone
 
@@ -82,11 +61,6 @@ module _ (w₀ w : List ℕ) (s p n i : ℕ) (m : Mesh) (xs : List Live) (h : Li
         }
 
 -- ---- the quad
-
--- an event that is noted changes nothing that the memory stands for
-rep-noting : (v : Event) (m : Mesh) (w : List ℕ) (s p : ℕ) → Rep w s p m → Rep w s p (noting v m)
-unfolding noting
-rep-noting v m w s p r = rep-as w s p m (noting v m) r (omega arith) (r .used) (grown-same m (noting v m) refl) (r .points) refl
 
 module _ (w w1 w2 : List ℕ) (s p i n a b c d : ℕ) (g : Gone w w1 s p n remove-cells)
     (t : (e : Edge) (round gone : ℕ) → Turns w1 w2 s p (λ m. CanPush m s i (quad-of-nodes a b c d)) (λ m. push-cell m (quad (born-of-nodes e round gone a b c d)))) where

@@ -4,6 +4,7 @@ mod floats;
 use mesher::Answer;
 use reading::found::Header;
 use reading::found::Reading;
+use words::float_of;
 use writing::Counts;
 use writing::Lengths;
 ghost use mathlib.Core.Option.{some};
@@ -84,7 +85,7 @@ fn meshed(h: Header, tris: &[u32], bits: &[u64], out: &mut [u8]) -> usize
     let count = h.triangles;
     let mut points = [0.0f64; 288];
     floats::fill(bits, 3 * given, &mut points);
-    let size = floats::float_of(h.size);
+    let size = float_of(h.size);
     let mut quads = [0u32; 1280];
     let mut triangles = [0u32; 480];
     let mut components = [0u32; 160];

@@ -2,23 +2,23 @@
 use mathlib.Core.Path.{_≡_, refl, sym, ap, _∙_, subst}
 use mathlib.Core.Bool.{false}
 use mathlib.Core.List.{List, [], _∷_}
-use Prim.Native.Nat.{ℕ, suc, _+_, _*_, _<_, _≤_}
+use Prim.Native.Nat.{ℕ, suc, _+_, _*_, _≤_}
 use native.Mathlib.Omega.{arith}
 use lib.ListN.{length, getD, replicate, length-replicate}
 use Rattle.rings.specs.Rings.{Distinct, Below}
 use Rattle.definition.specs.Lists.{filter, any, flat-map, table, numbers, below}
-use Rattle.definition.specs.Cells.{Tri, tri, Live, new-live, nodes, tri-nodes, new-tri, has-edge-in, with-live}
+use Rattle.definition.specs.Cells.{Tri, tri, Live, new-live, has-edge-in, with-live}
 use Rattle.definition.specs.Trace.{quads-placed}
 use Rattle.definition.specs.Front.{in-slots, new-mesh}
-use Rattle.definition.specs.Call.{Lent, tri-at, first-points, given-points, given-tris, onto, settings-within, settings}
+use Rattle.definition.specs.Call.{Lent, first-points, given-points, given-tris, onto, settings-within, settings}
 use Rattle.definition.specs.Replay.{Told, as-asked}
 use Rattle.account.specs.Finished.{points-number, tris-number}
 use Rattle.joints.specs.Table.{edge-in, Locks}
-use Rattle.cells.specs.Rep.{Shape, slots, Rep, Pts}
+use Rattle.cells.specs.Rep.{slots, Rep, Pts}
 use Rattle.cells.proofs.Slots.{slots-below}
 use Rattle.meshes.specs.Build.{Given, IsNew, Builds, CanBuild}
-use Rattle.refusals.specs.Passed.{Apart}
 use Rattle.refusals.specs.Refusals.{none-holds}
+use Rattle.meshes.proofs.Valid.{shape-at}
 use Rattle.retrace.specs.Stored.{plain, kept, stored}
 use Rattle.retrace.specs.Plays.{quad-in, quads-of, Small}
 use Rattle.retrace.specs.Opening.{opening-number, first-mesh, CanBegin, Begins}
@@ -40,15 +40,6 @@ unfolding quads-of flat-map in-slots quad-in new-live
 no-quads n [] = refl
 no-quads n (t ∷ ts) = no-quads (suc n) ts
 
--- a triangle with three nodes among the given points
-shape-at : (ts : List ℕ) (g i : ℕ) → Apart ts i → getD ts (3 * i) 0 < g → getD ts (3 * i + 1) 0 < g → getD ts (3 * i + 2) 0 < g → Shape g (tri (tri-at ts i))
-unfolding nodes tri-nodes tri-at new-tri
-shape-at ts g i h a b c =
-    record {
-      distinct = ((λ e. h .d01 (sym e), (λ e. h .d02 (sym e), tt)), ((λ e. h .d12 (sym e), tt), (tt, tt)));
-      known = (a, (b, (c, tt)));
-    }
-
 -- ---- the first mesh
 
 module _ (t : Told) (l : Lent) (h : opening-number t l ≡ 0) where
@@ -56,7 +47,7 @@ module _ (t : Told) (l : Lent) (h : opening-number t l ≡ 0) where
   unfolding as-asked
   given-shapes i k =
       let p = opened t l h .passed in
-      shape-at (l .triangles) (t .given) i (p .apart i k) (p .known (3 * i) (omega arith)) (p .known (3 * i + 1) (omega arith)) (p .known (3 * i + 2) (omega arith))
+      shape-at (l .triangles) (t .given) i (p .apart i k .d01) (p .apart i k .d02) (p .apart i k .d12) (p .known (3 * i) (omega arith)) (p .known (3 * i + 1) (omega arith)) (p .known (3 * i + 2) (omega arith))
 
   -- what building it asks
   pub can-build : CanBuild (l .work) (t .slots) (t .capacity) (l .triangles) (t .count) (t .given)

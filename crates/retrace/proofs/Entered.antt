@@ -4,7 +4,7 @@ use mathlib.Core.Bool.{Bool, true, false, not, _&&_, _||_, cond}
 use mathlib.Core.Logic.{inl, inr}
 use mathlib.Core.List.{List, [], _∷_, _++_, map, append-nil}
 use mathlib.Core.Option.{Option, none, some}
-use Prim.{absurd, tt}
+use Prim.{absurd}
 use Prim.Native.Nat.{ℕ, _+_, _-_, _*_, _<_, _≤_}
 use native.Mathlib.Omega.{arith}
 use lib.Dec.{ltb, eqb}
@@ -24,20 +24,21 @@ use Rattle.definition.specs.Attempt.{replaced}
 use Rattle.definition.specs.Replay.{word, entered-quad, cells-in, all-different, triangles-in, Redone, redone, balked, unsound, redo}
 use Rattle.laws.specs.Bools.{which, never, both}
 use Rattle.laws.specs.Lists.{no-some, find-in, flat-map-append}
+use Rattle.laws.specs.Slices.{quads-length, put-middle}
 use Rattle.rules.specs.Settings.{Suits}
 use Rattle.cells.specs.Rep.{Rep, slots}
 use Rattle.cells.proofs.Points.{pts-as}
 use Rattle.meshes.specs.Changes.{born-of-nodes}
-use Rattle.traces.proofs.Parts.{put-middle, put-length}
-use Rattle.flips.proofs.Notes.{rep-noting}
-use Rattle.leftovers.proofs.Orders.{find-out}
+use Rattle.traces.proofs.Parts.{put-length}
+use Rattle.account.specs.Redo.{placed-last}
+use Rattle.cells.proofs.Slots.{out-filter, rep-noting, find-out}
 use Rattle.retrace.specs.Stored.{four, plain, kept, stored}
 use Rattle.retrace.specs.Takes.{has-tri, taking, TakesTo, CanPlace, PutsWords}
 use Rattle.retrace.specs.Plays.{quad-in, quads-of, placed, Plays, EntryTo}
 use Rattle.retrace.specs.declared.Playing.{Playing}
 use Rattle.retrace.proofs.Keeping.{stored-if, stored-noting, filter-swap}
 use Rattle.retrace.proofs.Taking.{taken, taking-is, cell-slot}
-use Rattle.retrace.proofs.Seats.{Seats, TriSlot, tri-slot, slots-filter-out, seats-take, seats-push, seats-as, quads-without, quads-push, placed-last}
+use Rattle.retrace.proofs.Seats.{Seats, TriSlot, tri-slot, seats-take, seats-push, seats-as, quads-without, quads-push}
 use Rattle.retrace.proofs.Flipping.{seats, broken-entry}
 use Rattle.retrace.proofs.Placing.{has-nothing, has-some}
 
@@ -55,11 +56,6 @@ entry-words (a ∷ b ∷ c ∷ d ∷ e ∷ f ∷ []) l = absurd (omega arith)
 entry-words (a ∷ b ∷ c ∷ d ∷ e ∷ f ∷ g ∷ []) l = absurd (omega arith)
 entry-words (a ∷ b ∷ c ∷ d ∷ e ∷ f ∷ g ∷ h ∷ []) l = absurd (omega arith)
 entry-words (a ∷ b ∷ c ∷ d ∷ e ∷ f ∷ g ∷ h ∷ i ∷ ws) l = refl
-
-quads-length : (qs : List Quad) → length (flat-map quad-words qs) ≡ 8 * length qs
-unfolding flat-map quad-words
-quads-length [] = refl
-quads-length (k ∷ qs) = omega (arith, quads-length qs)
 
 one-quad : (qs : List Quad) (x : Quad) → flat-map quad-words (qs ++ x ∷ []) ≡ flat-map quad-words qs ++ quad-words x
 unfolding flat-map
@@ -145,7 +141,7 @@ has-kept i (x ∷ l) d = elim (which (eqb i (x .slot))) [
     | inl f ↦ rw (f, e) refl
     | inr f ↦
         let same : i ≡ x .slot = eqb-true i (x .slot) e in
-        let out : Out i (slots (filter kept l)) = slots-filter-out kept i l (subst (λ (j : ℕ). Out j (slots l)) (sym same) (d .0)) in
+        let out : Out i (slots (filter kept l)) = out-filter kept i l (subst (λ (j : ℕ). Out j (slots l)) (sym same) (d .0)) in
         rw (f, e) (ap has-of (find-out i (filter kept l) out) ∙ sym (unkept (x .cell) f))
   ]
   | inr e ↦ elim (which (plain (x .cell))) [

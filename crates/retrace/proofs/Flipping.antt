@@ -31,11 +31,12 @@ use Rattle.flips.specs.declared.flip.Turned.the-variants.{Not, Short, Flipped a
 use Rattle.flips.proofs.Recovers.{flip-yes}
 use Rattle.cells.proofs.Edges.{joins, keys, key-up}
 use Rattle.cells.proofs.Points.{pts-as}
+use Rattle.account.specs.Redo.{placed-last}
 use Rattle.retrace.specs.Stored.{four, plain, kept, stored}
-use Rattle.retrace.specs.Plays.{quad-in, quads-of, placed, Plays, Small, Broken, EntryTo}
+use Rattle.retrace.specs.Plays.{quad-in, quads-of, placed, Plays, Small, EntryTo}
 use Rattle.retrace.specs.declared.Playing.{Playing}
 use Rattle.retrace.proofs.Keeping.{stored-if, stored-used, hidden, stored-flip, two-tris}
-use Rattle.retrace.proofs.Seats.{Seats, slot-given, seats-set, seats-as, tri-slot, quads-set, still-tri, placed-last}
+use Rattle.retrace.proofs.Seats.{Seats, slot-given, seats-set, seats-as, tri-slot, quads-set, still-tri}
 
 -- ---- an edge of a quad
 

@@ -1,17 +1,16 @@
 -- What is done to a mesh is done to what is stored of it.
-use mathlib.Core.Path.{_≡_, refl, sym, ap, _∙_, subst}
-use mathlib.Core.Bool.{Bool, true, false, not, _&&_, _||_, cond}
+use mathlib.Core.Path.{_≡_, refl, sym, ap, _∙_}
+use mathlib.Core.Bool.{Bool, true, false, not, _&&_, _||_}
 use mathlib.Core.Logic.{inl, inr}
 use mathlib.Core.List.{List, [], _∷_, _++_, map, append-nil}
 use mathlib.Core.Option.{Option, none, some}
 use Prim.{absurd}
-use Prim.Native.Nat.{ℕ, suc, _+_}
+use Prim.Native.Nat.{ℕ, suc}
 use native.Mathlib.Omega.{arith}
-use lib.Dec.{ltb, eqb}
 use lib.ListN.{length}
-use Rattle.definition.specs.Lists.{filter, any, insert, sort, flat-map}
+use Rattle.definition.specs.Lists.{filter, any}
 use Rattle.definition.specs.Plane.{Node, Edge}
-use Rattle.definition.specs.Cells.{Tri, Quad, Cell, tri, quad, Live, Event, was-split, was-flipped, was-placed, Mesh, new-tri, new-live, node-at, is-tri, live-tri, owns, owners, is-locked, in-slot, tri-of, tris-of, in-slot-order, triangles, with-live, noting, without, among, without-all, remove-cells, set-cell, push-cell}
+use Rattle.definition.specs.Cells.{Tri, Quad, Cell, tri, quad, Live, Event, was-split, was-flipped, was-placed, Mesh, new-tri, new-live, node-at, is-tri, live-tri, owns, owners, is-locked, in-slot, with-live, noting, without, among, without-all, remove-cells, set-cell, push-cell}
 use Rattle.definition.specs.Flips.{third, apart, convex-pair, first-turned, second-turned, runs, set-tris, flipped, flip-tris, flip-cells, flip-owners, flip}
 use Rattle.definition.specs.Insertion.{with-point, split-triangle}
 use Rattle.definition.specs.Attempt.{replaced}

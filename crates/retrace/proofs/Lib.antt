@@ -4,10 +4,8 @@ pub mod Beginning
 pub mod Returns
 pub mod Keeping
 pub mod Taking
-pub mod Bits
 pub mod Seats
 pub mod Flipping
-pub mod Holding
 pub mod Splitting
 pub mod Placing
 pub mod Entered

@@ -2,8 +2,7 @@
 use mathlib.Core.Path.{_≡_, refl, sym, _∙_}
 use mathlib.Core.Logic.{_≢_}
 use mathlib.Core.Bool.{Bool, true, false, cond}
-use mathlib.Core.List.{List, [], _∷_}
-use mathlib.Core.Option.{Option, none, some}
+use mathlib.Core.Option.{none}
 use Prim.{absurd}
 use Prim.Native.Nat.{ℕ, _<_, _≤_}
 use native.Mathlib.Omega.{arith}
@@ -16,19 +15,10 @@ use Rattle.definition.specs.Floats.{_≼_, f64, 0·0, 0·1, 0·3, 0·5, 0·9063
 use Rattle.definition.specs.Numbers.{base}
 use Rattle.definition.specs.Call.{Lent, over-limit, bad-size, bad-stop, ranges, good-quality, bad-quality, most-pairs, too-short, unknown-node, repeated-node, far-point, bad-grid, most-joints, bad-joints, given-joints, settings}
 use Rattle.definition.specs.Replay.{Told, as-asked, replay-conditions, unplayed, after-replay, replay-words, replay}
-use Rattle.refusals.specs.Refusals.{number-of, first-refusal, in-turn, passed}
+use Rattle.refusals.specs.Refusals.{number-of, first-refusal, in-turn, passed, turn, no-turn, some-found}
 use Rattle.retrace.specs.Opening.{opening-number, Opened, first-mesh}
 
 -- ---- one test after the other
-
-turn : (k : ℕ) (b : Bool) (cs : List (ℕ × Bool)) → number-of (find (λ c. c .1) ((k, b) ∷ cs)) ≡ cond b k (number-of (find (λ c. c .1) cs))
-unfolding number-of find
-turn k true cs = refl
-turn k false cs = refl
-
-no-turn : number-of (find (λ c. c .1) []) ≡ 0
-unfolding number-of find
-no-turn = refl
 
 -- of a call
 abbrev call-by : (b1 b4 b5 b6 b7 : Bool) → ℕ
@@ -71,11 +61,6 @@ none-holds false false false true b6 b7 e = absurd (omega (arith, e))
 none-holds false false false false true b7 e = absurd (omega (arith, e))
 none-holds false false false false false true e = absurd (omega (arith, e))
 none-holds false false false false false false e = record { c1 = refl; c4 = refl; w = refl; c5 = refl; c6 = refl; c7 = refl }
-
-some-found : (o : Option (ℕ × Bool)) → number-of o ≢ 0 → (c : ℕ × Bool) × (o ≡ some c)
-unfolding number-of
-some-found none h = absurd (h refl)
-some-found (some c) h = (c, refl)
 
 -- ---- what a replay does not know
 

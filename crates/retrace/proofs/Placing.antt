@@ -1,34 +1,32 @@
 -- A quad placed again: its nodes, its slots, its words.
-use mathlib.Core.Path.{_≡_, refl, sym, ap, ap₂, _∙_, subst}
-use mathlib.Core.Bool.{Bool, true, false, not, _&&_, _||_, cond}
-use mathlib.Core.Logic.{inl, inr, _≢_}
-use mathlib.Core.List.{List, [], _∷_, _++_, map, append-nil}
+use mathlib.Core.Path.{_≡_, refl, sym, ap, _∙_, subst}
+use mathlib.Core.Bool.{Bool, true, false, not, _&&_, _||_}
+use mathlib.Core.Logic.{_≢_}
+use mathlib.Core.List.{List, [], _∷_}
 use mathlib.Core.Option.{Option, none, some}
 use Prim.{absurd, tt}
-use Prim.Native.Nat.{ℕ, suc, _+_, _-_, _*_, _<_, _≤_}
+use Prim.Native.Nat.{ℕ, suc, _+_, _-_, _<_, _≤_}
 use native.Mathlib.Omega.{arith}
 use lib.Dec.{ltb, eqb}
 use lib.ListN.{length, getD, take, drop}
 use lib.Seq.{drop-cons}
-use borrow.Author.Tests.{eqb-true, eq-eqb, ne-eqb, lt-ltb, le-ltb}
-use Rattle.rings.specs.Rings.{Out, Distinct, Below}
-use Rattle.definition.specs.Lists.{filter, find, any, all, flat-map}
+use borrow.Author.Tests.{eq-eqb, ne-eqb, lt-ltb, le-ltb}
+use Rattle.rings.specs.Rings.{Distinct}
+use Rattle.definition.specs.Lists.{any, all, flat-map}
 use Rattle.definition.specs.Plane.{Edge}
-use Rattle.definition.specs.Cells.{Quad, Cell, tri, quad, Live, Mesh, new-quad, nodes, quad-nodes, is-tri, live-tri, in-slot, cell-of, with-live, without, remove-cell, push-cell}
+use Rattle.definition.specs.Cells.{Quad, Cell, tri, quad, Live, Mesh, new-quad, nodes, quad-nodes, is-tri, live-tri, cell-of, with-live, remove-cell, push-cell}
 use Rattle.definition.specs.Replay.{cells-in}
-use Rattle.laws.specs.Bools.{which, never, both}
-use Rattle.laws.specs.Lists.{known, no-some}
-use Rattle.cells.specs.Rep.{CellAt, Shape, Rep, Has, slots}
+use Rattle.laws.specs.Bools.{never, both}
+use Rattle.laws.specs.Lists.{known}
+use Rattle.cells.specs.Rep.{CellAt, Rep, Has}
 use Rattle.cells.proofs.Members.{Lookup, absent, present, lookup}
-use Rattle.cells.proofs.Slots.{read-tri, read-quad, rep-held, slots-below, slots-without}
+use Rattle.cells.proofs.Slots.{read-tri, read-quad, rep-held, cell-none, cell-some}
 use Rattle.cells.proofs.Frames.{rep-as}
 use Rattle.cells.proofs.Notes.{grown-same}
 use Rattle.meshes.specs.Changes.{born-of-nodes, quad-of-nodes, CanPush, Turns}
-use Rattle.leftovers.proofs.Orders.{find-out}
-use Rattle.retrace.specs.Stored.{four, plain, kept, stored}
+use Rattle.retrace.specs.Stored.{four, plain, stored}
 use Rattle.retrace.specs.Takes.{has-tri, taking, TakesTo, TakesOut, CanPlace, Places}
 use Rattle.retrace.proofs.Keeping.{stored-used, stored-points, stored-push, stored-skip}
-use Rattle.retrace.proofs.Holding.{cell-none, cell-some}
 
 -- ---- four nodes
 

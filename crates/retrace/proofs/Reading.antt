@@ -16,7 +16,7 @@ use Rattle.definition.specs.Cells.{Event, was-split, was-flipped, was-placed, M
 use Rattle.definition.specs.Trace.{double-of}
 use Rattle.definition.specs.Replay.{Read, reading, word, is-kind, entered-quad, read-entry, Redone, redone, balked, unsound, redo, Replayed, whole, broken, replay-in, replay-words}
 use Rattle.retrace.specs.Plays.{Plays, Broken, EntryTo}
-use Rattle.retrace.specs.Reads.{AtKind, ReadOne, ReadTo, Whole, Cut, PlayTo}
+use Rattle.retrace.specs.Reads.{AtKind, ReadOne, ReadTo, Cut, PlayTo}
 use Rattle.retrace.specs.declared.Playing.{Playing}
 
 -- ---- the kinds

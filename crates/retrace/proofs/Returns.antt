@@ -1,20 +1,18 @@
 -- What stands in the slices at the end of a replay is what the definition's replay returns.
-use mathlib.Core.Path.{_≡_, refl, sym, ap, _∙_, subst}
+use mathlib.Core.Path.{_≡_, refl, sym, ap, _∙_}
 use mathlib.Core.Logic.{_≢_}
-use mathlib.Core.List.{List, [], _∷_, _++_}
-use Prim.{absurd}
-use Prim.Native.Nat.{ℕ, zero, suc, _+_, _*_, _≤_}
+use mathlib.Core.List.{List, []}
+use Prim.Native.Nat.{ℕ}
 use native.Mathlib.Omega.{arith}
-use lib.ListN.{length, getD, take, drop}
-use lib.Seq.{drop-cons}
+use lib.ListN.{length, take}
 use lib.Ieee.{Float}
-use Rattle.definition.specs.Lists.{flat-map, table, numbers, below}
+use Rattle.definition.specs.Lists.{flat-map}
 use Rattle.definition.specs.Floats.{0·0}
-use Rattle.definition.specs.Plane.{Node}
 use Rattle.definition.specs.Cells.{Tri, Mesh, tri-nodes, triangles}
 use Rattle.definition.specs.Components.{component-sizes}
-use Rattle.definition.specs.Call.{Lent, point-at, first-points, coordinates, onto, all-of, settings, written}
+use Rattle.definition.specs.Call.{Lent, onto, all-of, settings, written}
 use Rattle.definition.specs.Replay.{Told, whole, broken, as-asked, Replay-returned, unplayed, replay-words, after-replay, replay}
+use Rattle.laws.specs.Slices.{onto-none, cleared, points-onto}
 use Rattle.retrace.specs.Plays.{placed, Plays}
 use Rattle.retrace.specs.Opening.{opening-number, first-mesh}
 use Rattle.retrace.specs.Ending.{FinishTo}
@@ -24,60 +22,6 @@ use Rattle.retrace.specs.declared.ending.Replayed.{Replayed}
 use Rattle.retrace.proofs.Openings.{replay-runs, replay-refused}
 
 -- ---- slices
-
--- a cleared slice is known by its length
-cleared : {A : Type 0} (z : A) (xs ys : List A) → length xs ≡ length ys → all-of z xs ≡ all-of z ys
-unfolding all-of
-cleared z [] [] e = refl
-cleared z [] (y ∷ ys) e = absurd (omega arith)
-cleared z (x ∷ xs) [] e = absurd (omega arith)
-cleared {A} z (x ∷ xs) (y ∷ ys) e = ap (λ (k : List A). z ∷ k) (cleared z xs ys (omega arith))
-
--- the floats of n points from point i on
-points-from : (q : List Float) (i n : ℕ) → 3 * (i + n) ≤ length q → flat-map coordinates (table (point-at q) (numbers i n)) ++ drop (3 * (i + n)) q ≡ drop (3 * i) q
-unfolding flat-map table numbers coordinates point-at
-points-from q i zero h = let e : 3 * (i + 0) ≡ 3 * i = omega arith in ap (λ (k : ℕ). drop k q) e
-points-from q i (suc n) h =
-    let e : suc i + n ≡ i + suc n = omega arith in
-    let more : flat-map coordinates (table (point-at q) (numbers (suc i) n)) ++ drop (3 * (i + suc n)) q ≡ drop (3 * suc i) q =
-    subst (λ (k : ℕ). flat-map coordinates (table (point-at q) (numbers (suc i) n)) ++ drop (3 * k) q ≡ drop (3 * suc i) q) e (points-from q (suc i) n (omega arith)) in
-    let d0 = drop-cons q (3 * i) 0·0 (omega arith) in
-    let d1 = drop-cons q (3 * i + 1) 0·0 (omega arith) in
-    let d2 = drop-cons q (3 * i + 2) 0·0 (omega arith) in
-    let s0 : suc (3 * i) ≡ 3 * i + 1 = omega arith in
-    let s1 : suc (3 * i + 1) ≡ 3 * i + 2 = omega arith in
-    let s2 : suc (3 * i + 2) ≡ 3 * suc i = omega arith in
-    let x = getD q (3 * i) 0·0 in
-    let y = getD q (3 * i + 1) 0·0 in
-    let z = getD q (3 * i + 2) 0·0 in
-    ap (λ (k : List Float). x ∷ y ∷ z ∷ k) more
-    ∙ sym (d0 ∙ ap (λ (k : ℕ). x ∷ drop k q) s0
-    ∙ ap (λ (k : List Float). x ∷ k) (d1 ∙ ap (λ (k : ℕ). y ∷ drop k q) s1)
-    ∙ ap (λ (k : List Float). x ∷ y ∷ k) (d2 ∙ ap (λ (k : ℕ). z ∷ drop k q) s2))
-
-coordinates-length : (ps : List Node) → length (flat-map coordinates ps) ≡ 3 * length ps
-unfolding flat-map coordinates
-coordinates-length [] = refl
-coordinates-length (p ∷ ps) = omega (arith, coordinates-length ps)
-
--- the points of a slice at the front of what it was
-points-onto : (q q' : List Float) (ps : List Node) → ps ≡ first-points (length ps) q' → 3 * length ps ≤ length q' → drop (3 * length ps) q' ≡ drop (3 * length ps) q
-    → onto (flat-map coordinates ps) q ≡ q'
-unfolding onto first-points below
-points-onto q q' ps e h d =
-    let n = length ps in
-    let z : 3 * (0 + n) ≡ 3 * n = omega arith in
-    let o : 3 * 0 ≡ 0 = omega arith in
-    ap (λ (k : ℕ). flat-map coordinates ps ++ drop k q) (coordinates-length ps)
-    ∙ ap (λ (k : List Float). flat-map coordinates ps ++ k) (sym d)
-    ∙ ap (λ (k : List Node). flat-map coordinates k ++ drop (3 * n) q') e
-    ∙ ap (λ (k : ℕ). flat-map coordinates (table (point-at q') (numbers 0 n)) ++ drop k q') (sym z)
-    ∙ points-from q' 0 n (omega arith)
-    ∙ ap (λ (k : ℕ). drop k q') o
-
-onto-none : {A : Type 0} (old : List A) → onto [] old ≡ old
-unfolding onto
-onto-none old = refl
 
 no-tris : (old : List ℕ) → onto (flat-map tri-nodes []) old ≡ old
 unfolding onto flat-map

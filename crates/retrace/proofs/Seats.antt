@@ -1,24 +1,23 @@
 -- The slots and the quads of the live cells, as cells come and go.
 use mathlib.Core.Path.{_≡_, refl, sym, ap, _∙_, subst}
-use mathlib.Core.Bool.{Bool, true, false, not}
-use mathlib.Core.Logic.{inl, inr, _≢_}
+use mathlib.Core.Bool.{Bool, true, false}
+use mathlib.Core.Logic.{inl, inr}
 use mathlib.Core.List.{List, [], _∷_, _++_, append-nil}
 use mathlib.Core.Option.{some}
-use Prim.{absurd, tt}
-use Prim.Native.Nat.{ℕ, suc, _<_, _≤_}
+use Prim.{tt}
+use Prim.Native.Nat.{ℕ, suc, _<_}
 use native.Mathlib.Omega.{arith}
 use lib.Dec.{eqb}
-use borrow.Author.Tests.{eqb-true, eq-eqb, ne-eqb}
+use borrow.Author.Tests.{eqb-true, not-false}
 use Rattle.rings.specs.Rings.{Out, Distinct, Below, without as without-number}
-use Rattle.rings.proofs.Lists.{out-append, below-append, distinct-snoc, below-without, distinct-without, out-self}
+use Rattle.rings.proofs.Lists.{below-append, distinct-snoc, below-without, distinct-without, out-self}
 use Rattle.definition.specs.Lists.{filter, flat-map}
-use Rattle.definition.specs.Cells.{Tri, Quad, Cell, tri, quad, Live, Event, was-split, was-flipped, was-placed, Mesh, new-live, is-tri, live-tri, in-slot, cell-of, with-live, noting, without, set-cell, push-cell, remove-cell}
-use Rattle.definition.specs.Trace.{quads-placed}
+use Rattle.definition.specs.Cells.{Tri, Quad, Cell, tri, quad, Live, Mesh, new-live, is-tri, live-tri, in-slot, cell-of, with-live, without, set-cell, push-cell, remove-cell}
 use Rattle.laws.specs.Bools.{which, never}
 use Rattle.laws.specs.Lists.{In, in-either, in-filter, filter-yes, filter-no, flat-map-append}
-use Rattle.cells.specs.Rep.{slots, Has}
-use Rattle.cells.proofs.Slots.{slots-without, in-has, cell-is}
-use Rattle.cells.proofs.Corners.{slots-append}
+use Rattle.cells.specs.Rep.{slots}
+use Rattle.cells.proofs.Slots.{slots-without, in-has, cell-is, distinct-filter}
+use Rattle.cells.proofs.Corners.{slots-append, below-weaken}
 use Rattle.retrace.specs.Plays.{quad-in, quads-of}
 
 -- ---- slots
@@ -28,10 +27,6 @@ pub record Seats (m : Mesh) : Type 0 where
   pub distinct : Distinct (slots (m .live))
   pub below : Below (m .used) (slots (m .live))
 
-below-more : (a b : ℕ) (l : List ℕ) → a ≤ b → Below a l → Below b l
-below-more a b [] h k = tt
-below-more a b (x ∷ l) h k = (omega (arith, k .0), below-more a b l h (k .1))
-
 out-below : (a : ℕ) (l : List ℕ) → Below a l → Out a l
 out-below a [] h = tt
 out-below a (x ∷ l) h = (λ e. omega (arith, h .0), out-below a l (h .1))
@@ -40,22 +35,6 @@ out-below a (x ∷ l) h = (λ e. omega (arith, h .0), out-below a l (h .1))
 pub slot-given : (k : ℕ) (l : List Live) (x : Live) → Below k (slots l) → In x l → x .slot < k
 slot-given k (y ∷ l) x b (inl e) = subst (λ (z : Live). z .slot < k) (sym e) (b .0)
 slot-given k (y ∷ l) x b (inr i) = slot-given k l x (b .1) i
-
-pub slots-filter-out : (f : Live → Bool) (i : ℕ) (l : List Live) → Out i (slots l) → Out i (slots (filter f l))
-unfolding filter
-slots-filter-out f i [] o = tt
-slots-filter-out f i (x ∷ l) o = elim (which (f x)) [
-  | inl e ↦ rw e ((o .0, slots-filter-out f i l (o .1)))
-  | inr e ↦ rw e (slots-filter-out f i l (o .1))
-]
-
-slots-filter-distinct : (f : Live → Bool) (l : List Live) → Distinct (slots l) → Distinct (slots (filter f l))
-unfolding filter
-slots-filter-distinct f [] d = tt
-slots-filter-distinct f (x ∷ l) d = elim (which (f x)) [
-  | inl e ↦ rw e ((slots-filter-out f (x .slot) l (d .0), slots-filter-distinct f l (d .1)))
-  | inr e ↦ rw e (slots-filter-distinct f l (d .1))
-]
 
 slots-filter-below : (f : Live → Bool) (k : ℕ) (l : List Live) → Below k (slots l) → Below k (slots (filter f l))
 unfolding filter
@@ -83,14 +62,14 @@ module _ (m : Mesh) (h : Seats m) where
       let are : slots (m .live ++ (new-live n c ∷ [])) ≡ slots (m .live) ++ n ∷ [] = slots-append (m .live) (new-live n c ∷ []) in
       record {
         distinct = subst Distinct (sym are) (distinct-snoc (slots (m .live)) n (h .distinct) (out-below n (slots (m .live)) (h .below)));
-        below = subst (Below (suc n)) (sym are) (below-append (suc n) (slots (m .live)) (n ∷ []) (below-more n (suc n) (slots (m .live)) (omega arith) (h .below)) ((omega arith, tt)));
+        below = subst (Below (suc n)) (sym are) (below-append (suc n) (slots (m .live)) (n ∷ []) (below-weaken n (suc n) (slots (m .live)) (omega arith) (h .below)) ((omega arith, tt)));
       }
 
   pub seats-take : (i : ℕ) → Seats (remove-cell m i)
   unfolding remove-cell with-live without
   seats-take i =
       record {
-        distinct = slots-filter-distinct _ (m .live) (h .distinct);
+        distinct = distinct-filter _ (m .live) (h .distinct);
         below = slots-filter-below _ (m .used) (m .live) (h .below);
       }
 
@@ -142,13 +121,9 @@ pub quads-last : (l : List Live) (x : Live) → quads-of (l ++ (x ∷ [])) ≡ q
 unfolding quads-of flat-map
 quads-last l x = flat-map-append (λ y. quad-in (y .cell)) l (x ∷ []) ∙ ap (λ (z : List Quad). quads-of l ++ z) (append-nil (quad-in (x .cell)))
 
-not-true : (b : Bool) → not b ≡ false → b ≡ true
-not-true true e = refl
-not-true false e = never true refl e
-
 pub quads-without : (m : Mesh) (i : ℕ) → TriSlot m i → quads-of (without i (m .live)) ≡ quads-of (m .live)
 unfolding without in-slot
-quads-without m i h = quads-filter _ (m .live) (λ x j e. h x j (sym (eqb-true i (x .slot) (not-true (eqb i (x .slot)) e))))
+quads-without m i h = quads-filter _ (m .live) (λ x j e. h x j (sym (eqb-true i (x .slot) (not-false (eqb i (x .slot)) e))))
 
 pub quads-set : (m : Mesh) (i : ℕ) (t : Tri) → TriSlot m i → quads-of (set-cell m i (tri t) .live) ≡ quads-of (m .live)
 unfolding set-cell with-live new-live quad-in
@@ -169,15 +144,3 @@ still-tri m i j t h x k e = elim (in-either x (without i (m .live)) (new-live i 
   | inl a ↦ h x (in-filter _ (m .live) a .0) e
   | inr (inl a) ↦ ap live-tri a
 ]
-
--- ---- what was placed
-
-pub placed-last : (us : List Event) (v : Event) → quads-placed (us ++ (v ∷ [])) ≡ quads-placed us ++ quads-placed (v ∷ [])
-unfolding quads-placed
-placed-last [] v = sym (go v)
-  where
-    go : (v : Event) → [] ++ quads-placed (v ∷ []) ≡ quads-placed (v ∷ [])
-    go v = refl
-placed-last (was-split i p ∷ us) v = placed-last us v
-placed-last (was-flipped e ∷ us) v = placed-last us v
-placed-last (was-placed q ids ∷ us) v = ap (λ (l : List Quad). q ∷ l) (placed-last us v)

@@ -1,42 +1,43 @@
 -- A split done again.
 use mathlib.Core.Path.{_≡_, refl, sym, ap, _∙_, subst}
 use mathlib.Core.Bool.{Bool, true, false, not, cond}
-use mathlib.Core.Logic.{inl, inr, _≢_}
-use mathlib.Core.List.{List, [], _∷_, _++_, append-nil}
+use mathlib.Core.Logic.{inl, inr}
+use mathlib.Core.List.{List, [], _∷_, append-nil}
 use mathlib.Core.Option.{Option, none, some}
-use Prim.{absurd, tt}
-use Prim.Native.Nat.{ℕ, suc, _+_, _*_, _<_, _≤_}
+use Prim.{tt}
+use Prim.Native.Nat.{ℕ, _+_, _*_, _<_, _≤_}
 use native.Mathlib.Omega.{arith}
-use lib.Dec.{leb, ltb, eqb}
+use lib.Dec.{eqb}
 use lib.ListN.{length, drop, set, length-set, length-append}
 use lib.Seq.{drop-drop, drop-set-lt}
 use lib.Ieee.{Float}
-use borrow.Author.Tests.{eqb-true, eq-eqb, ne-eqb, lt-ltb, le-ltb, lt-leb, le-leb}
+use borrow.Author.Tests.{eqb-true, lt-ltb, le-ltb, lt-leb, le-leb}
 use Rattle.rings.specs.Rings.{Out, Distinct, Below}
 use Rattle.definition.specs.Lists.{filter, find, any, flat-map}
 use Rattle.definition.specs.Floats.{0·0}
 use Rattle.definition.specs.Numbers.{Settings}
-use Rattle.definition.specs.Counts.{of-points, of-slots, of-trace, number}
+use Rattle.definition.specs.Counts.{of-trace, number}
 use Rattle.definition.specs.Plane.{Node, flat}
 use Rattle.definition.specs.Call.{onto, quad-words}
 use Rattle.definition.specs.Cells.{Tri, Quad, Cell, tri, quad, Live, was-split, Mesh, new-tri, new-live, node-at, live-tri, is-tri, in-slot, cell-of, with-live, noting, set-cell, push-cell}
 use Rattle.definition.specs.Trace.{words-in, traced, in-room, quads-placed}
-use Rattle.definition.specs.Insertion.{Inserted, inserted, full, holds, with-point, split-triangle, split}
+use Rattle.definition.specs.Insertion.{inserted, full, holds, with-point, split-triangle, split}
 use Rattle.definition.specs.Replay.{Redone, redone, balked, unsound, redo-inserted, redo-split, redo}
 use Rattle.laws.specs.Bools.{which, never}
-use Rattle.laws.specs.Lists.{In, known, no-some, find-in, filter-in, filter-yes, filter-no}
+use Rattle.laws.specs.Lists.{In, known, find-in, filter-in}
 use Rattle.rules.specs.Settings.{Suits}
-use Rattle.cells.specs.Rep.{Rep, Pts, Has, slots, TriIn}
-use Rattle.cells.proofs.Slots.{in-has}
-use Rattle.flips.specs.Split.{with-spot, HasRoom, CanSplit, Splits}
-use Rattle.leftovers.proofs.Orders.{find-out}
-use Rattle.retrace.specs.Stored.{four, plain, kept, stored, slot-holds}
-use Rattle.retrace.specs.Plays.{quads-of, placed, Plays, Small, EntryTo}
+use Rattle.cells.specs.Rep.{Rep, Has, slots, TriIn}
+use Rattle.cells.proofs.Slots.{in-has, out-filter, find-out}
+use Rattle.flips.specs.Split.{with-spot, CanSplit, Splits}
+use Rattle.account.specs.Redo.{placed-last}
+use Rattle.insertion.specs.Hold.{slot-holds}
+use Rattle.retrace.specs.Stored.{four, plain, kept, stored}
+use Rattle.retrace.specs.Plays.{quads-of, placed, Plays, EntryTo}
 use Rattle.retrace.specs.declared.Playing.{Playing}
 use Rattle.retrace.proofs.Keeping.{stored-used, stored-points, stored-split}
 use Rattle.retrace.proofs.Taking.{cell-slot}
-use Rattle.retrace.proofs.Seats.{Seats, slots-filter-out, slot-given, seats-set, seats-push, seats-as, tri-slot, quads-set, quads-tri, placed-last}
-use Rattle.retrace.proofs.Flipping.{seats, broken-entry, points-stored}
+use Rattle.retrace.proofs.Seats.{Seats, slot-given, seats-set, seats-push, seats-as, tri-slot, quads-set, quads-tri}
+use Rattle.retrace.proofs.Flipping.{seats, broken-entry}
 
 -- ---- the triangle that holds the point
 
@@ -63,7 +64,7 @@ module _ (m : Mesh) (o : Node) where
       | inl f ↦ rw (f, e) refl
       | inr f ↦
           let same : i ≡ x .slot = eqb-true i (x .slot) e in
-          let out : Out i (slots (filter kept l)) = slots-filter-out kept i l (subst (λ (j : ℕ). Out j (slots l)) (sym same) (d .0)) in
+          let out : Out i (slots (filter kept l)) = out-filter kept i l (subst (λ (j : ℕ). Out j (slots l)) (sym same) (d .0)) in
           rw (f, e) (ap (slot-holds m o) (find-out i (filter kept l) out) ∙ sym (unkept (x .cell) f))
     ]
     | inr e ↦ elim (which (plain (x .cell))) [

@@ -1,20 +1,20 @@
 -- Slots given up one after the other are the definition's: each has a triangle, and none stands twice.
-use mathlib.Core.Path.{_≡_, refl, sym, ap, ap₂, _∙_, subst}
+use mathlib.Core.Path.{_≡_, refl, sym, ap, ap₂, _∙_}
 use mathlib.Core.Bool.{Bool, true, false, not, _&&_, _||_, cond}
-use mathlib.Core.Logic.{inl, inr, _≢_}
+use mathlib.Core.Logic.{inl, inr}
 use mathlib.Core.List.{List, [], _∷_, _++_}
 use mathlib.Core.Option.{Option, none, some}
 use Prim.{absurd}
 use Prim.Native.Nat.{ℕ}
 use native.Mathlib.Omega.{arith}
 use lib.Dec.{eqb}
-use borrow.Author.Tests.{eqb-true, eq-eqb, ne-eqb}
+use borrow.Author.Tests.{eqb-true, eq-eqb}
 use Rattle.definition.specs.Lists.{filter, any, all, find, flat-map, contains}
-use Rattle.definition.specs.Cells.{Live, Mesh, live-tri, in-slot, cell-of, with-live, without, among, without-all, remove-cell, remove-cells}
+use Rattle.definition.specs.Cells.{Live, Mesh, in-slot, cell-of, with-live, without, among, without-all, remove-cell, remove-cells}
 use Rattle.definition.specs.Replay.{cells-in, all-different, triangles-in}
 use Rattle.laws.specs.Bools.{which}
-use Rattle.laws.specs.Cells.{none-gone}
-use Rattle.laws.specs.Lists.{known, no-some}
+use Rattle.laws.specs.Cells.{none-gone, found-slot}
+use Rattle.laws.specs.Lists.{known}
 use Rattle.laws.specs.Numbers.{eqb-swap}
 use Rattle.retrace.specs.Takes.{has-tri, taking}
 
@@ -115,14 +115,6 @@ gone-first m i x cs s = ap (λ l. with-live m (m .used) l) (one-gone i x cs (m .
 none-at-all : (m : Mesh) → remove-cells m (cells-in m []) ≡ m
 unfolding remove-cells with-live cells-in flat-map
 none-at-all m = ap (λ l. with-live m (m .used) l) (none-gone (m .live))
-
-found-slot : (i : ℕ) (xs : List Live) (x : Live) → find (in-slot i) xs ≡ some x → x .slot ≡ i
-unfolding find in-slot
-found-slot i [] x e = no-some x e
-found-slot i (y ∷ ys) x e = elim (which (eqb i (y .slot))) [
-  | inl f ↦ let g : some y ≡ some x = rw f at e in let h : y ≡ x = cc in sym (eqb-true i (y .slot) f ∙ ap (λ z. z .slot) h)
-  | inr f ↦ found-slot i ys x (rw f at e)
-]
 
 -- the slot of a slot's cell
 pub cell-slot : (m : Mesh) (i : ℕ) (x : Live) → cell-of m i ≡ some x → x .slot ≡ i

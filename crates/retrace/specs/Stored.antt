@@ -1,11 +1,7 @@
 -- The mesh of a replay as it is stored: a quad that has a node twice is not among its cells.
-use mathlib.Core.Bool.{Bool, true, false, not, _&&_}
-use mathlib.Core.List.{List}
-use mathlib.Core.Option.{Option, none, some}
+use mathlib.Core.Bool.{Bool, true, not, _&&_}
 use lib.Dec.{eqb}
 use Rattle.definition.specs.Lists.{filter}
-use Rattle.definition.specs.Plane.{Node}
-use Rattle.definition.specs.Insertion.{holds}
 use Rattle.definition.specs.Cells.{Quad, Cell, tri, quad, Live, Mesh, with-live}
 
 -- the quad's four nodes differ
@@ -25,8 +21,3 @@ kept x = plain (x .cell)
 -- the mesh with those alone
 unfoldable pub stored : Mesh → Mesh
 stored m = with-live m (m .used) (filter kept (m .live))
-
--- the cell of a slot, if there is one, is a triangle with the point strictly inside
-abbrev pub slot-holds : Mesh → Node → Option Live → Bool
-slot-holds m o none = false
-slot-holds m o (some x) = holds m o (x .cell)

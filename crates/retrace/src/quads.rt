@@ -4,6 +4,7 @@ use crate::refused;
 use meshes::store::push_quad;
 use meshes::store::remove_cell;
 use rings::wide;
+use traces::copy_words;
 ghost use mathlib.Core.Path.{_≡_};
 ghost use mathlib.Core.Bool.{not, _||_};
 ghost use mathlib.Core.List.{List, [], _∷_, _++_};
@@ -26,7 +27,7 @@ ghost use Rattle.retrace.specs.Plays.{Plays, Small, EntryTo};
 // Words of a quad's entry before its slots, and of a quad in its slice.
 pub const HEAD: usize = 9;
 
-const QUAD: usize = 8;
+pub const QUAD: usize = 8;
 
 // One of the two.
 fn either(a: bool, b: bool) -> bool
@@ -36,19 +37,6 @@ fn either(a: bool, b: bool) -> bool
         return true;
     }
     b
-}
-
-// The n words of the trace from `from` on come to the front of a part of a slice.
-fn copy(out: &mut [u32], trace: &[u32], from: usize, n: usize)
-    requires { ⌜ n ≤ length (now out) ⌝ }
-    requires { ⌜ from + n ≤ length (now trace) ⌝ }
-    ensures { λ r. ⌜ now (out .exit) ≡ take n (drop from (now (trace .entry))) ++ drop n (now (out .entry)) ⌝ }
-{
-    let mut k = 0;
-    while k < n {
-        out[k] = trace[from + k];
-        k += 1;
-    }
 }
 
 // Each of four nodes is below n.
@@ -138,7 +126,7 @@ fn put_words(quads: &mut [u32], trace: &[u32], from: usize, k: usize)
     ensures { λ r. ⌜ PutsWords (now (quads .entry)) (now (quads .exit)) (now (trace .entry)) from k ⌝ }
 {
     let at = QUAD * k;
-    copy(&mut quads[at..], trace, from + 1, QUAD);
+    copy_words(&mut quads[at..], trace, from + 1, QUAD);
 }
 
 // The quad of the entry at hand takes the place of the triangles in its n slots: 12 where it names a node that is not there or a slot that holds no triangle or stands twice, then 9.

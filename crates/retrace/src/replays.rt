@@ -8,6 +8,7 @@ use crate::opening::begin;
 use crate::opening::opening;
 use cells::clear::clear_floats;
 use cells::clear::clear_words;
+use joints::TABLE;
 use refusals::Room;
 ghost use Rattle.definition.specs.Replay.{replay};
 ghost use Rattle.retrace.specs.Replaying.{told-of, lent-of, Replays};
@@ -44,7 +45,7 @@ pub fn replay(
         return broken(k);
     }
     let first = begin(work, triangles, told);
-    let unlocked = [0u32; 1537];
+    let unlocked = [0u32; TABLE];
     let words = told.words;
     let end = play(
         points,

@@ -1,40 +1,19 @@
 // A split done again.
 use crate::Playing;
 use crate::refused;
-use cells::find::kind;
-use cells::find::node;
 use flips::split::split_triangle;
-use plane::sides::point_strictly_inside;
+use insertion::holder::holds;
+use traces::SPLIT;
 ghost use mathlib.Core.Path.{_≡_};
 ghost use mathlib.Core.List.{List};
 ghost use Prim.Native.Nat.{ℕ, _+_, _^_, _<_};
 ghost use lib.Ieee.{Float};
 ghost use Rattle.definition.specs.Numbers.{Settings};
 ghost use Rattle.definition.specs.Plane.{flat};
-ghost use Rattle.definition.specs.Cells.{Mesh, was-split, cell-of};
+ghost use Rattle.definition.specs.Cells.{Mesh, was-split};
 ghost use Rattle.definition.specs.Replay.{redo};
 ghost use Rattle.rules.specs.Settings.{Suits};
-ghost use Rattle.cells.specs.Rep.{Rep, Pts};
-ghost use Rattle.retrace.specs.Stored.{slot-holds};
 ghost use Rattle.retrace.specs.Plays.{Plays, Small, EntryTo};
-
-// Words of a split's entry.
-pub const SPLIT: usize = 6;
-
-// Slot i has a triangle with the point x y strictly inside.
-fn holds(w: &[u32], q: &[f64], s: usize, p: usize, i: usize, x: f64, y: f64) -> bool
-    requires { ⌜ ((m : Mesh) × Rep (now w) s p m × Pts (now q) p m) ⌝ }
-    requires { ⌜ i < s ⌝ }
-    ensures { λ r. ⌜ ((m : Mesh) → Rep (now (w .entry)) s p m → Pts (now (q .entry)) p m → r ≡ slot-holds m (flat x y) (cell-of m i)) ⌝ }
-{
-    if kind(w, s, i) != 3 {
-        return false;
-    }
-    let a = node(w, s, i, 0);
-    let b = node(w, s, i, 1);
-    let c = node(w, s, i, 2);
-    point_strictly_inside(q, a, b, c, x, y)
-}
 
 // The triangle in slot i is split at the point x y: 12 where it does not hold it, then 8 and 9.
 pub fn split_at(

@@ -1,9 +1,11 @@
 // A flip done again.
 use crate::Playing;
+use crate::quads::QUAD;
 use crate::refused;
 use flips::flip::Turned;
 use flips::flip::flip;
 use rings::wide;
+use traces::FLIP;
 ghost use mathlib.Core.Path.{_≡_};
 ghost use mathlib.Core.Bool.{_&&_};
 ghost use mathlib.Core.List.{List};
@@ -17,11 +19,6 @@ ghost use Rattle.definition.specs.Call.{quad-at, first-quads};
 ghost use Rattle.definition.specs.Replay.{redo};
 ghost use Rattle.joints.specs.Table.{Locks};
 ghost use Rattle.retrace.specs.Plays.{Plays, Small, EntryTo};
-
-// Words of a flip's entry, and of a quad in its slice.
-pub const FLIP: usize = 3;
-
-const QUAD: usize = 8;
 
 // The edge u-v, the smaller node first, lies between a and b.
 fn is_side(a: usize, b: usize, u: usize, v: usize) -> bool

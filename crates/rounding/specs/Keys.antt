@@ -14,15 +14,10 @@ use lib.Ieee.Nearest.{div-mono}
 use Rattle.definition.specs.Floats.{_⊘_, _≺_, _≼_, lesser, greater, finite, f64, 0·0}
 use Rattle.definition.specs.Root.{floor}
 use Rattle.definition.specs.Flips.{ranges-meet}
-use Rattle.laws.specs.Bools.{of-T, to-T}
+use Rattle.laws.specs.Bools.{of-T, to-T, refuted}
 use Rattle.rounding.specs.Order.{AtMost, le→at-most, through-le, lt-le-clash, le-or-lt, real-left, real-right, not-below-nan, lowest, highest, round-le, round-real}
 
 -- ---- ≼ and ≺
-
--- a test that cannot pass
-failed : (b : Bool) → (T b → ⊥) → b ≡ false
-failed true f = absurd (f tt)
-failed false f = refl
 
 -- ≼ is transitive: no NaN, infinities and both zeros included
 pub le-trans : (x y z : Float) → (x ≼ y) ≡ true → (y ≼ z) ≡ true → (x ≼ z) ≡ true
@@ -32,12 +27,12 @@ le-trans x y z h k = of-T (le x z) (through-le x y z (to-T h) (to-T k))
 -- where x is below y, y is not at most x
 pub lt-not-le : (x y : Float) → (x ≺ y) ≡ true → (y ≼ x) ≡ false
 unfolding _≺_ _≼_
-lt-not-le x y h = failed (le y x) (lt-le-clash x y (to-T h))
+lt-not-le x y h = refuted (le y x) (lt-le-clash x y (to-T h))
 
 -- where x is at most y, y is not below x
 pub le-not-lt : (x y : Float) → (x ≼ y) ≡ true → (y ≺ x) ≡ false
 unfolding _≺_ _≼_
-le-not-lt x y h = failed (lt y x) (λ (l : T (lt y x)). lt-le-clash y x l (to-T h))
+le-not-lt x y h = refuted (lt y x) (λ (l : T (lt y x)). lt-le-clash y x l (to-T h))
 
 -- what is below is at most
 pub lt-le : (x y : Float) → (x ≺ y) ≡ true → (x ≼ y) ≡ true
@@ -186,7 +181,7 @@ key-clash (fin false p g) x y B h l = order-clash (x ⊘ fin false p g) (y ⊘ f
 -- of any two coordinates in order the first has no key above that of the second; an infinity over an infinity is a NaN, and so is its key
 pub key-not-above : (b x y : Float) → (0·0 ≺ b) ≡ true → (x ≼ y) ≡ true → (floor (y ⊘ b) ≺ floor (x ⊘ b)) ≡ false
 unfolding _≺_ _≼_
-key-not-above b x y B h = failed (lt (floor (y ⊘ b)) (floor (x ⊘ b))) (key-clash b x y (to-T B) (to-T h))
+key-not-above b x y B h = refuted (lt (floor (y ⊘ b)) (floor (x ⊘ b))) (key-clash b x y (to-T B) (to-T h))
 
 -- ---- ranges on two sides of k
 
@@ -213,7 +208,7 @@ apart-low k p q r s hp hq hr hs =
     let b = greater r s in
     let i : (k ≺ a) ≡ true = of-lesser (λ x. (k ≺ x) ≡ true) p q hp hq in
     let j : (k ≺ b) ≡ false = of-greater (λ x. (k ≺ x) ≡ false) r s hr hs in
-    let l : (a ≼ b) ≡ false = failed (a ≼ b) (λ (t : T (a ≼ b)). true≢false (sym (lt-le-trans k a b i (of-T (a ≼ b) t)) ∙ j)) in
+    let l : (a ≼ b) ≡ false = refuted (a ≼ b) (λ (t : T (a ≼ b)). true≢false (sym (lt-le-trans k a b i (of-T (a ≼ b) t)) ∙ j)) in
     rw l
 
 -- p and q lie below k, r and s do not; r and s may be NaNs
@@ -224,7 +219,7 @@ apart-high k p q r s hp hq hr hs =
     let b = greater p q in
     let i : (b ≺ k) ≡ true = of-greater (λ x. (x ≺ k) ≡ true) p q hp hq in
     let j : (a ≺ k) ≡ false = of-lesser (λ x. (x ≺ k) ≡ false) r s hr hs in
-    let l : (a ≼ b) ≡ false = failed (a ≼ b) (λ (t : T (a ≼ b)). true≢false (sym (le-lt-trans a b k (of-T (a ≼ b) t) i) ∙ j)) in
+    let l : (a ≼ b) ≡ false = refuted (a ≼ b) (λ (t : T (a ≼ b)). true≢false (sym (le-lt-trans a b k (of-T (a ≼ b) t) i) ∙ j)) in
     off (lesser p q ≼ greater r s) l
   where
     off : (a : Bool) {b : Bool} → b ≡ false → (a && b) ≡ false

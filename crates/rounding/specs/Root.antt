@@ -12,7 +12,8 @@ use lib.Ieee.Fits.{down-pos, up-pos}
 use lib.Ieee.Exact.{HasValue}
 use Rattle.definition.specs.Root.{isqrt, scale, sqrt}
 use Rattle.laws.specs.Isqrt.{IsRoot, lt-of-squares, four-pow, isqrt-levels, scaled-root}
-use Rattle.rounding.specs.Rounded.{left-over, left-over-le, half-up, round-root}
+use Rattle.laws.specs.Bools.{at-most-one}
+use Rattle.rounding.specs.Rounded.{left-over, half-up, round-root}
 use Rattle.rounding.specs.Parts.{Significand, Leading, Evened}
 use Rattle.rounding.specs.Fields.{units-bits, field-value}
 
@@ -130,7 +131,7 @@ rounded R s t h k n lo hi j e i =
     let T = 2 ^ t in
     let r = isqrt (size n / 2 + 1) n in
     let is : IsRoot n r = isqrt-levels n in
-    let v = bounds s T r (left-over n r) (root-ge R s lo i) (root-lt R s hi i) (scaled-root (R * 2 ^ 54) s T n r (pow-pos t) e i is) (left-over-le (ltb (r * r) n)) in
+    let v = bounds s T r (left-over n r) (root-ge R s lo i) (root-lt R s hi i) (scaled-root (R * 2 ^ 54) s T n r (pow-pos t) e i is) (at-most-one (ltb (r * r) n)) in
     round-root (2 * r + left-over n r) t h k ((s + 1) / 2) j (v .0) (v .1) (half-up R s T n r (pow-pos t) e i is)
 
 pub no-value : (e : ℤ) (a : ℕ) → 0 < a → 0 * up e * 2 ^ 1074 ≡ a * down e → ⊥

@@ -14,6 +14,7 @@ use lib.Ieee.Fits.{round-is}
 use lib.Ieee.Nearest.{closest, closest-same}
 use Rattle.laws.specs.Isqrt.{IsRoot, scaled-root}
 use Rattle.laws.specs.Numbers.{Cmp, cmp}
+use Rattle.laws.specs.Bools.{at-most-one}
 
 -- ---- what `compare` says
 
@@ -72,10 +73,6 @@ no-odd-root s p R e h =
 abbrev pub left-over : ℕ → ℕ → ℕ
 left-over n r = cond (ltb (r * r) n) 1 0
 
-pub left-over-le : (b : Bool) → cond b 1 0 ≤ 1
-left-over-le true = omega arith
-left-over-le false = omega arith
-
 exact : (n r : ℕ) → left-over n r ≡ 0 → n ≤ r * r
 exact n r = go (ltb (r * r) n) (nltb→le (r * r) n)
   where
@@ -93,7 +90,7 @@ pub half-up : (R s t n r : ℕ) → 0 < t → n ≡ R * 2 ^ 54 * (t * t) → IsR
 half-up R s t n r P f h k =
     let b = scaled-root (R * 2 ^ 54) s t n r P f h k in
     let p = s / 2 in
-    let C : left-over n r ≤ 1 = left-over-le (ltb (r * r) n) in
+    let C : left-over n r ≤ 1 = at-most-one (ltb (r * r) n) in
     elim (parity s) [
       | inl e ↦
           let z : p ≡ (s + 1) / 2 = omega arith in

@@ -3,6 +3,9 @@ ghost use mathlib.Core.Path.{_≡_};
 ghost use Rattle.definition.specs.Numbers.{base};
 ghost use Rattle.rules.specs.Settings.{quality-of};
 
+// Pairs that a set may permit.
+pub const MOST_PAIRS: usize = 64;
+
 // What an office may set: a quad passes with a scaled Jacobian of at least the one and a largest cosine of at most the other; the distance of a side node
 // lies between two factors of the target; so many pairs are tried.
 pub struct Quality {

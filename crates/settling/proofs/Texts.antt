@@ -1,10 +1,10 @@
 -- A quad's eight numbers behind those of the others.
 use mathlib.Core.Path.{_≡_, refl, ap, sym, _∙_}
-use mathlib.Core.List.{List, [], _∷_, _++_, append-assoc, append-nil}
+use mathlib.Core.List.{List, [], _∷_, _++_, append-nil}
 use Prim.Native.Nat.{ℕ, suc, min, max, _+_, _-_, _*_, _<_, _≤_}
 use native.Mathlib.Omega.{arith}
-use lib.ListN.{length, take, drop, set, length-append, length-drop, drop-of-length-le}
-use lib.Seq.{take-all, take-at, drop-at, drop-drop, sets-eq}
+use lib.ListN.{length, drop, set}
+use lib.Seq.{sets-eq}
 use borrow.Rule.Slice.PartMut.{midOf, putMid}
 use Rattle.definition.specs.Lists.{flat-map}
 use Rattle.definition.specs.Plane.{Edge}
@@ -12,6 +12,7 @@ use Rattle.definition.specs.Cells.{Quad, key, new-quad, born, quad-nodes}
 use Rattle.definition.specs.Front.{clear-of, freed}
 use Rattle.definition.specs.Call.{onto, quad-words}
 use Rattle.laws.specs.Lists.{flat-map-append}
+use Rattle.laws.specs.Slices.{quads-length, put-middle}
 use Rattle.outcomes.specs.Ends.{quad-of}
 use Rattle.outcomes.specs.declared.Tried.{Tried}
 use Rattle.settling.specs.Settles.{eight, next-quad}
@@ -20,31 +21,6 @@ use Rattle.settling.specs.Settles.{eight, next-quad}
 pub written : (l : List ℕ) (t : Tried) (u v round : ℕ) → 8 ≤ length l
     → set (set (set (set (set (set (set (set l 0 (t .n0)) 1 (t .n1)) 2 (t .n2)) 3 (t .n3)) 4 u) 5 v) 6 round) 7 (t .replaced) ≡ eight t u v round ++ drop 8 l
 written l t u v round h = sets-eq (eight t u v round) l 0 (omega arith)
-
--- the numbers of the quads are eight for each
-pub numbers-length : (qs : List Quad) → length (flat-map quad-words qs) ≡ 8 * length qs
-unfolding flat-map quad-words
-numbers-length [] = refl
-numbers-length (k ∷ qs) = omega (arith, numbers-length qs)
-
--- the slice keeps its length
-pub onto-length : (new old : List ℕ) → length new ≤ length old → length (onto new old) ≡ length old
-unfolding onto
-onto-length new old h = length-append new (drop (length new) old) ∙ omega (arith, length-drop (length new) old)
-
-put-middle : (F G old xs ys : List ℕ) (at : ℕ) → length G ≡ 8 → xs ≡ F ++ drop (length F) old → at ≡ length F → at + 8 ≤ length xs
-    → ys ≡ G ++ drop 8 (midOf at (length xs - at) xs) → putMid at (length xs - at) xs ys ≡ (F ++ G) ++ drop (length (F ++ G)) old
-put-middle F G old xs ys at g e f h k =
-    let front : take at xs ≡ F = ap (take at) e ∙ take-at F (drop (length F) old) at (sym f) in
-    let rest : drop at xs ≡ drop (length F) old = ap (drop at) e ∙ drop-at F (drop (length F) old) at (sym f) in
-    let mid : take (length xs - at) (drop at xs) ≡ drop at xs = take-all (length xs - at) (drop at xs) (omega (arith, length-drop at xs)) in
-    let none : drop (length xs - at) (drop at xs) ≡ [] = drop-of-length-le (drop at xs) {i = length xs - at} (omega (arith, length-drop at xs)) in
-    let tail : drop 8 (take (length xs - at) (drop at xs)) ≡ drop (length F + 8) old = ap (drop 8) (mid ∙ rest) ∙ drop-drop 8 (length F) old in
-    let both : length (F ++ G) ≡ length F + 8 = length-append F G ∙ ap (λ (z : ℕ). length F + z) g in
-    ap (λ (z : List ℕ). z ++ (ys ++ drop (length xs - at) (drop at xs))) front
-    ∙ ap (λ (z : List ℕ). F ++ (ys ++ z)) none
-    ∙ ap (λ (z : List ℕ). F ++ z) (append-nil ys ∙ k ∙ ap (λ (z : List ℕ). G ++ z) (tail ∙ ap (λ (z : ℕ). drop z old) (sym both)))
-    ∙ sym (append-assoc F G (drop (length (F ++ G)) old))
 
 -- the quad that the attempt placed, as eight numbers
 words-of : (t : Tried) (u v n round : ℕ) → key (t .n0) (t .n1) ≡ (u, v) → round ≡ n → quad-words (quad-of n t) ≡ eight t u v round
@@ -62,7 +38,7 @@ unfolding onto flat-map
 put-text qs old xs ys at t u v round edge nth e f h k =
     let front = flat-map quad-words qs in
     let new = words-of t u v (suc (length qs)) round edge nth in
-    put-middle front (eight t u v round) old xs ys at refl e (f ∙ sym (numbers-length qs)) h k
+    put-middle front (eight t u v round) old xs ys at e (f ∙ sym (quads-length qs)) h k
     ∙ ap (λ (z : List ℕ). (front ++ z) ++ drop (length (front ++ z)) old) (sym (append-nil (eight t u v round)) ∙ ap (λ (z : List ℕ). z ++ []) (sym new))
     ∙ ap (λ (z : List ℕ). z ++ drop (length z) old) (sym (flat-map-append quad-words qs (next-quad qs t ∷ [])))
 

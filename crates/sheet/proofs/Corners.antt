@@ -1,6 +1,6 @@
 -- The corners of a quad, one after the other: the first that is none of the points, and the metrics where all are.
-use mathlib.Core.Path.{_≡_, refl}
-use mathlib.Core.Bool.{Bool, true, false, _||_}
+use mathlib.Core.Path.{_≡_}
+use mathlib.Core.Bool.{true}
 use mathlib.Core.List.{List}
 use Prim.Native.Nat.{ℕ, _+_, _*_, _≤_, _<_}
 use lib.Dec.{leb}
@@ -12,13 +12,10 @@ use Rattle.definition.specs.Metrics.{quad-metrics}
 use Rattle.definition.specs.Cells.{quad-nodes}
 use Rattle.definition.specs.Call.{point-at, quad-at, first-points}
 use Rattle.definition.specs.Account.{measures}
-use Rattle.plane.specs.Points.{point-of}
+use Rattle.laws.specs.Cells.{point-of}
+use Rattle.laws.specs.Bools.{or-false}
 use Rattle.sheet.specs.Promise.{Corners}
 use Rattle.sheet.specs.Refusals.{unknown-in}
-
-or-false : (b : Bool) → b ≡ (b || false)
-or-false true = refl
-or-false false = refl
 
 module _ (n : ℕ) (qs : List ℕ) (i : ℕ) where
   pub at-first : n ≤ getD qs (8 * i) 0 → true ≡ unknown-in n qs i

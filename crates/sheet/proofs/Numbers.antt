@@ -3,15 +3,15 @@ use mathlib.Core.Path.{_≡_, refl, sym, ap, _∙_}
 use mathlib.Core.Logic.{_≢_}
 use mathlib.Core.List.{List, [], _∷_, _++_, map}
 use Prim.{absurd}
-use Prim.Native.Nat.{ℕ, _+_, _≤_, _<_}
+use Prim.Native.Nat.{ℕ, _≤_, _<_}
 use native.Mathlib.Decide.{ℕ-discrete}
 use native.Mathlib.Omega.{arith}
 use lib.ListN.{length, getD, set, length-map}
-use lib.Seq.{sets, sets-eq, ext-getD}
+use lib.Seq.{sets-eq, ext-getD}
 use lib.Ieee.{Float}
 use borrow.Author.Tests.{lt-ltb, le-ltb}
 use Rattle.definition.specs.Lists.{numbers}
-use Rattle.definition.specs.Call.{onto, most-slots, most-capacity}
+use Rattle.definition.specs.Call.{onto}
 use Rattle.definition.specs.Sheet.{Listed, Returned, Answer, filed, refusal, sheet-of, refused, call}
 use Rattle.refusals.specs.Refusals as refusals
 use Rattle.laws.specs.Lists.{numbers-length}

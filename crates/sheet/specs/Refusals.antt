@@ -1,10 +1,9 @@
 -- The number of a list's first refusal, and what the call is by it.
-use mathlib.Core.Path.{_≡_, refl, sym, ap, _∙_}
-use mathlib.Core.Bool.{Bool, true, false, cond, _||_}
+use mathlib.Core.Path.{_≡_, sym, ap, _∙_}
+use mathlib.Core.Bool.{Bool, false, cond, _||_}
 use mathlib.Core.Logic.{_≢_}
-use mathlib.Core.List.{List, [], _∷_}
-use mathlib.Core.Option.{Option, none, some}
-use Prim.{absurd}
+use mathlib.Core.List.{List}
+use mathlib.Core.Option.{none}
 use Prim.Native.Nat.{ℕ, _+_, _*_, _<_}
 use native.Mathlib.Omega.{arith}
 use lib.Dec.{leb, ltb}
@@ -16,7 +15,7 @@ use Rattle.definition.specs.Call.{quad-at, first-quads, onto, most-slots, most-
 use Rattle.definition.specs.Sheet.{Listed, filed, refusal, listed-quads, over-limit, too-short, unknown-corner, far-point, conditions, refused, sheet, line, all-metrics, call}
 use Rattle.laws.specs.Bools.{or-none}
 use Rattle.laws.specs.Tables.{none-below, below-none}
-use Rattle.refusals.specs.Refusals.{number-of}
+use Rattle.refusals.specs.Refusals.{number-of, turn, no-turn, not-taken, some-found}
 use Rattle.sheet.specs.Promise.{Corners, Readable}
 
 -- ---- 5
@@ -53,19 +52,6 @@ known n qs i e =
     record { c0 = leb-false _ _ (h0 .0); c1 = leb-false _ _ (h1 .0); c2 = leb-false _ _ (h2 .0); c3 = leb-false _ _ (h3 .0) }
 
 -- ---- the first
-
-turn : (k : ℕ) (b : Bool) (cs : List (ℕ × Bool)) → number-of (find (λ c. c .1) ((k, b) ∷ cs)) ≡ cond b k (number-of (find (λ c. c .1) cs))
-unfolding number-of find
-turn k true cs = refl
-turn k false cs = refl
-
-no-turn : number-of (find (λ c. c .1) []) ≡ 0
-unfolding number-of find
-no-turn = refl
-
-not-taken : (b : Bool) (k n : ℕ) → 0 < k → cond b k n ≡ 0 → (b ≡ false) × (n ≡ 0)
-not-taken true k n l e = absurd (omega arith)
-not-taken false k n l e = (refl, e)
 
 -- none of the conditions holds
 pub record Clear (l : Listed) : Type 0 where
@@ -112,11 +98,6 @@ module _ (l : Listed) where
   pub call-filed : Clear l → call l ≡ record { answer = filed (sheet (all-metrics l)); out = onto (flat-map line (all-metrics l)) (l .out) }
   unfolding call
   call-filed h = rw (none-holds h, call)
-
-some-found : (o : Option (ℕ × Bool)) → number-of o ≢ 0 → (c : ℕ × Bool) × (o ≡ some c)
-unfolding number-of
-some-found none h = absurd (h refl)
-some-found (some c) h = (c, refl)
 
 -- a refusal is the whole answer
 pub call-refused : (l : Listed) (k : ℕ) → k ≡ number-of (refused l) → k ≢ 0 → call l ≡ record { answer = refusal k; out = l .out }

@@ -13,16 +13,12 @@ use Rattle.definition.specs.Metrics.{Metrics, absent, measured}
 use Rattle.definition.specs.Account.{All}
 use Rattle.definition.specs.Sheet.{Value, values, worse, worst}
 use Rattle.laws.specs.Bools.{which, never, fails}
-use Rattle.laws.specs.Lists.{no-some}
+use Rattle.laws.specs.Lists.{no-some, all-append}
 use Rattle.rounding.specs.Keys.{lt-le, lt-not-le, le-lt-trans, lt-le-trans}
 
 -- ---- lists
 
 module _ {A : Type 0} (P : A → Type 0) where
-  all-append : (xs ys : List A) → All P xs → All P ys → All P (xs ++ ys)
-  all-append [] ys h k = k
-  all-append (x ∷ xs) ys h k = (h .0, all-append xs ys (h .1) k)
-
   pub all-map : (Q : A → Type 0) → ((x : A) → P x → Q x) → (xs : List A) → All P xs → All Q xs
   all-map Q f [] h = tt
   all-map Q f (x ∷ xs) h = (f x (h .0), all-map Q f xs (h .1))

@@ -1,6 +1,7 @@
 // The refusals 1, 4, 5 and 7 of a list: they read it, and touch nothing.
 use refusals::far_point;
 use refusals::standard;
+use words::wide;
 ghost use mathlib.Core.Path.{_≡_};
 ghost use Prim.Native.Nat.{_+_, _*_, _≤_, _<_};
 ghost use lib.ListN.{length};
@@ -14,13 +15,6 @@ pub const MOST_QUADS: usize = 16384;
 
 // Points that a call may state.
 pub const MOST_POINTS: usize = 8192;
-
-// A node number as an index.
-fn wide(v: u32) -> usize
-    ensures { λ r. ⌜ r ≡ v ⌝ }
-{
-    v as usize
-}
 
 // A corner of quad i is none of the points.
 fn unknown_in(quads: &[u32], given: usize, i: usize) -> bool

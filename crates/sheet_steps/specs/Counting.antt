@@ -13,10 +13,7 @@ use Rattle.definition.specs.Floats.{_≼_}
 use Rattle.definition.specs.Metrics.{Metrics, absent, measured}
 use Rattle.definition.specs.Sheet.{bounds, place, places, counted, counts}
 use Rattle.laws.specs.Lists.{numbers-length}
-
-at-most-one : (b : Bool) → cond b 1 0 ≤ 1
-at-most-one true = omega arith
-at-most-one false = omega arith
+use Rattle.laws.specs.Bools.{at-most-one}
 
 module _ {A : Type 0} where
   one-more : (b : Bool) (x : A) (xs : List A) → length (cond b (x ∷ xs) xs) ≡ cond b 1 0 + length xs

@@ -19,6 +19,7 @@ use Rattle.definition.specs.Insertion.{Inserted, nowhere, inserted, full, inser
 use Rattle.definition.specs.Attempt.{Stance, Sides, found, missing, sides-by, sides-from, side-nodes}
 use Rattle.laws.specs.Numbers.{clash}
 use Rattle.laws.specs.Frames.{under-set}
+use Rattle.laws.specs.Lists.{nothing}
 use Rattle.rules.specs.declared.Rules.{Rules}
 use Rattle.rules.specs.Settings.{quality-of, settings-of, quality-is}
 use Rattle.cells.specs.Layout.{mesh-end}
@@ -204,17 +205,13 @@ module _ (g : Settings) (f : Stance) (n : Spent) (m : Mesh) (a : ℕ) where
   from-found [] h = absurd (not-suc-le-zero h)
   from-found (x ∷ cs) h = refl
 
-  none-left : (cs : List ℕ) → length cs ≡ 0 → cs ≡ []
-  none-left [] h = refl
-  none-left (x ∷ cs) h = clash (let e = h in absurd (omega arith))
-
   pub from-missing : (cs : List ℕ) → length cs ≡ 0 → f .mismatch ≡ false → sides-from g f n m a cs ≡ missing n m
   unfolding sides-from
-  from-missing cs h e = ap (sides-from g f n m a) (none-left cs h) ∙ rw e
+  from-missing cs h e = ap (sides-from g f n m a) (nothing cs h) ∙ rw e
 
   pub from-insertion : (cs : List ℕ) → length cs ≡ 0 → f .mismatch ≡ true → sides-from g f n m a cs ≡ sides-by n m (insert-along g m (f .seed) (node-at m a) (f .normal) (f .target))
   unfolding sides-from
-  from-insertion cs h e = ap (sides-from g f n m a) (none-left cs h) ∙ rw e
+  from-insertion cs h e = ap (sides-from g f n m a) (nothing cs h) ∙ rw e
 
 -- what an attempt goes by, put in
 pub nodes-of : (rules : Rules) (t : Turn) (f : Stance) (n : Spent) (m : Mesh) (a other seed : ℕ) (normal : Vec) (target : Float) (off : Bool) → Goes f seed normal target off

@@ -1,10 +1,10 @@
 -- A log one event further.
 use mathlib.Core.Path.{_≡_, refl, ap, sym, _∙_, subst}
 use mathlib.Core.Logic.{_≢_}
-use mathlib.Core.Bool.{Bool, true, false}
+use mathlib.Core.Bool.{true}
 use mathlib.Core.List.{List, [], _∷_, _++_, append-assoc, append-nil}
 use Prim.{absurd}
-use Prim.Native.Nat.{ℕ, zero, suc, _+_, _-_, _/_, _%_, _<_, _≤_}
+use Prim.Native.Nat.{ℕ, zero, suc, _+_, _-_, _/_, _%_, _≤_}
 use native.Mathlib.Omega.{arith}
 use lib.Dec.{leb}
 use lib.ListN.{length, take, drop, set, length-append}
@@ -19,9 +19,10 @@ use Rattle.definition.specs.Trace.{word-limit, two-words, entry, trace, words-i
 use Rattle.definition.specs.Call.{onto}
 use Rattle.laws.specs.Lists.{flat-map-append}
 use Rattle.laws.specs.Bools.{same-bool}
+use Rattle.laws.specs.Slices.{onto-length, put-middle}
 use Rattle.traces.specs.declared.Grown.{Grown}
-use Rattle.traces.specs.Log.{Logged, Notes, Enters, IsGrown, Slots, Placing, heads}
-use Rattle.traces.proofs.Parts.{onto-length, onto-none, put-middle, taken-length}
+use Rattle.traces.specs.Log.{Logged, Notes, Enters, Placing, heads}
+use Rattle.traces.proofs.Parts.{onto-none, taken-length}
 
 -- ---- the words of a mesh
 

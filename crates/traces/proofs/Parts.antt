@@ -1,17 +1,13 @@
 -- Words put into a slice behind those that stand at its front.
-use mathlib.Core.Path.{_≡_, refl, ap, sym, _∙_}
-use mathlib.Core.List.{List, [], _∷_, _++_, append-assoc, append-nil}
+use mathlib.Core.Path.{_≡_, ap, sym, _∙_}
+use mathlib.Core.List.{List, [], _∷_, _++_, append-assoc}
 use Prim.Native.Nat.{ℕ, suc, _+_, _-_, _<_, _≤_}
 use native.Mathlib.Omega.{arith}
-use lib.ListN.{length, getD, take, drop, set, length-set, length-append, length-take, length-drop, take-append-drop, drop-of-length-le}
-use lib.Seq.{length-take-le, take-all, take-at, drop-at, drop-drop, drop-cons, take-suc, getD-drop, set-append-seam}
+use lib.ListN.{length, getD, take, drop, set, length-set, length-append, length-take, length-drop, take-append-drop}
+use lib.Seq.{length-take-le, drop-cons, take-suc, getD-drop, set-append-seam}
 use borrow.Rule.Slice.PartMut.{midOf, putMid}
 use Rattle.definition.specs.Call.{onto}
-
--- the slice keeps its length
-pub onto-length : (new old : List ℕ) → length new ≤ length old → length (onto new old) ≡ length old
-unfolding onto
-onto-length new old h = length-append new (drop (length new) old) ∙ omega (arith, length-drop (length new) old)
+use Rattle.laws.specs.Slices.{onto-length, put-middle}
 
 -- nothing at the front
 pub onto-none : (new old : List ℕ) → new ≡ [] → onto new old ≡ old
@@ -21,22 +17,6 @@ onto-none new old h = ap (λ (z : List ℕ). z ++ drop (length z) old) h
 -- the part behind `at` has the words that fit
 pub middle-length : (xs : List ℕ) (at n : ℕ) → at + n ≤ length xs → n ≤ length (midOf at (length xs - at) xs)
 middle-length xs at n h = omega (arith, length-take (length xs - at) (drop at xs), length-drop at xs)
-
--- the words G, at the front of the part behind F, come behind F
-pub put-middle : (F G old xs ys : List ℕ) (at : ℕ) → xs ≡ onto F old → at ≡ length F → at + length G ≤ length xs
-    → ys ≡ G ++ drop (length G) (midOf at (length xs - at) xs) → putMid at (length xs - at) xs ys ≡ onto (F ++ G) old
-unfolding onto
-put-middle F G old xs ys at e f h k =
-    let front : take at xs ≡ F = ap (take at) e ∙ take-at F (drop (length F) old) at (sym f) in
-    let rest : drop at xs ≡ drop (length F) old = ap (drop at) e ∙ drop-at F (drop (length F) old) at (sym f) in
-    let mid : take (length xs - at) (drop at xs) ≡ drop at xs = take-all (length xs - at) (drop at xs) (omega (arith, length-drop at xs)) in
-    let none : drop (length xs - at) (drop at xs) ≡ [] = drop-of-length-le (drop at xs) {i = length xs - at} (omega (arith, length-drop at xs)) in
-    let tail : drop (length G) (take (length xs - at) (drop at xs)) ≡ drop (length F + length G) old =
-    ap (drop (length G)) (mid ∙ rest) ∙ drop-drop (length G) (length F) old in
-    ap (λ (z : List ℕ). z ++ (ys ++ drop (length xs - at) (drop at xs))) front
-    ∙ ap (λ (z : List ℕ). F ++ (ys ++ z)) none
-    ∙ ap (λ (z : List ℕ). F ++ z) (append-nil ys ∙ k ∙ ap (λ (z : List ℕ). G ++ z) (tail ∙ ap (λ (z : ℕ). drop z old) (sym (length-append F G))))
-    ∙ sym (append-assoc F G (drop (length (F ++ G)) old))
 
 -- and the slice keeps its length
 pub put-length : (G xs ys : List ℕ) (at : ℕ) → at + length G ≤ length xs → ys ≡ G ++ drop (length G) (midOf at (length xs - at) xs)

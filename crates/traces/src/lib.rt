@@ -1,9 +1,9 @@
 // Entries of the lent trace: an empty one takes none.
+use words::bits_of;
 ghost use mathlib.Core.Path.{_≡_};
-ghost use mathlib.Core.List.{List, [], _∷_, _++_};
+ghost use mathlib.Core.List.{List, _++_};
 ghost use Prim.Native.Nat.{ℕ, _+_, _^_, _<_, _≤_};
 ghost use lib.ListN.{length, take, drop};
-ghost use lib.Ieee.{binary64, toBits};
 ghost use Rattle.definition.specs.Plane.{flat};
 ghost use Rattle.definition.specs.Cells.{Quad, Event, was-split, was-flipped, Mesh};
 ghost use Rattle.definition.specs.Trace.{entry, in-room};
@@ -47,16 +47,6 @@ pub fn fits(t: &[u32], at: usize, n: usize) -> bool
         return false;
     }
     t.len() - at >= n
-}
-
-// A float's bits; a NaN has those of the logic's one pattern.
-fn bits_of(x: f64) -> u64
-    ensures { λ r. ⌜ r ≡ toBits binary64 x ⌝ }
-{
-    if x != x {
-        return 0x7ff8000000000000;
-    }
-    f64::to_bits(x)
 }
 
 // The entry of a flip of the edge u-v at the front of a part of the trace.
@@ -103,8 +93,8 @@ fn write_quad(t: &mut [u32], g: Grown, n: usize)
     t[8] = n as u32;
 }
 
-// The n words of w from `from` on.
-fn copy_slots(t: &mut [u32], w: &[u32], from: usize, n: usize)
+// The n words of w from `from` on come to the front of t.
+pub fn copy_words(t: &mut [u32], w: &[u32], from: usize, n: usize)
     requires { ⌜ n ≤ length (now t) ⌝ }
     requires { ⌜ from + n ≤ length (now w) ⌝ }
     ensures { λ r. ⌜ now (t .exit) ≡ take n (drop from (now (w .entry))) ++ drop n (now (t .entry)) ⌝ }
@@ -153,6 +143,6 @@ pub fn note_quad(t: &mut [u32], at: usize, g: Grown, w: &[u32], from: usize, n: 
     }
     write_quad(&mut t[at..], g, n);
     let slots = at + QUAD;
-    copy_slots(&mut t[slots..], w, from, n);
+    copy_words(&mut t[slots..], w, from, n);
     slots + n
 }

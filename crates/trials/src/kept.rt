@@ -1,4 +1,5 @@
 // The best trials so far, in order, in two lent arrays: the scores, and four nodes for each.
+use rules::MOST_PAIRS;
 ghost use mathlib.Core.Path.{_≡_};
 ghost use Prim.Native.Nat.{_*_, _≤_, _<_};
 ghost use lib.ListN.{length, take, set};
@@ -8,7 +9,7 @@ ghost use Rattle.definition.specs.Trials.{trial-before, numbers-before};
 ghost use Rattle.trials.specs.Kept.{Keeps, Place, all, listed, put, quad-of, room, row, trial-of};
 
 // How many the arrays have room for.
-pub const ROOM: usize = 64;
+pub const ROOM: usize = MOST_PAIRS;
 
 pub const NODES: usize = 4 * ROOM;
 

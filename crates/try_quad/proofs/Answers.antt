@@ -24,7 +24,6 @@ use Rattle.cells.specs.Layout.{Sizes, near-at, far-at, refused-at}
 use Rattle.cells.specs.declared.counters.Counters.{Counters}
 use Rattle.account.specs.Valid.{Valid}
 use Rattle.cells.proofs.Slots.{sizes}
-use Rattle.flips.proofs.Evens.{valid}
 use Rattle.edge_candidates.specs.Wanted.{turn}
 use Rattle.trials.specs.Kept.{Stands as StandsAt, Keeps as KeepsTrials}
 use Rattle.trials.specs.Ranked.{part, length-part, part-at, Named}
@@ -39,6 +38,7 @@ use Rattle.side_nodes.specs.declared.side.Found.the-variants as founds
 use Rattle.side_nodes.specs.declared.side.Side.{Side}
 use Rattle.pairs.specs.Pair.{CanPair, PairsTo}
 use Rattle.pairs.proofs.Orders.{spent-is}
+use Rattle.meshes.proofs.Valid.{valid}
 use Rattle.try_quad.specs.Tries.{TriedTo, Ends, Both, First, LocksIn, LogsIn}
 use Rattle.try_quad.proofs.Points.{AttemptOn, trials-on}
 

@@ -28,8 +28,8 @@ use Rattle.outcomes.specs.declared.End.the-variants as ends
 use Rattle.outcomes.specs.declared.Tried.{Tried}
 use Rattle.side_nodes.specs.Sides.{CanSeek, SidesAre, SidesTo}
 use Rattle.side_nodes.specs.declared.side.Side.{Side}
-use Rattle.flips.proofs.Evens.{valid}
 use Rattle.pairs.proofs.Orders.{spent-is}
+use Rattle.meshes.proofs.Valid.{valid}
 use Rattle.try_quad.specs.Tries.{CanAttempt, TriedTo, Ends, Stands, First, LogsIn}
 use Rattle.try_quad.proofs.Locked.{sides-log}
 

@@ -1,14 +1,12 @@
 -- Digits of numbers.
 use mathlib.Core.Bool.{Bool, true, false, cond}
-use mathlib.Core.Path.{_≡_, refl, sym, ap, subst, _∙_}
+use mathlib.Core.Path.{_≡_, refl, sym, ap, _∙_}
 use mathlib.Core.List.{[], _∷_, _++_}
 use Prim.Native.Nat.{ℕ, zero, suc, _+_, _-_, _*_, _/_, _%_, _^_, _<_, _≤_}
 use native.Mathlib.Nat.{pow-suc}
 use native.Mathlib.Omega.{arith}
 use borrow.Author.Tests.{lt-ltb, le-ltb, ltb-true, ltb-false}
-use lib.Dec.{T, ltb}
-use lib.Ieee.Compare.{differs-from-itself}
-use lib.Ieee.{Float, nan, binary64, toBits, ne}
+use lib.Dec.{ltb}
 use lib.ListN.{length, length-append}
 use Rattle.definition.specs.Text.{decimal-in, show, hex-in}
 
@@ -84,8 +82,3 @@ hex-more (suc k) n h = let e : suc k - 1 ≡ k = omega arith in rw e
 
 true-false : true ≡ false → ⊥
 true-false e = let z : _≡_ {A = ℕ} 0 1 = cc in omega arith
-
--- only a NaN differs from itself
-pub of-nan : (x : Float) → ne x x ≡ true → 9221120237041090560 ≡ toBits binary64 x
-unfolding toBits
-of-nan x h = let e : x ≡ nan = differs-from-itself x (subst T (sym h) tt) in ap (toBits binary64) (sym e)

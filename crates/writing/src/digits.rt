@@ -5,7 +5,6 @@ ghost use mathlib.Core.Path.{_≡_};
 ghost use Prim.Native.Nat.{_+_, _<_, _≤_};
 ghost use lib.Dec.{ltb};
 ghost use lib.ListN.{length};
-ghost use lib.Ieee.{binary64, toBits};
 ghost use Rattle.definition.specs.Text.{show, hex-in, show-bits};
 ghost use Rattle.writing.specs.Put.{Written, Within};
 
@@ -80,14 +79,4 @@ pub fn bits_then(out: &mut [u8], at: usize, n: u64, b: u8) -> usize
     let p = hexes(out, at, 16, n);
     out[p] = b;
     p + 1
-}
-
-// A float's bits; those of a NaN are the logic's one pattern.
-pub fn bits_of(x: f64) -> u64
-    ensures { λ r. ⌜ r ≡ toBits binary64 x ⌝ }
-{
-    if x != x {
-        return 0x7ff8000000000000;
-    }
-    f64::to_bits(x)
 }

@@ -1,12 +1,12 @@
 // Lines of numbers: values parted by a space, then a newline.
 use crate::digits;
+use words::bits_of;
 ghost use mathlib.Core.List.{[], _∷_};
-ghost use mathlib.Core.Path.{_≡_};
 ghost use Prim.Native.Nat.{_+_, _-_, _*_, _<_, _≤_};
 ghost use lib.ListN.{length, take, drop};
 ghost use Rattle.definition.specs.Lists.{rows};
 ghost use Rattle.definition.specs.Text.{show, show-bits, line-of, lines-of, points-between};
-ghost use Rattle.writing.specs.Put.{Written, Within};
+ghost use Rattle.writing.specs.Put.{Within};
 
 // The w numbers of xs from place `from` on.
 pub fn line(out: &mut [u8], at: usize, xs: &[u32], from: usize, w: usize) -> usize
@@ -72,9 +72,9 @@ pub fn added(out: &mut [u8], at: usize, points: &[f64], k: usize, n: usize) -> u
     let mut i = k;
     while i < n {
         let j = 3 * i;
-        let x = digits::bits_of(points[j]);
-        let y = digits::bits_of(points[j + 1]);
-        let z = digits::bits_of(points[j + 2]);
+        let x = bits_of(points[j]);
+        let y = bits_of(points[j + 1]);
+        let z = bits_of(points[j + 2]);
         p = place(out, p, x, y, z);
         i += 1;
     }

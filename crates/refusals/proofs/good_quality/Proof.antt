@@ -1,9 +1,6 @@
 -- The set passes seven tests, in the definition's order; each that fails is an answer. `yes-k` is what passing test k gave.
 use mathlib.Core.Path.{_≡_, sym, _∙_}
 use mathlib.Core.Bool.{true, false}
-use Prim.Native.Nat.{ℕ}
-use lib.Dec.{leb}
-use native.Mathlib.Omega.{arith}
 use borrow.Author.Needs.{needs}
 use borrow.Author.Tests.{not-true, not-false, le-leb, lt-leb}
 use Rattle.definition.specs.Floats.{_≼_, f64, 0·0, 0·1, 0·5, 0·99, 1·0, 4·0}

@@ -1,7 +1,7 @@
 -- Of doubles within the limit the two tests are the definition's.
 use mathlib.Core.Path.{_≡_, sym, ap, _∙_}
-use mathlib.Core.Bool.{true, false, not, _&&_}
-use lib.Ieee.{Float, binary64, fits}
+use mathlib.Core.Bool.{false, not, _&&_}
+use lib.Ieee.{Float, binary64}
 use borrow.Author.Needs.{needs}
 use Rattle.definition.specs.Floats.{finite}
 use Rattle.definition.specs.Call.{grid-node}

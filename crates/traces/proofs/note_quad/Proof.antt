@@ -65,23 +65,23 @@ add-slots c =
     let h = within (top c) (c .before .before .before .before .if1 .left) in
     search needs
 
-mul-copy-slots : tie.Need-mul-copy-slots
-mul-copy-slots c =
+mul-copy-words : tie.Need-mul-copy-words
+mul-copy-words c =
     let h = within (top c) (c .before .before .before .before .if1 .left) in
     search needs
 
-sub-copy-slots : tie.Need-sub-copy-slots
-sub-copy-slots c =
+sub-copy-words : tie.Need-sub-copy-words
+sub-copy-words c =
     let k = first-length c in
     omega (arith, k, within (top c) (c .before .before .before .before .if1 .left))
 
-part-copy-slots-start : tie.Need-part-copy-slots-start
-part-copy-slots-start c =
+part-copy-words-start : tie.Need-part-copy-words-start
+part-copy-words-start c =
     let k = first-length c in
     omega (arith, k, within (top c) (c .before .before .before .before .if1 .left))
 
-copy-slots-requires : tie.Need-copy-slots-requires
-copy-slots-requires c κs =
+copy-words-requires : tie.Need-copy-words-requires
+copy-words-requires c κs =
     let s = c .before in
     let t = top s in
     let k = first-length s in
@@ -101,12 +101,12 @@ returns-2 c =
     let t = top s in
     let a = t .args in
     λ base m m' q ids h k.
-    log-quad base (a .t .now) (s .before .before .write-quad .last .0) (e .copy-slots .last .0) (a .w .now) (a .at) (a .from) (a .n) (a .g) q ids m m'
-    (s .before .before .before .before .if1 .left) h k (s .before .before .write-quad .ensures) (first s) refl (e .copy-slots .ensures)
+    log-quad base (a .t .now) (s .before .before .write-quad .last .0) (e .copy-words .last .0) (a .w .now) (a .at) (a .from) (a .n) (a .g) q ids m m'
+    (s .before .before .before .before .if1 .left) h k (s .before .before .write-quad .ensures) (first s) refl (e .copy-words .ensures)
 
 pub note-quad-spec : {M : Type 1} → statement M
 note-quad-spec =
     tie.close
     (tie.spec
-    returns mul-write-quad sub-write-quad part-write-quad-start (λ c. search needs) write-quad-requires add-slots mul-copy-slots sub-copy-slots part-copy-slots-start
-    (λ c. search needs) copy-slots-requires add-result (λ c. search needs) returns-2)
+    returns mul-write-quad sub-write-quad part-write-quad-start (λ c. search needs) write-quad-requires add-slots mul-copy-words sub-copy-words part-copy-words-start
+    (λ c. search needs) copy-words-requires add-result (λ c. search needs) returns-2)

@@ -1,10 +1,9 @@
 -- The first refusal of the call with these numbers is 1 where they are over a limit.
-use mathlib.Core.Path.{_≡_, refl, sym, ap, _∙_}
+use mathlib.Core.Path.{_≡_, sym, ap, _∙_}
 use mathlib.Core.List.{[]}
-use Prim.Native.Nat.{ℕ}
 use borrow.Author.Needs.{needs}
 use Rattle.definition.specs.Floats.{f64, 0·0}
-use Rattle.definition.specs.Call.{Asked, Lent}
+use Rattle.definition.specs.Call.{Lent}
 use Rattle.definition.specs.Replay.{Told, as-asked}
 use Rattle.refusals.specs.Refusals.{first-refusal}
 use Rattle.refusals.specs.Stated.{asked, blank, blank-lends}

@@ -1,6 +1,6 @@
 -- A NaN differs from itself, and is given its pattern; any other float has its bits.
 use borrow.Author.Needs.{needs}
-use Rattle.edge_candidates.proofs.Bits.{of-nan, no-nan}
+use Rattle.laws.specs.Numbers.{of-nan, no-nan}
 use Rattle.edge_candidates.proofs.words.bits_of.Statement.{statement}
 use Rattle.edge_candidates.proofs.words.bits_of.Tie as tie
 

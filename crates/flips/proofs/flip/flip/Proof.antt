@@ -15,8 +15,9 @@ use Rattle.joints.specs.Table.{Locks}
 use Rattle.flips.specs.Nodes.{tri-read}
 use Rattle.flips.specs.Flip.{TwinsAt, IsFlip}
 use Rattle.flips.specs.Twins.{IsTwins}
-use Rattle.flips.proofs.Flips.{Third, Twin, twin1, twin2, flip-flat, flip-turned, lock-is, flip-locked, flip-none, flip-short, flip-some, can-turn, convex-apart, within, four}
+use Rattle.flips.proofs.Flips.{Third, Twin, twin1, twin2, flip-flat, flip-turned, lock-is, flip-none, flip-short, flip-some, can-turn, convex-apart, within, four}
 use borrow.Author.Needs.{needs}
+use Rattle.account.specs.Flips.{locked-flip}
 use Rattle.flips.proofs.flip.flip.Statement.{statement}
 use Rattle.flips.proofs.flip.flip.Tie as tie
 
@@ -116,7 +117,7 @@ returns c =
     record {
       is = λ m r q l.
           flip-none (a .w .now) (a .s) (a .p) m (a .u) (a .v) (a .room)
-          (flip-locked m (key (a .u) (a .v)) (lock-is m (a .u) (a .v) (t .locked .result) (s .pre .1 .up) (t .locked .ensures (m .locked) l) ∙ c .if1 .taken)) r;
+          (locked-flip m (key (a .u) (a .v)) (lock-is m (a .u) (a .v) (t .locked .result) (s .pre .1 .up) (t .locked .ensures (m .locked) l) ∙ c .if1 .taken)) r;
       keeps = keeps-refl (a .w .now) (mesh-end (a .s) (a .p));
     }
 

@@ -1,18 +1,19 @@
 -- The edge that the quad grew from has its smaller node first.
 use mathlib.Core.Path.{refl}
-use Rattle.pairs.proofs.Entries.{edge-up, edge-down, grown-is}
+use Rattle.laws.specs.Cells.{key-up, key-back}
+use Rattle.pairs.proofs.Entries.{grown-is}
 use Rattle.pairs.proofs.one.quad_grown.Statement.{statement}
 use Rattle.pairs.proofs.one.quad_grown.Tie as tie
 
 returns : tie.Need-returns
 returns c =
     let a = c .before .args in
-    λ gone. grown-is (a .a) (a .b) (a .d) (a .e) (a .round) _ refl refl refl refl (edge-up (a .a) (a .b) (c .if1 .taken)) refl gone
+    λ gone. grown-is (a .a) (a .b) (a .d) (a .e) (a .round) _ refl refl refl refl (key-up (a .a) (a .b) (c .if1 .taken)) refl gone
 
 returns-2 : tie.Need-returns-2
 returns-2 c =
     let a = c .before .args in
-    λ gone. grown-is (a .a) (a .b) (a .d) (a .e) (a .round) _ refl refl refl refl (edge-down (a .a) (a .b) (c .if1 .left)) refl gone
+    λ gone. grown-is (a .a) (a .b) (a .d) (a .e) (a .round) _ refl refl refl refl (key-back (a .a) (a .b) (c .if1 .left)) refl gone
 
 pub quad-grown-spec : {M : Type 1} → statement M
 quad-grown-spec = tie.close (tie.spec returns returns-2)

@@ -57,7 +57,7 @@ unfolding metrics-of-enum
 returns-4 c =
     let k = c .before .before in
     let h = k .before .before in
-    rw (c .before .least-jacobian .ensures (h .before .lengths-of .ensures), c .largest-cosine .ensures (sides h)) (sym (third (k .before) false (k .if3 .left)))
+    rw (c .before .min-scaled-jacobian .ensures (h .before .lengths-of .ensures), c .largest-cosine .ensures (sides h)) (sym (third (k .before) false (k .if3 .left)))
 
 pub quad-metrics-of-spec : {M : Type 1} → statement M
 quad-metrics-of-spec =

@@ -1,8 +1,5 @@
-use Prim.Native.Nat.{ℕ}
-use mathlib.Core.Path.{ap, _∙_}
 use native.Mathlib.Omega.{arith}
 use borrow.Author.Needs.{needs}
-use Rattle.definition.specs.Floats.{f64}
 use Rattle.definition.specs.Trace.{word-limit, double-of}
 use Rattle.retrace.proofs.doubles.double.Statement.{statement}
 use Rattle.retrace.proofs.doubles.double.Tie as tie

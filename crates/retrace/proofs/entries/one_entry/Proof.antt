@@ -1,4 +1,4 @@
-use mathlib.Core.Path.{_≡_, refl, ap}
+use mathlib.Core.Path.{refl, ap}
 use borrow.Author.Needs.{needs}
 use Rattle.retrace.proofs.Reading.{other-cut}
 use Rattle.retrace.proofs.entries.one_entry.Statement.{statement}

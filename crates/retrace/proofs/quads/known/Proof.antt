@@ -1,4 +1,3 @@
-use borrow.Author.Needs.{needs}
 use Rattle.retrace.proofs.Placing.{known-0, known-1, known-2, known-3}
 use Rattle.retrace.proofs.quads.known.Statement.{statement}
 use Rattle.retrace.proofs.quads.known.Tie as tie

@@ -1,4 +1,4 @@
-use mathlib.Core.Path.{_≡_, sym, _∙_}
+use mathlib.Core.Path.{sym, _∙_}
 use borrow.Author.Needs.{needs}
 use Rattle.retrace.specs.Stored.{stored}
 use Rattle.retrace.proofs.Placing.{placed-odd, can-push, placed-four}

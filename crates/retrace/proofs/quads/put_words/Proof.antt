@@ -1,4 +1,3 @@
-use native.Mathlib.Omega.{arith}
 use borrow.Author.Needs.{needs}
 use Rattle.retrace.proofs.Entered.{puts-words}
 use Rattle.retrace.proofs.quads.put_words.Statement.{statement}
@@ -9,7 +8,7 @@ returns c =
     let d = c .before .before in
     let t = d .before .before .before .before in
     let a = t .args in
-    puts-words (a .quads .now) (d .copy .last .0) (a .trace .now) (a .from) (a .k) (t .pre .0 .0) (t .pre .1) (d .copy .ensures)
+    puts-words (a .quads .now) (d .copy-words .last .0) (a .trace .now) (a .from) (a .k) (t .pre .0 .0) (t .pre .1) (d .copy-words .ensures)
 
 pub put-words-spec : {M : Type 1} → statement M
 put-words-spec =

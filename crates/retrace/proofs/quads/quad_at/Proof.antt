@@ -1,7 +1,7 @@
 -- The nodes, the slots, the slot of its own, then the quad.
 use mathlib.Core.Path.{_≡_, refl, sym, ap, _∙_, subst}
-use mathlib.Core.Bool.{Bool, true, false, not, _||_}
-use mathlib.Core.List.{List, [], _∷_, _++_}
+use mathlib.Core.Bool.{Bool, true, not, _||_}
+use mathlib.Core.List.{List, [], _∷_}
 use Prim.Native.Nat.{ℕ, _+_, _≤_, _<_}
 use native.Mathlib.Omega.{arith}
 use lib.Dec.{ltb}
@@ -11,10 +11,8 @@ use lib.Ieee.{Float}
 use borrow.Author.Needs.{needs}
 use borrow.Author.Tests.{not-true, not-false}
 use Rattle.definition.specs.Lists.{all}
-use Rattle.definition.specs.Numbers.{Settings}
 use Rattle.definition.specs.Cells.{Quad, quad, Mesh, quad-nodes, push-cell}
 use Rattle.definition.specs.Replay.{word, entered-quad}
-use Rattle.rules.specs.Settings.{Suits}
 use Rattle.cells.specs.Rep.{Rep}
 use Rattle.meshes.specs.Changes.{born-of-nodes}
 use Rattle.retrace.specs.Stored.{four, stored}

@@ -1,10 +1,8 @@
 -- The slots of the trace one after the other, for each mesh that the memory stands for.
-use mathlib.Core.Path.{_≡_, refl, sym, ap, _∙_}
 use Prim.{tt}
-use Prim.Native.Nat.{ℕ, _-_}
+use Prim.Native.Nat.{_-_}
 use native.Mathlib.Omega.{arith}
 use borrow.Author.Needs.{needs}
-use Rattle.definition.specs.Cells.{Mesh}
 use Rattle.retrace.proofs.Placing.{has-yes, has-no, has-beyond, Going, going-none, going-all, going-no, going-more}
 use Rattle.retrace.proofs.quads.take_out.Statement.{statement}
 use Rattle.retrace.proofs.quads.take_out.Tie as tie

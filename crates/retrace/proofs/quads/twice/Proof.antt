@@ -1,4 +1,3 @@
-use borrow.Author.Needs.{needs}
 use Rattle.retrace.proofs.Placing.{twice-01, twice-02, twice-03, twice-12, twice-13, twice-23}
 use Rattle.retrace.proofs.quads.twice.Statement.{statement}
 use Rattle.retrace.proofs.quads.twice.Tie as tie

@@ -1,19 +1,16 @@
 -- The slot, the triangle that holds the point, the room, then the split.
-use mathlib.Core.Path.{_≡_, refl, sym, ap, _∙_}
-use mathlib.Core.Bool.{Bool, true, false}
+use mathlib.Core.Path.{_≡_, refl, ap, _∙_}
+use mathlib.Core.Bool.{true}
 use mathlib.Core.List.{List}
-use mathlib.Core.Option.{none}
 use Prim.Native.Nat.{ℕ, _≤_}
 use native.Mathlib.Omega.{arith}
-use lib.ListN.{length, length-set}
 use lib.Ieee.{Float}
 use borrow.Author.Needs.{needs}
 use borrow.Author.Tests.{not-true, not-false}
-use Rattle.definition.specs.Numbers.{Settings}
 use Rattle.definition.specs.Plane.{flat}
 use Rattle.definition.specs.Cells.{Mesh, cell-of}
-use Rattle.rules.specs.Settings.{Suits}
-use Rattle.retrace.specs.Stored.{stored, slot-holds}
+use Rattle.insertion.specs.Hold.{slot-holds}
+use Rattle.retrace.specs.Stored.{stored}
 use Rattle.retrace.specs.Plays.{Plays}
 use Rattle.retrace.proofs.Flipping.{points-stored, numbers-fit}
 use Rattle.retrace.proofs.Splitting.{Held, held, slot-out, held-slot, entry-unheld, entry-points, entry-slots, can-split, entry-split}
@@ -27,7 +24,7 @@ top h = h .before .before .before .before .before .before
 module _ (h : tie.After-holds) (quads : List ℕ) (q₀ : List Float) (old : List ℕ) (m : Mesh)
     (k : Plays (top h .args .work .now) (top h .args .points .now) quads (top h .args .s) (top h .args .p) q₀ old (top h .args .g) m) where
   is : h .holds .result ≡ slot-holds (stored m) (flat (top h .args .x) (top h .args .y)) (cell-of (stored m) (top h .args .i))
-  is = let a = top h .args in h .holds .ensures (stored m) (k .rep) (points-stored (a .work .now) (a .points .now) quads (a .s) (a .p) q₀ old (a .g) m k)
+  is = let a = top h .args in h .holds .ensures (stored m) (record { rep = k .rep; pts = points-stored (a .work .now) (a .points .now) quads (a .s) (a .p) q₀ old (a .g) m k })
 
   found : h .holds .result ≡ true → Held m (flat (top h .args .x) (top h .args .y)) (top h .args .i)
   found e =
@@ -45,7 +42,7 @@ holds-requires c κs =
     let t = c .before .before .before .before .before in
     let a = t .args in
     let k = t .pre .0 in
-    ((stored (k .3), k .4 .rep, points-stored (a .work .now) (a .points .now) (k .0) (a .s) (a .p) (k .1) (k .2) (a .g) (k .3) (k .4)), c .before .before .if1 .left)
+    ((stored (k .3), record { rep = k .4 .rep; pts = points-stored (a .work .now) (a .points .now) (k .0) (a .s) (a .p) (k .1) (k .2) (a .g) (k .3) (k .4) }), c .before .before .if1 .left)
 
 returns-2 : tie.Need-returns-2
 returns-2 c = λ quads q₀ old m t z k.

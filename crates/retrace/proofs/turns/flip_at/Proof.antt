@@ -1,13 +1,7 @@
 -- The order, the nodes, the quads that are not stored, then the flip of what is.
-use mathlib.Core.Path.{_≡_, refl, sym, ap, _∙_}
-use mathlib.Core.Bool.{Bool, true, false}
-use mathlib.Core.List.{List}
-use Prim.Native.Nat.{ℕ}
+use mathlib.Core.Path.{refl, sym, ap, _∙_}
 use native.Mathlib.Omega.{arith}
-use lib.ListN.{length}
-use lib.Ieee.{Float}
 use borrow.Author.Needs.{needs}
-use Rattle.definition.specs.Cells.{Mesh}
 use Rattle.retrace.specs.Stored.{stored}
 use Rattle.retrace.proofs.Flipping.{redo-order, redo-unknown, broken-entry, quads-fit, points-stored, locks-stored, entry-bars, entry-not, entry-made, not-made, short-made}
 use Rattle.retrace.proofs.turns.flip_at.Statement.{statement}

@@ -1,5 +1,3 @@
-use mathlib.Core.Path.{sym, _∙_}
-use mathlib.Core.Bool.{_&&_}
 use borrow.Author.Needs.{needs}
 use borrow.Author.Tests.{not-true, not-false}
 use Rattle.retrace.proofs.Flipping.{hides-no, hides-yes}

@@ -1,4 +1,3 @@
-use borrow.Author.Needs.{needs}
 use Rattle.retrace.proofs.Flipping.{side-first, side-second, side-other}
 use Rattle.retrace.proofs.turns.is_side.Statement.{statement}
 use Rattle.retrace.proofs.turns.is_side.Tie as tie

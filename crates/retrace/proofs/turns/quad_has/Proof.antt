@@ -5,7 +5,6 @@ use Prim.{absurd}
 use Prim.Native.Nat.{ℕ, _-_, _≤_, _<_}
 use native.Mathlib.Nat.{not-suc-le-zero}
 use native.Mathlib.Omega.{arith}
-use borrow.Author.Needs.{needs}
 use borrow.Author.Count.{below-more}
 use Rattle.definition.specs.Call.{quad-at, first-quads}
 use Rattle.definition.specs.Cells.{has-edge-in, quad-edges}

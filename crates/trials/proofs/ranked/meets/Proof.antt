@@ -1,7 +1,7 @@
 -- Each return goes by the first pair of nodes that are one.
 use borrow.Author.Tests.{eq-eqb, ne-eqb}
 use Rattle.definition.specs.Lists.{any, contains}
-use Rattle.trials.proofs.Order.{by-first}
+use Rattle.laws.specs.Bools.{or-false}
 use Rattle.trials.proofs.ranked.meets.Statement.{statement}
 use Rattle.trials.proofs.ranked.meets.Tie as tie
 
@@ -23,7 +23,7 @@ returns-4 c = rw (ne-eqb _ _ (c .before .before .before .if1 .left), ne-eqb _ _ 
 
 returns-5 : tie.Need-returns-5
 unfolding any contains
-returns-5 c = rw (ne-eqb _ _ (c .before .before .before .if1 .left), ne-eqb _ _ (c .before .before .if2 .left), ne-eqb _ _ (c .before .if3 .left), ne-eqb _ _ (c .if4 .left)) (by-first _)
+returns-5 c = rw (ne-eqb _ _ (c .before .before .before .if1 .left), ne-eqb _ _ (c .before .before .if2 .left), ne-eqb _ _ (c .before .if3 .left), ne-eqb _ _ (c .if4 .left)) (or-false _)
 
 pub meets-spec : {M : Type 1} → statement M
 meets-spec = tie.close (tie.spec returns returns-2 returns-3 returns-4 returns-5)

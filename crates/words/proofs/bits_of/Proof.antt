@@ -1,8 +1,8 @@
 -- A NaN differs from itself, and is given its pattern; any other float has its bits.
 use borrow.Author.Needs.{needs}
-use Rattle.traces.proofs.Bits.{of-nan, no-nan}
-use Rattle.traces.proofs.bits_of.Statement.{statement}
-use Rattle.traces.proofs.bits_of.Tie as tie
+use Rattle.laws.specs.Numbers.{no-nan, of-nan}
+use Rattle.words.proofs.bits_of.Statement.{statement}
+use Rattle.words.proofs.bits_of.Tie as tie
 
 pub bits-of-spec : {M : Type 1} → statement M
 bits-of-spec =

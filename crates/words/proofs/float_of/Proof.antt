@@ -1,10 +1,10 @@
--- `floats::float_of`: a pattern above infinity's is a NaN's.
+-- A pattern above infinity's is a NaN's.
 use borrow.Author.Needs.{needs}
 use lib.Ieee.{ofBits}
 use Rattle.definition.specs.Floats.{f64}
-use Rattle.replies.proofs.Fills.{of-nan-bits, no-nan-bits}
-use Rattle.replies.proofs.floats.float_of.Statement.{statement}
-use Rattle.replies.proofs.floats.float_of.Tie as tie
+use Rattle.laws.specs.Numbers.{of-nan-bits, no-nan-bits}
+use Rattle.words.proofs.float_of.Statement.{statement}
+use Rattle.words.proofs.float_of.Tie as tie
 
 returns : tie.Need-returns
 returns c = of-nan-bits (c .before .args .bits) (c .if1 .taken)
