@@ -1,5 +1,5 @@
 """Mesh files in and out, by meshio."""
-import contextlib, io, os, re, tempfile
+import contextlib, io, os, re, tempfile, warnings
 import meshio
 import numpy
 from meshio import _helpers as meshio_forms
@@ -22,9 +22,10 @@ GOOD = '.msh (Gmsh), .vtk, .vtu, .inp (Abaqus, CalculiX), .med, .xdmf, .bdf'
 
 @contextlib.contextmanager
 def quiet():
-    """Takes what meshio prints."""
+    """Takes what meshio prints; warnings of Python are not shown."""
     said = io.StringIO()
-    with contextlib.redirect_stdout(said), contextlib.redirect_stderr(said):
+    with contextlib.redirect_stdout(said), contextlib.redirect_stderr(said), warnings.catch_warnings():
+        warnings.simplefilter('ignore')
         yield said
 
 

@@ -1,5 +1,5 @@
 """A file while meshio reads it: the line where it stops, where it cannot read it, and an end to reading beyond the end."""
-import builtins, io, os, re
+import builtins, contextlib, io, os, re
 import xml.etree.ElementTree as xml
 
 BEYOND = 1000  # lines asked for behind the last one: a reader that asks for more would never end
@@ -11,8 +11,8 @@ class Beyond(Exception):
 
 
 class Ending:
-    """Lines that end: a reader that goes on and on behind the last one is stopped."""
-    line, words, beyond = 0, '', 0
+    """Lines that end: a reader that goes on and on behind the last one is stopped. It knows the line that was read last and, once it is closed, how far it was read."""
+    line, words, beyond, at = 0, '', 0, 0
     comment = None  # what lines begin with that are passed over
 
     def noted(self, words):
@@ -30,25 +30,24 @@ class Ending:
     def __next__(self):
         return self.noted(super().__next__())
 
+    def close(self):
+        with contextlib.suppress(OSError, ValueError):  # closed already, or read by next()
+            self.at = self.tell()
+        super().close()
+
 
 class Text(Ending, io.TextIOWrapper):
-    """A text file that knows the line that was read last."""
+    """A text file."""
 
     def __init__(self, path, encoding):
         super().__init__(io.BufferedReader(io.FileIO(path)), encoding=encoding)
 
 
 class Bytes(Ending, io.BufferedReader):
-    """A binary file that knows, once it is closed, how far it was read."""
-    at = 0
+    """A binary file."""
 
     def __init__(self, path):
         super().__init__(io.FileIO(path))
-
-    def close(self):
-        if not self.closed:
-            self.at = self.tell()
-        super().close()
 
 
 def content_of(path):
@@ -93,18 +92,20 @@ class Watched:
 
     def place(self):
         """Words on where the reading stopped, '' where that is not known."""
-        if isinstance(self.file, Text):
-            return line_words(self.file.line, self.file.words)
-        if not isinstance(self.file, Bytes):
+        if not isinstance(self.file, Ending):
             return ''
-        content = content_of(self.path)
-        if len(content) - self.file.at < 2:
+        content, at, words = content_of(self.path), self.file.at, self.file.words
+        if isinstance(self.file, Text):
+            if content.count(b'\n', 0, at) <= self.file.line:  # otherwise numbers were read behind that line
+                return line_words(self.file.line, words)
+            words = words.encode()
+        if len(content) - at < 2:
             return 'it ends too early, %s, or what it has does not fit together' % ('after %d bytes' % len(content) if b'\0' in content else 'after %d lines' % content.count(b'\n'))
-        head, rest = content[:self.file.at], content[self.file.at:].split(b'\n', 1)[0]
-        if b'\0' in content[:self.file.at + 1]:
-            return 'it stops at byte %d of %d' % (self.file.at, len(content))
-        begin = head.rfind(b'\n') + 1
-        return line_words(head.count(b'\n') + 1, (head[begin:] + rest).decode('utf-8', 'replace'))
+        if b'\0' in content[:at + 1]:
+            return 'it stops at byte %d of %d' % (at, len(content))
+        at -= len(words) * content[:at].endswith(words or b'-')  # a line that was read last is meant, not the next
+        begin = content.rfind(b'\n', 0, at) + 1
+        return line_words(content.count(b'\n', 0, at) + 1, content[begin:].split(b'\n', 1)[0].decode('utf-8', 'replace'))
 
 
 def line_words(line, words):
@@ -125,7 +126,10 @@ def fault_words(error, said):
         return 'a number there is missing or too large'
     if isinstance(error, UnicodeDecodeError):
         return 'it is not a text file'
-    words = ' '.join(str(error).split())
+    words = ' '.join(str(error).split()).rstrip('.')
+    word = re.search("(could not convert string to float|invalid literal for (int).*): (.*)", words)
+    if word:
+        return '%s is no %snumber' % (word[3], 'whole ' if word[2] else '')
     return 'numbers are missing there, or are too many' if re.match('cannot reshape|could not broadcast|setting an array|buffer size|not enough values', words) else words[:300]
 
 

@@ -36,11 +36,15 @@ class Reading(Case):
 
     def test_the_line(self):
         """A wrong word is found where it stands."""
-        for name, line in (('l-slab-22.msh', 40), ('l-slab-41.msh', 215), ('l-slab.inp', 20), ('l-slab-meshio.obj', 20)):
+        for name, line in (('l-slab-22.msh', 40), ('l-slab-22.msh', 160), ('l-slab-41.msh', 215), ('l-slab.inp', 20), ('l-slab-meshio.obj', 20), ('l-slab-meshio.off', 60), ('l-slab-meshio.mesh', 60)):
             with self.subTest(name):
                 lines = self.given(name).split(b'\n')
                 lines[line - 1] = b' '.join(lines[line - 1].split(b' ')[:-1] + [b'wrong'])
-                self.says("it stops at line %d, '.*wrong" % line, name, b'\n'.join(lines))
+                self.says("it stops at line %d, '.*(wrong|\\.\\.)'" % line, name, b'\n'.join(lines))
+
+    def test_words_of_a_fault(self):
+        self.says("it stops at line 3, '2, 1, zero, 0'; ' zero' is no number. Mend the file", 'a.inp', '*NODE\n1, 0, 0, 0\n2, 1, zero, 0\n')
+        self.says("it stops at line 8, '2, 1, 2.5, 4'; ' 2.5' is no whole number", 'a.inp', '*NODE\n1, 0, 0, 0\n2, 1, 0, 0\n3, 1, 1, 0\n4, 0, 1, 0\n*ELEMENT, TYPE=S3\n1, 1, 2, 3\n2, 1, 2.5, 4\n')
 
     def test_cut_short(self):
         for name in ('l-slab-22.msh', 'l-slab-41.msh', 'l-slab-22-binary.msh', 'l-slab-41-binary.msh', 'l-slab.vtk', 'l-slab.stl', 'l-slab-meshio.vtu', 'l-slab-meshio.off',
