@@ -99,11 +99,11 @@ def say(words):
 
 
 def worked(options):
-    from . import files, library
+    from . import library, writing
     library.load()
     check_folders(options)
     if options.output:
-        files.check_form(options.output, options.to)
+        writing.check_form(options.output, options.to)
     begin = time.perf_counter()
     work = prepared(options)
     if options.output or options.steps:
@@ -223,7 +223,7 @@ def places(points, nodes):
 def written(work):
     """Numbers the nodes and writes the files."""
     import numpy
-    from . import files, groups, quality
+    from . import groups, quality, writing
     surface, result = work.surface, work.result
     nodes = numpy.arange(len(work.points)) if work.options.keep_nodes else numpy.unique(numpy.concatenate([result.quads.ravel(), result.triangles.ravel()]))
     work.number = numpy.full(len(work.points), -1)
@@ -236,7 +236,7 @@ def written(work):
     blocks = [('quad', groups.renumbered(quads, work.number, surface.clockwise)), ('triangle', groups.renumbered(left, work.number, surface.clockwise)),
               ('line', groups.renumbered(lines, work.number)), ('vertex', groups.renumbered(vertices, work.number))]
     sets = {name: work.number[own][work.number[own] >= 0] for name, own in surface.hard.items() if name != 'point of the geometry'}
-    surface.notes += files.write(work.options.output, work.options.to, work.points[nodes], blocks, surface.names, sets)
+    surface.notes += writing.write(work.options.output, work.options.to, work.points[nodes], blocks, surface.names, sets)
     if work.options.node_map:
         with open(work.options.node_map, 'w') as file:
             file.write('node,given\n')

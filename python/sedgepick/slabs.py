@@ -34,14 +34,14 @@ def worked(options):
 
 def read(options):
     """Every file read, checked and fitted before the first run: a fault of one stops the command."""
-    from . import files
+    from . import writing
     from .command import check_folders, prepared
     works = []
     for options.input, out in zip(options.files, outputs(options)):  # the file that a fault is told of
         own = copy.copy(options)
         own.output = out
         check_folders(own)
-        files.check_form(out, own.to)
+        writing.check_form(out, own.to)
         work = prepared(own, whole=True)
         work.plan.fitted(0)
         works.append(work)

@@ -22,7 +22,7 @@ class Marked:
         columns = [*self.tags.values(), *self.sets.values()]
         if not columns or not len(self.cells):
             return numpy.zeros(len(self.cells), dtype=int)
-        return numpy.unique(numpy.column_stack(columns).astype(numpy.int64), axis=0, return_inverse=True)[1]
+        return numpy.unique(numpy.column_stack(columns).astype(numpy.int64), axis=0, return_inverse=True)[1].ravel()
 
     def picked(self, places, cells=None):
         """The tags and sets of the cells at some places, on these cells or on others."""

@@ -4,7 +4,7 @@ from case import COMMAND, Case, meshio, set_up
 from common import FILES
 
 if meshio:
-    from sedgepick import files, surfaces
+    from sedgepick import files, surfaces, writing
 
 L_SLAB = os.path.join(FILES, 'l-slab-41.msh')
 
@@ -120,8 +120,8 @@ class Writing(Case):
 
     def test_forms_without_quads_are_told_before_the_run(self):
         with self.assertRaisesRegex(surfaces.Fault, 'cannot write out.stl as stl: .* Formats that take quads'):
-            files.check_form('out.stl', None)
-        files.check_form(self.out, None)
+            writing.check_form('out.stl', None)
+        writing.check_form(self.out, None)
 
     def test_sizes_in_words(self):
         for word in ('small', 'nan', '-1', 'inf'):
