@@ -97,11 +97,17 @@ def as_node_sets(blocks, sets):
 
 
 def as_vertices(blocks, sets):
-    """The blocks with a vertex for each node of the sets."""
+    """The blocks with a vertex for each node of the sets, those that are there among them."""
     if not sets:
         return blocks
-    nodes = numpy.unique(numpy.concatenate(list(sets.values()))).astype(numpy.int64)
-    return blocks + [('vertex', Marked(nodes[:, None], {}, {name: numpy.isin(nodes, own) for name, own in sets.items()}))]
+    own = next((marked for kind, marked in blocks if kind == 'vertex'), Marked(numpy.zeros((0, 1), dtype=numpy.int64)))
+    more = numpy.setdiff1d(numpy.concatenate(list(sets.values())), own.cells).astype(numpy.int64)
+    nodes = numpy.concatenate([own.cells[:, 0], more])
+    longer = lambda values: numpy.concatenate([values, numpy.zeros(len(more), dtype=values.dtype)])
+    found = {name: longer(has) for name, has in own.sets.items()}
+    for name, members in sets.items():
+        found[name] = found.get(name, False) | numpy.isin(nodes, members)
+    return [block for block in blocks if block[0] != 'vertex'] + [('vertex', Marked(nodes[:, None], {name: longer(values) for name, values in own.tags.items()}, found))]
 
 
 def gmsh_groups(blocks, names):

@@ -6,7 +6,7 @@ from common import FILES, grid
 
 if meshio:
     import numpy
-    from sedgepick import files
+    from sedgepick import files, names, surfaces
 
 COLUMNS = os.path.join(FILES, 'columns.msh')
 HDF = find_spec('h5py') is not None
@@ -95,6 +95,14 @@ class Names(Case):
         self.assertEqual(rows, {'early': [1, 0, 0, 0], 'Right': [0, 0, 1, 1], 'wall': [0, 0, 0, 0], 'every': [1, 1, 1, 1], 'two': [1, 0, 1, 1]})
         self.assertEqual(found.lines.sets['wall'].tolist(), [True])
         self.assertEqual({name: nodes.tolist() for name, nodes in found.hard.items()}, {'corner': [0, 4], 'both': [0, 3, 4]})
+
+    def test_points_of_both_kinds(self):
+        """Vertices of the file and its sets of nodes become one list of vertices."""
+        vertices = surfaces.Marked(numpy.array([[3], [5]]), {'medit:ref': numpy.array([7, 8])}, {'top': numpy.array([True, False])})
+        ((kind, found),) = names.as_vertices([('vertex', vertices)], {'top': numpy.array([5, 9]), 'foot': numpy.array([3, 4])})
+        self.assertEqual((kind, found.cells.ravel().tolist()), ('vertex', [3, 5, 4, 9]))
+        self.assertEqual(found.tags['medit:ref'].tolist(), [7, 8, 0, 0])
+        self.assertEqual({name: has.tolist() for name, has in found.sets.items()}, {'top': [True, True, False, True], 'foot': [True, False, True, False]})
 
     def test_cells_in_several_groups(self):
         """Gmsh's format takes one group a cell: those in several have one with all names."""
