@@ -61,6 +61,10 @@ abbrev pub Perimeters : List Float → ℕ → ℕ → List Node → ℕ → Lis
 Perimeters f s p ps j [] = Unit {0}
 Perimeters f s p ps j (l ∷ ls) = (getD f (perimeters-at s p + j) 0·0 ≡ loop-perimeter ps l) × Perimeters f s p ps (suc j) ls
 
+-- those of r loops, where they are more than one
+abbrev pub Measured : List Float → ℕ → ℕ → ℕ → List Node → List (List Edge) → Type 0
+Measured f s p r ps ls = 2 ≤ r → Perimeters f s p ps 0 ls
+
 -- ---- what waits for its turn
 
 -- of the edges at n places from b on, those that were not tried

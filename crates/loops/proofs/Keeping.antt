@@ -1,23 +1,25 @@
 -- Along the places of a loop: whether some edge is not blocked, and the sum of the lengths.
-use mathlib.Core.Path.{_≡_, refl, ap, sym, _∙_}
+use mathlib.Core.Path.{_≡_, refl, ap, sym, _∙_, subst}
 use mathlib.Core.Bool.{Bool, true, false, not, _||_}
-use mathlib.Core.List.{List, [], _∷_, foldl}
+use mathlib.Core.List.{List, [], _∷_, _++_, foldl}
 use Prim.Native.Nat.{ℕ, zero, suc, _+_, _≤_, _<_}
 use native.Mathlib.Omega.{arith}
 use native.Mathlib.Numerals.{add-one}
-use lib.ListN.{length}
+use lib.ListN.{length, getD, set, length-set}
+use lib.Seq.{getD-set-same, getD-set-other}
 use lib.Ieee.{Float}
 use Rattle.definition.specs.Lists.{any}
 use Rattle.definition.specs.Floats.{_⊕_, 0·0}
 use Rattle.definition.specs.Plane.{Node, Edge, edge-length}
-use Rattle.definition.specs.Cells.{has-edge-in}
+use Rattle.definition.specs.Cells.{Mesh, has-edge-in}
 use Rattle.definition.specs.Loops.{loop-perimeter}
 use Rattle.blocked_edges.specs.Records.{IsEdge}
-use Rattle.edges.specs.Stored.{edge-on, edges-on}
+use Rattle.cells.specs.Layout.{perimeters-at}
+use Rattle.edges.specs.Stored.{edge-on, edges-on, Perimeters, Measured}
 use Rattle.edges.specs.Places.{OnPlaces}
 use Rattle.edges.specs.Kept.{on-known}
 use Rattle.loops.specs.Sift.{some-open}
-use Rattle.loops.specs.Keep.{OpenLoop}
+use Rattle.loops.specs.Keep.{OpenLoop, CanMeasure}
 
 pub open-edge : {w : List ℕ} {s p b e n : ℕ} {bl l : List Edge} → OpenLoop w s p b e n bl l → (i : ℕ) → b ≤ i → i < e → IsEdge p (edge-on w s p i)
 open-edge o i u v = let k = on-known (o .at) i u v in record { order = k .0; below = omega (arith, k .1, o .nodes) }
@@ -101,3 +103,40 @@ module _ {w : List ℕ} {s p e i : ℕ} {sum : Float} {ps : List Node} {l : List
                 ∙ ap (λ (x : Float). foldl (λ t d. t ⊕ edge-length ps d) (sum ⊕ x) (edges-on w s p (suc i) n)) (sym q)
                 ∙ ap (λ (x : ℕ). foldl (λ t d. t ⊕ edge-length ps d) (sum ⊕ t) (edges-on w s p x n)) (sym (add-one i));
           }
+
+-- ---- all perimeters
+
+perimeters-kept : (f : List Float) (x : ℕ) (v : Float) (s p : ℕ) (ps : List Node) (j : ℕ) (ls : List (List Edge)) → j + length ls ≤ x → Perimeters f s p ps j ls → Perimeters (set f x v) s p ps j ls
+perimeters-kept f x v s p ps j [] h g = tt
+perimeters-kept f x v s p ps j (l ∷ ls) h g =
+    (getD-set-other f x (perimeters-at s p + j) v 0·0 (omega (arith, h)) ∙ g .0, perimeters-kept f x v s p ps (suc j) ls (omega (arith, h)) (g .1))
+
+perimeters-last : (f : List Float) (s p : ℕ) (ps : List Node) (j x : ℕ) (ls : List (List Edge)) (l : List Edge) → x ≡ j + length ls → Perimeters f s p ps j ls
+    → getD f x 0·0 ≡ loop-perimeter ps l → Perimeters f s p ps j (ls ++ l ∷ [])
+perimeters-last f s p ps j x [] l e h g = let z : perimeters-at s p + j ≡ x = omega (arith, e) in (ap (λ (i : ℕ). getD f i 0·0) z ∙ g, tt)
+perimeters-last f s p ps j x (k ∷ ls) l e h g = (h .0, perimeters-last f s p ps (suc j) x ls l (omega (arith, e)) (h .1) g)
+
+single : (ls : List (List Edge)) → length ls ≡ 1 → (k : List Edge) × (ls ≡ k ∷ [])
+single [] e = absurd (omega arith)
+single (k ∷ []) e = (k, refl)
+single (k ∷ x ∷ ls) e = absurd (omega (arith, e))
+
+module _ {w : List ℕ} {q f : List Float} {s p b e j : ℕ} {m : Mesh} {l : List Edge} {ls : List (List Edge)} (c : CanMeasure w q f s p b e j m l ls) where
+  -- the only loop before
+  pub first-is : j ≡ 1 → (k : List Edge) × (ls ≡ k ∷ [])
+  first-is h = single ls (c .many ∙ h)
+
+  -- two loops have their perimeters
+  pub measured-two : (h : j ≡ 1) (v u : Float) → v ≡ loop-perimeter (m .points) (first-is h .0) → u ≡ loop-perimeter (m .points) l → Measured (set (set f 0 v) 1 u) s p (j + 1) (m .points) (ls ++ l ∷ [])
+  measured-two h v u x y two =
+      let k = first-is h .0 in
+      let one : Perimeters (set f 0 v) s p (m .points) 0 (k ∷ []) = perimeters-last (set f 0 v) s p (m .points) 0 0 [] k refl tt (getD-set-same f 0 v 0·0 (omega (arith, c .inside)) ∙ x) in
+      perimeters-last (set (set f 0 v) 1 u) s p (m .points) 0 1 ls l (omega (arith, c .many, h))
+      (perimeters-kept (set f 0 v) 1 u s p (m .points) 0 ls (omega (arith, c .many, h)) (subst (Perimeters (set f 0 v) s p (m .points) 0) (sym (first-is h .1)) one))
+      (getD-set-same (set f 0 v) 1 u 0·0 (simp length-set (omega (arith, c .inside, h))) ∙ y)
+
+  -- one more
+  pub measured-more : (j ≡ 0 → ⊥) → (j ≡ 1 → ⊥) → (u : Float) → u ≡ loop-perimeter (m .points) l → Measured (set f j u) s p (j + 1) (m .points) (ls ++ l ∷ [])
+  measured-more n o u y two =
+      perimeters-last (set f j u) s p (m .points) 0 j ls l (omega (arith, c .many))
+      (perimeters-kept f j u s p (m .points) 0 ls (omega (arith, c .many)) (c .sums (omega arith))) (getD-set-same f j u 0·0 (c .inside) ∙ y)

@@ -6,20 +6,19 @@ use mathlib.Core.List.{List, [], _∷_, _++_, append-assoc}
 use Prim.Native.Nat.{ℕ, zero, suc, _+_, _*_, _≤_, _<_}
 use native.Mathlib.Omega.{arith}
 use native.Mathlib.Decide.{decLt}
-use lib.ListN.{length, getD, set, length-set, length-append}
-use lib.Seq.{getD-set-same, getD-set-other}
+use lib.ListN.{length, getD, length-append}
 use lib.Ieee.{Float}
 use Rattle.rings.proofs.Lists.{Same, same, differ, decide}
 use Rattle.definition.specs.Lists.{filter, concat, flat-map}
-use Rattle.definition.specs.Floats.{0·0}
 use Rattle.definition.specs.Plane.{Node, Edge}
 use Rattle.definition.specs.Cells.{Mesh}
-use Rattle.definition.specs.Loops.{Walk, loops-of, loop-perimeter}
+use Rattle.definition.specs.Loops.{Walk, loops-of}
 use Rattle.laws.specs.Bools.{which}
-use Rattle.laws.specs.Lists.{filter-yes, filter-no}
+use Rattle.laws.specs.Lists.{filter-yes, filter-no, concat-cons, concat-length}
 use Rattle.blocked_edges.proofs.Framing.{framed}
-use Rattle.cells.specs.Layout.{front-u-at, front-links-at, refused-at, order-at, perimeters-at}
-use Rattle.edges.specs.Stored.{Edges, edge-on, LoopsAt, LoopList, Perimeters}
+use Rattle.cells.specs.Layout.{front-u-at, front-links-at, refused-at, order-at}
+use Rattle.edges.specs.Stored.{Edges, edge-on, LoopsAt, LoopList, Measured}
+use Rattle.edges.specs.Places.{OnPlaces}
 use Rattle.edges.specs.Laws.{edges-right}
 use Rattle.edges.specs.Parts.{edge-of, edges-left, edges-some}
 use Rattle.edges.specs.Kept.{edge-same, loops-kept, loops-last}
@@ -29,18 +28,6 @@ use Rattle.loops.specs.Keep.{CanKeep, KeepTo}
 use Rattle.loops.specs.Trace.{fresh, unused, Ready, CanTrace, walk-of, TraceTo, CanNext, NextTo}
 use Rattle.loops.proofs.Unused.{unused-hit, unused-none, unused-past, unused-all, behind}
 use Rattle.loops.proofs.Paths.{walk-edges, loops-none, loops-more, loops-edges}
-
--- ---- perimeters
-
-perimeters-kept : (f : List Float) (x : ℕ) (v : Float) (s p : ℕ) (ps : List Node) (j : ℕ) (ls : List (List Edge)) → j + length ls ≤ x → Perimeters f s p ps j ls → Perimeters (set f x v) s p ps j ls
-perimeters-kept f x v s p ps j [] h g = tt
-perimeters-kept f x v s p ps j (l ∷ ls) h g =
-    (getD-set-other f x (perimeters-at s p + j) v 0·0 (omega (arith, h)) ∙ g .0, perimeters-kept f x v s p ps (suc j) ls (omega (arith, h)) (g .1))
-
-perimeters-last : (f : List Float) (s p : ℕ) (ps : List Node) (j x : ℕ) (ls : List (List Edge)) (l : List Edge) → x ≡ j + length ls → Perimeters f s p ps j ls
-    → getD f x 0·0 ≡ loop-perimeter ps l → Perimeters f s p ps j (ls ++ l ∷ [])
-perimeters-last f s p ps j x [] l e h g = let z : perimeters-at s p + j ≡ x = omega (arith, e) in (ap (λ (i : ℕ). getD f i 0·0) z ∙ g, tt)
-perimeters-last f s p ps j x (k ∷ ls) l e h g = (h .0, perimeters-last f s p ps (suc j) x ls l (omega (arith, e)) (h .1) g)
 
 -- ---- blocked edges
 
@@ -55,6 +42,10 @@ unfolding concat flat-map
 concat-last [] l = let z = length-append l [] in omega arith
 concat-last (k ∷ ls) l = let z = concat-last ls l in let y = length-append k (concat (ls ++ l ∷ [])) in let x = length-append k (concat ls) in omega arith
 
+none-long : length (concat {A = Edge} []) ≡ 0
+unfolding concat flat-map
+none-long = refl
+
 -- the j loops ls on the first b places, with their perimeters
 pub record Standing (w : List ℕ) (f : List Float) (s p k b j : ℕ) (ps : List Node) (ls : List (List Edge)) : Type 0 where
   pub at : LoopsAt w s p 0 0 ls
@@ -62,7 +53,7 @@ pub record Standing (w : List ℕ) (f : List Float) (s p k b j : ℕ) (ps : List
   pub total : length (concat ls) ≡ b
   pub few : j ≤ b
   pub places : (i : ℕ) → i < b → getD w (order-at s p + i) 0 < k
-  pub sums : Perimeters f s p ps 0 ls
+  pub sums : Measured f s p j ps ls
 
 -- those still to come behind them are all; i is the first edge in no loop
 pub record Looping (w₀ w : List ℕ) (f₀ f : List Float) (s p n k b j i : ℕ) (ps : List Node) (es bl : List Edge) : Type 0 where
@@ -89,7 +80,7 @@ looping-start {w} {f} {s} {p} {n} {k} {i} {es} ps bl t x =
     record {
       ls = [];
       fuel = length es;
-      loops = record { at = tt; many = refl; total = refl; few = omega arith; places = λ y h. absurd (omega (arith, h)); sums = tt };
+      loops = record { at = tt; many = refl; total = refl; few = omega arith; places = λ y h. absurd (omega (arith, h)); sums = λ h. tt };
       ready = r;
       room = omega (arith, ap length d, r .front .at .len);
       fine = subst (Edges n) (sym d) (r .front .edges);
@@ -134,7 +125,7 @@ module _ {w₀ w : List ℕ} {f₀ f : List Float} {s p n k b j i : ℕ} {ps : L
               places = λ x y. omega (arith, o .places x y, few);
               at = o .at;
             });
-        sums = subst (Perimeters f s p ps 0) (sym d) (o .sums);
+        sums = subst (Measured f s p j ps) (sym d) (o .sums);
         len = g .len;
         reals = g .reals;
         below = g .below;
@@ -161,26 +152,6 @@ module _ {w₀ w : List ℕ} {f₀ f : List Float} {s p n k b j i : ℕ} {ps : L
       pub looping-next : CanNext w' s p k (i + 1)
       looping-next = record { room = t .placed .ready .front .room; few = few; within = omega arith }
 
-      pub looping-keep : {q : List Float} {m : Mesh} → CanSift w₀ q f₀ s p n k m es bl → CanKeep w' q f s p b r j m bl (tr .path)
-      looping-keep c =
-          let o = t .placed in
-          record {
-            loop = record {
-              room = o .ready .front .room;
-              at = record {
-                len = sym (o .sum);
-                few = omega (arith, o .room, few);
-                are = o .are;
-                places = λ x y z. omega (arith, o .places x y z, few);
-                edges = subst (λ (z : ℕ). Edges z (tr .path)) (sym (c .points)) (edges-left n (tr .path) (tr .left) split);
-              };
-              nodes = c .pts .few;
-              blocked = blocked-kept (t .aside .len ∙ g .len) (λ x a. t .aside .below x (omega (arith, a)) ∙ g .below x (omega (arith, a))) (c .blocked);
-            };
-            pts = c .pts;
-            inside = omega (arith, g .reals, c .floats, g .loops .few, o .room, t .more, few);
-          }
-
       -- the loops before stay
       old-edge : (x : ℕ) → x < b → edge-on w' s p x ≡ edge-on w s p x
       old-edge x y = edge-same w w' s p x (t .aside .order x y) (λ z u v. t .aside .below z (omega (arith, v))) (omega (arith, g .loops .places x y, few))
@@ -191,6 +162,50 @@ module _ {w₀ w : List ℕ} {f₀ f : List Float} {s p n k b j i : ℕ} {ps : L
       old-places : (x : ℕ) → x < b → getD w' (order-at s p + x) 0 < k
       old-places x y = subst (λ (z : ℕ). z < k) (sym (t .aside .order x y)) (g .loops .places x y)
 
+      -- the loop k is the only one so far
+      first-loop : (k' : List Edge) → g .ls ≡ k' ∷ [] → OnPlaces w' s p 0 b n k'
+      first-loop k' e =
+          let a = subst (LoopsAt w' s p 0 0) e old-loops in
+          let z : length (concat (g .ls)) ≡ length k' + length (concat {A = Edge} []) = ap (λ (l : List (List Edge)). length (concat l)) e ∙ concat-length k' [] in
+          let rest = filter (some-open bl) (loops-of (g .fuel) (unused w s p es 0 k)) in
+          let all : Edges n (concat (k' ∷ rest)) = subst (λ (l : List (List Edge)). Edges n (concat l)) (g .same ∙ ap (λ (l : List (List Edge)). l ++ rest) e) (edges-some n (some-open bl) (loops-of (length es) es) (loops-edges n (length es) es (g .ready .front .edges))) in
+          record {
+            len = omega (arith, z, none-long, g .loops .total);
+            few = omega (arith, few, g .room);
+            are = a .1;
+            places = λ x u v. omega (arith, old-places x v, few);
+            edges = edges-left n k' (concat rest) (subst (Edges n) (concat-cons k' rest) all);
+          }
+
+      pub looping-keep : {q : List Float} {m : Mesh} → ps ≡ m .points → CanSift w₀ q f₀ s p n k m es bl → CanKeep w' q f s p b r j m bl (tr .path) (g .ls)
+      looping-keep {m = m} z c =
+          let o = t .placed in
+          let places : OnPlaces w' s p b r (length (m .points)) (tr .path) =
+          record {
+            len = sym (o .sum);
+            few = omega (arith, o .room, few);
+            are = o .are;
+            places = λ x y z. omega (arith, o .places x y z, few);
+            edges = subst (λ (z : ℕ). Edges z (tr .path)) (sym (c .points)) (edges-left n (tr .path) (tr .left) split);
+          } in
+          record {
+            loop = record {
+              room = o .ready .front .room;
+              at = places;
+              nodes = c .pts .few;
+              blocked = blocked-kept (t .aside .len ∙ g .len) (λ x a. t .aside .below x (omega (arith, a)) ∙ g .below x (omega (arith, a))) (c .blocked);
+            };
+            behind = record {
+              room = o .ready .front .room;
+              pts = c .pts;
+              at = places;
+              inside = omega (arith, g .reals, c .floats, g .loops .few, o .room, t .more, few);
+              many = g .loops .many;
+              sums = subst (λ (u : List Node). Measured f s p j u (g .ls)) z (g .loops .sums);
+              first = λ k' e. subst (λ (u : ℕ). OnPlaces w' s p 0 b u k') (sym (c .points)) (first-loop k' e);
+            };
+          }
+
       -- kept or not
       pub record After (f' : List Float) (b' j' : ℕ) : Type 0 where
         pub ls : List (List Edge)
@@ -199,10 +214,9 @@ module _ {w₀ w : List ℕ} {f₀ f : List Float} {s p n k b j i : ℕ} {ps : L
         pub reals : length f' ≡ length f
         pub same : (l : List (List Edge)) → g .ls ++ filter (some-open bl) (tr .path ∷ l) ≡ ls ++ filter (some-open bl) l
 
-      after-kept : (inside : j < length f) → some-open bl (tr .path) ≡ true → After (set f j (loop-perimeter ps (tr .path))) r (j + 1)
-      after-kept inside e =
+      after-kept : {f' : List Float} → length f' ≡ length f → Measured f' s p (j + 1) ps (g .ls ++ tr .path ∷ []) → some-open bl (tr .path) ≡ true → After f' r (j + 1)
+      after-kept z v e =
           let o = g .loops in
-          let v = loop-perimeter ps (tr .path) in
           record {
             ls = g .ls ++ tr .path ∷ [];
             loops = record {
@@ -211,10 +225,10 @@ module _ {w₀ w : List ℕ} {f₀ f : List Float} {s p n k b j i : ℕ} {ps : L
               total = let z = concat-last (g .ls) (tr .path) in omega (arith, z, o .total, t .placed .sum);
               few = omega (arith, o .few, t .more);
               places = λ x y. elim (decLt x b) [ yes z ↦ old-places x z | no z ↦ t .placed .places x (omega arith) y ];
-              sums = perimeters-last (set f j v) s p ps 0 j (g .ls) (tr .path) (omega (arith, o .many)) (perimeters-kept f j v s p ps 0 (g .ls) (omega (arith, o .many)) (o .sums)) (getD-set-same f j v 0·0 inside);
+              sums = v;
             };
             top = omega arith;
-            reals = length-set f j v;
+            reals = z;
             same = λ l. ap (λ (z : List (List Edge)). g .ls ++ z) (filter-yes (some-open bl) (tr .path) l e) ∙ sym (append-assoc (g .ls) (tr .path ∷ []) (filter (some-open bl) l));
           }
 
@@ -229,13 +243,13 @@ module _ {w₀ w : List ℕ} {f₀ f : List Float} {s p n k b j i : ℕ} {ps : L
             same = λ l. ap (λ (z : List (List Edge)). g .ls ++ z) (filter-no (some-open bl) (tr .path) l e);
           }
 
-      after : {f' : List Float} {b' j' : ℕ} → j < length f → KeepTo f f' b r j b' j' ps bl (tr .path) → After f' b' j'
-      after {f'} {b'} {j'} inside y = elim (which (some-open bl (tr .path))) [
-        | inl e ↦ let z = y .kept e in subst (λ (x : ℕ). After f' b' x) (sym (z .0)) (subst (λ (x : ℕ). After f' x (j + 1)) (sym (z .1)) (subst (λ (x : List Float). After x r (j + 1)) (sym (z .2)) (after-kept inside e)))
+      after : {f' : List Float} {b' j' : ℕ} → length f' ≡ length f → KeepTo f f' s p b r j b' j' ps bl (tr .path) (g .ls) → After f' b' j'
+      after {f'} {b'} {j'} len y = elim (which (some-open bl (tr .path))) [
+        | inl e ↦ let z = y .kept e in subst (λ (x : ℕ). After f' b' x) (sym (z .0)) (subst (λ (x : ℕ). After f' x (j + 1)) (sym (z .1)) (after-kept len (z .2) e))
         | inr e ↦ let z = y .dropped e in subst (λ (x : ℕ). After f' b' x) (sym (z .0)) (subst (λ (x : ℕ). After f' x j) (sym (z .1)) (subst (λ (x : List Float). After x b j) (sym (z .2)) (after-dropped e)))
       ]
 
-      module _ {f' : List Float} {b' j' i' : ℕ} (inside : j < length f) (y : KeepTo f f' b r j b' j' ps bl (tr .path)) (x : NextTo w' s p k (i + 1) i') where
+      module _ {f' : List Float} {b' j' i' : ℕ} (len : length f' ≡ length f) (y : KeepTo f f' s p b r j b' j' ps bl (tr .path) (g .ls)) (x : NextTo w' s p k (i + 1) i') where
         before : (z : ℕ) → z < i' → fresh w' s p z ≡ false
         before z a = elim (decLt z i) [
           | yes q ↦ t .aside .used z (omega (arith, h, few, q)) (g .past z q)
@@ -253,7 +267,7 @@ module _ {w₀ w : List ℕ} {f₀ f : List Float} {s p n k b j i : ℕ} {ps : L
             ∙ a .same (loops-of u (unused w' s p es 0 k))
 
         pub looping-on : Looping w₀ w' f₀ f' s p n k b' j' i' ps es bl
-        looping-on = go (g .fuel) refl (after inside y)
+        looping-on = go (g .fuel) refl (after len y)
           where
             go : (u : ℕ) → g .fuel ≡ u → After f' b' j' → Looping w₀ w' f₀ f' s p n k b' j' i' ps es bl
             go zero e a = absurd (omega (arith, g .enough, ap length (looping-trace .first), e))

@@ -12,7 +12,7 @@ use Rattle.definition.specs.Loops.{loops-of}
 use Rattle.blocked_edges.specs.Blocks.{Blocks}
 use Rattle.cells.specs.Layout.{refused-at, front-links-at}
 use Rattle.cells.specs.Rep.{Pts}
-use Rattle.edges.specs.Stored.{LoopList, Perimeters}
+use Rattle.edges.specs.Stored.{LoopList, Measured}
 use Rattle.loops.specs.Loop.{CanLoop}
 
 -- some edge of the loop is not blocked
@@ -37,10 +37,10 @@ pub record CanSift (w : List ℕ) (q f : List Float) (s p n k : ℕ) (m : Mesh) 
   pub floats : 3 * s ≤ length f
   pub blocked : Blocked w s p bl
 
--- they stand as r loops of k edges with their perimeters, and nothing changed before the links
+-- they stand as r loops of k edges, with their perimeters where they are more than one, and nothing changed before the links
 pub record SiftedTo (w w' : List ℕ) (f f' : List Float) (s p n r k : ℕ) (ps : List Node) (es bl : List Edge) : Type 0 where
   pub loops : LoopList w' s p n k r (open-loops bl es)
-  pub sums : Perimeters f' s p ps 0 (open-loops bl es)
+  pub sums : Measured f' s p r ps (open-loops bl es)
   pub len : length w' ≡ length w
   pub reals : length f' ≡ length f
   pub below : (i : ℕ) → i < front-links-at s p → getD w' i 0 ≡ getD w i 0

@@ -56,7 +56,13 @@ keep-requires c κs =
     let k = listed-sift z (t .pre .3) in
     let g = l .loop .inv .2 (t .pre .0) (t .pre .1) (t .pre .2) k (z .clear) in
     let h = i .loop-test .taken in
-    (t .pre .0, t .pre .2, walk-of (edge-of (t .pre .1) (l .loop .i)) (looping-trace g h .rest) .path, looping-keep g h (tr .trace .ensures (t .args .n) (t .pre .1) (looping-trace g h)) k)
+    (
+      t .pre .0,
+      t .pre .2,
+      walk-of (edge-of (t .pre .1) (l .loop .i)) (looping-trace g h .rest) .path,
+      g .ls,
+      looping-keep g h (tr .trace .ensures (t .args .n) (t .pre .1) (looping-trace g h)) refl k,
+    )
 
 next-fresh-requires-2 : tie.Need-next-fresh-requires-2 Inv-loop μ-loop
 next-fresh-requires-2 c κs =
@@ -82,8 +88,7 @@ loop-again c =
       λ m es bl k cl.
           let g = l .loop .inv .2 m es bl k cl in
           let t = tr .trace .ensures _ es (looping-trace g h) in
-          let u = looping-keep g h t k in
-          looping-on g h t (u .inside) (ke .keep .ensures m bl _ u) (c .next-fresh2 .ensures),
+          looping-on g h t (ke .keep .kept .1 .1 .0) (ke .keep .ensures m bl _ _ (looping-keep g h t refl k)) (c .next-fresh2 .ensures),
     )
 
 returns : tie.Need-returns Inv-loop μ-loop
