@@ -26,7 +26,7 @@ far-second : (e : Edge) (v : ℕ) → e .0 ≢ v → far-end e v ≡ e .0
 unfolding far-end
 far-second e v h = rw (ne-eqb (e .0) v h)
 
-module _ (w : List ℕ) (s p n k c l v : ℕ) (es : List Edge) (a : AtNode w s p n k c l v es) where
+module _ {w : List ℕ} {s p n k c l v : ℕ} {es : List Edge} (a : AtNode w s p n k c l v es) where
   pub first-is : getD w (front-u-at s p + c) 0 ≡ edge-of es c .0
   first-is = ap (λ (e : Edge). e .0) (a .ready .front .at .each c (omega (arith, a .sum)))
 
@@ -36,9 +36,9 @@ module _ (w : List ℕ) (s p n k c l v : ℕ) (es : List Edge) (a : AtNode w s p
   inside : c < length es
   inside = omega (arith, a .sum, a .ready .front .at .len)
 
-  module _ (u : ℕ) (q : u ≡ getD w (front-u-at s p + c) 0) where
-    pub far-by-first : u ≡ v → (r : ℕ) → r ≡ getD w (front-v-at s p + c) 0 → FarTo n c v r es
-    far-by-first h r z =
+  module _ {u : ℕ} (q : u ≡ getD w (front-u-at s p + c) 0) where
+    pub far-by-first : u ≡ v → {r : ℕ} → r ≡ getD w (front-v-at s p + c) 0 → FarTo n c v r es
+    far-by-first h {r} z =
         let i : edge-of es c .0 ≡ v = sym first-is ∙ sym q ∙ h in
         let k : r ≡ edge-of es c .1 = z ∙ second-is in
         record { is = k ∙ sym (far-first (edge-of es c) v i); known = omega (arith, edge-in-range n es c (a .ready .front .edges) inside .1, k) }
@@ -51,12 +51,12 @@ module _ (w : List ℕ) (s p n k c l v : ℕ) (es : List Edge) (a : AtNode w s p
           known = omega (arith, edge-in-range n es c (a .ready .front .edges) inside, i);
         }
 
-    pub next-by-first : u ≡ v → (r : ℕ) → r ≡ getD w (front-links-at s p + 2 * c) 0 → r ≡ seek es v (suc c) l
-    next-by-first h r z =
+    pub next-by-first : u ≡ v → {r : ℕ} → r ≡ getD w (front-links-at s p + 2 * c) 0 → r ≡ seek es v (suc c) l
+    next-by-first h z =
         let i : edge-of es c .0 ≡ v = sym first-is ∙ sym q ∙ h in
         z ∙ a .ready .lists .firsts c l (omega arith) (omega (arith, a .sum)) ∙ ap (λ (x : ℕ). seek es x (suc c) l) i
 
-    pub next-by-second : u ≢ v → (r : ℕ) → r ≡ getD w (front-links-at s p + (2 * c + 1)) 0 → r ≡ seek es v (suc c) l
-    next-by-second h r z =
+    pub next-by-second : u ≢ v → {r : ℕ} → r ≡ getD w (front-links-at s p + (2 * c + 1)) 0 → r ≡ seek es v (suc c) l
+    next-by-second h z =
         let i : edge-of es c .1 ≡ v = second-touched (edge-of es c) v (a .end) (λ y. h (q ∙ first-is ∙ y)) in
         z ∙ a .ready .lists .seconds c l (omega arith) (omega (arith, a .sum)) ∙ ap (λ (x : ℕ). seek es x (suc c) l) i

@@ -186,7 +186,7 @@ module _ (w w' : List ℕ) (s p n k : ℕ) (es : List Edge) (i m : ℕ) (g : Lin
           between = j .between;
         }
 
-module _ (w : List ℕ) (s p n k : ℕ) (es : List Edge) (i m : ℕ) (g : Linking w s p n k es (i + 1) m) (u v : ℕ) (qu : u ≡ getD w (front-u-at s p + i) 0) (qv : v ≡ getD w (front-v-at s p + i) 0) where
+module _ {w : List ℕ} {s p n k : ℕ} {es : List Edge} (i m : ℕ) (g : Linking w s p n k es (i + 1) m) {u v : ℕ} (qu : u ≡ getD w (front-u-at s p + i) 0) (qv : v ≡ getD w (front-v-at s p + i) 0) where
   u-is : u ≡ edge-of es i .0
   u-is = qu ∙ first-at w w s p n k es i m g
 
@@ -204,12 +204,12 @@ module _ (w : List ℕ) (s p n k : ℕ) (es : List Edge) (i m : ℕ) (g : Linkin
   pub can-link-first : CanLink w s p u (2 * i) i
   can-link-first = record { room = g .front .room; node = ends .0; link = omega (arith, ends .2); edge = ends .2 }
 
-  pub can-link-second : (w1 : List ℕ) → length w1 ≡ length w → CanLink w1 s p v (2 * i + 1) i
-  can-link-second w1 e =
+  pub can-link-second : {w1 : List ℕ} → length w1 ≡ length w → CanLink w1 s p v (2 * i + 1) i
+  can-link-second e =
       record { room = record { fits = omega (arith, g .front .room .fits); small = g .front .room .small }; node = ends .1; link = omega (arith, ends .2); edge = ends .2 }
 
-  pub link-edge-to : (w1 w2 : List ℕ) → w1 ≡ linked w s p u (2 * i) i → w2 ≡ linked w1 s p v (2 * i + 1) i → LinkTo w w2 s p n k es i (suc m)
-  link-edge-to w1 w2 a b =
+  pub link-edge-to : {w1 w2 : List ℕ} → w1 ≡ linked w s p u (2 * i) i → w2 ≡ linked w1 s p v (2 * i + 1) i → LinkTo w w2 s p n k es i (suc m)
+  link-edge-to {w1} {w2} a b =
       let e0 = edge-of es i .0 in
       let e1 = edge-of es i .1 in
       let z : w2 ≡ linked (linked w s p e0 (2 * i) i) s p e1 (2 * i + 1) i =
@@ -228,21 +228,21 @@ pub record Going (w₀ w : List ℕ) (s p n k : ℕ) (es : List Edge) (i : ℕ) 
   pub m : ℕ
   pub to : LinkTo w₀ w s p n k es i m
 
-pub going-start : (w : List ℕ) (s p n k : ℕ) (es : List Edge) → Linking w s p n k es k 0 → Going w w s p n k es k
-going-start w s p n k es g = record { m = 0; to = record { linking = g; len = refl; below = λ x h. refl; between = λ x a b. refl } }
+pub going-start : {w : List ℕ} {s p n k : ℕ} {es : List Edge} → Linking w s p n k es k 0 → Going w w s p n k es k
+going-start g = record { m = 0; to = record { linking = g; len = refl; below = λ x h. refl; between = λ x a b. refl } }
 
-pub going-end : (w₀ w : List ℕ) (s p n k : ℕ) (es : List Edge) (i : ℕ) → i ≤ 0 → Going w₀ w s p n k es i → LinkTo w₀ w s p n k es 0 k
-going-end w₀ w s p n k es i h g =
+pub going-end : {w₀ w : List ℕ} {s p n k : ℕ} {es : List Edge} {i : ℕ} → i ≤ 0 → Going w₀ w s p n k es i → LinkTo w₀ w s p n k es 0 k
+going-end {w₀} {w} {s} {p} {n} {k} {es} {i} h g =
     let e : i ≡ 0 = omega arith in
     let d : g .m ≡ k = omega (arith, g .to .linking .sum) in
     subst (LinkTo w₀ w s p n k es 0) d (subst (λ (j : ℕ). LinkTo w₀ w s p n k es j (g .m)) e (g .to))
 
-module _ (w₀ w : List ℕ) (s p n k : ℕ) (es : List Edge) (i : ℕ) (h : 0 < i) (g : Going w₀ w s p n k es i) where
+module _ {w₀ w : List ℕ} {s p n k : ℕ} {es : List Edge} {i : ℕ} (h : 0 < i) (g : Going w₀ w s p n k es i) where
   pub going-next : Linking w s p n k es (i - 1 + 1) (g .m)
   going-next = let e : i ≡ i - 1 + 1 = omega arith in subst (λ (j : ℕ). Linking w s p n k es j (g .m)) e (g .to .linking)
 
-  pub going-on : (w' : List ℕ) → LinkTo w w' s p n k es (i - 1) (suc (g .m)) → Going w₀ w' s p n k es (i - 1)
-  going-on w' t =
+  pub going-on : {w' : List ℕ} → LinkTo w w' s p n k es (i - 1) (suc (g .m)) → Going w₀ w' s p n k es (i - 1)
+  going-on t =
       record {
         m = suc (g .m);
         to = record {
@@ -255,7 +255,7 @@ module _ (w₀ w : List ℕ) (s p n k : ℕ) (es : List Edge) (i : ℕ) (h : 0 <
 
 -- ---- from nothing
 
-module _ (w w1 w2 : List ℕ) (s p n k : ℕ) (es : List Edge) (r : CanLoop w s p n k es) (a : Filled w w1 (front-used-at s p) k 0) (b : Filled w1 w2 (heads-at s p) n k) where
+module _ {w w1 w2 : List ℕ} {s p n k : ℕ} {es : List Edge} (r : CanLoop w s p n k es) (a : Filled w w1 (front-used-at s p) k 0) (b : Filled w1 w2 (heads-at s p) n k) where
   pub cleared-below : (x : ℕ) → x < front-links-at s p → getD w2 x 0 ≡ getD w x 0
   cleared-below x h = b .low x (omega (arith, h)) ∙ a .low x (omega (arith, h))
 
@@ -271,8 +271,8 @@ module _ (w w1 w2 : List ℕ) (s p n k : ℕ) (es : List Edge) (r : CanLoop w s 
         sum = omega arith;
       }
 
-  pub list-to : (w3 : List ℕ) → LinkTo w2 w3 s p n k es 0 k → ListTo w w3 s p n k es
-  list-to w3 t =
+  pub list-to : {w3 : List ℕ} → LinkTo w2 w3 s p n k es 0 k → ListTo w w3 s p n k es
+  list-to {w3} t =
       record {
         clear = record {
           ready = record { front = t .linking .front; lists = t .linking .lists };

@@ -16,7 +16,7 @@ use Rattle.definition.specs.Loops.{without-edge}
 use Rattle.laws.specs.Cells.{same-self}
 use Rattle.edges.specs.Stored.{Edges}
 use Rattle.edges.specs.Parts.{edge-of, edges-apart}
-use Rattle.loops.specs.Trace.{fresh, unused, seek, Found}
+use Rattle.loops.specs.Trace.{fresh, unused, seek, Ready, AtNode, Found}
 use Rattle.loops.proofs.Lists.{drop-it, keep-it, without-nil, find-hit, find-miss, find-none}
 
 -- ---- one edge
@@ -174,8 +174,8 @@ pub record Seeking (w : List ℕ) (s p k v c : ℕ) (es : List Edge) : Type 0 wh
   pub same : find (λ e. touches e v) (unused w s p es 0 k) ≡ find (λ e. touches e v) (unused w s p es c more)
   pub end : c < k → touches (edge-of es c) v ≡ true
 
-pub seeking-start : (w : List ℕ) (s p k v c : ℕ) (es : List Edge) → c ≡ seek es v 0 k → Seeking w s p k v c es
-seeking-start w s p k v c es e =
+pub seeking-start : {w : List ℕ} {s p k v c : ℕ} {es : List Edge} → c ≡ seek es v 0 k → Seeking w s p k v c es
+seeking-start {w} {s} {p} {k} {v} {c} {es} e =
     let r : Sought es v 0 k c = subst (Sought es v 0 k) (sym e) (sought es v 0 k) in
     record { more = r .more; sum = omega (arith, r .sum); same = r .skip w s p; end = λ h. r .end (omega (arith, h)) }
 
@@ -187,7 +187,7 @@ pub record Behind (k c : ℕ) : Type 0 where
 pub behind : (k c : ℕ) → c < k → Behind k c
 behind k c h = record { l = k - suc c; sum = omega arith }
 
-module _ (w : List ℕ) (s p k v c : ℕ) (es : List Edge) (g : Seeking w s p k v c es) where
+module _ {w : List ℕ} {s p k v c : ℕ} {es : List Edge} (g : Seeking w s p k v c es) where
   pub seeking-end : k ≤ c → Found w s p k v c es
   seeking-end h =
       let e : g .more ≡ 0 = omega (arith, g .sum) in
@@ -202,6 +202,10 @@ module _ (w : List ℕ) (s p k v c : ℕ) (es : List Edge) (g : Seeking w s p k 
     pub behind-more : g .more ≡ suc (behind k c h .l)
     behind-more = omega (arith, g .sum, behind k c h .sum)
 
+    -- the edge c is at the node
+    pub seeking-at : {n : ℕ} → Ready w s p n k es → AtNode w s p n k c (behind k c h .l) v es
+    seeking-at r = record { ready = r; sum = behind k c h .sum; end = g .end h }
+
     pub seeking-found : fresh w s p c ≡ true → Found w s p k v c es
     seeking-found f =
         record {
@@ -213,7 +217,7 @@ module _ (w : List ℕ) (s p k v c : ℕ) (es : List Edge) (g : Seeking w s p k 
           miss = λ z. absurd (omega (arith, z));
         }
 
-    module _ (r : ℕ) (q : r ≡ seek es v (suc c) (behind k c h .l)) where
+    module _ {r : ℕ} (q : r ≡ seek es v (suc c) (behind k c h .l)) where
       pub seeking-past : c < r
       seeking-past = omega (arith, sought es v (suc c) (behind k c h .l) .from, q)
 

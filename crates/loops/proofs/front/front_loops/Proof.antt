@@ -55,8 +55,7 @@ keep-requires c κs =
     let z = le .list-edges .ensures (t .pre .1) (t .pre .3 .front) in
     let k = listed-sift z (t .pre .3) in
     let g = l .loop .inv .2 (t .pre .0) (t .pre .1) (t .pre .2) k (z .clear) in
-    let h = i .loop-test .taken in
-    (
+    let h = i .loop-test .taken in (
       t .pre .0,
       t .pre .2,
       walk-of (edge-of (t .pre .1) (l .loop .i)) (looping-trace g h .rest) .path,

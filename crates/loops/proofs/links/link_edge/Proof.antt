@@ -14,7 +14,7 @@ link-requires c κs =
     let fu = w1 .before .before in
     let t = fu .before .before in
     let a = t .args in
-    can-link-first (a .w .now) (a .s) (a .p) (t .pre .0) (t .pre .1) (t .pre .3) (a .i) (t .pre .2) (t .pre .4) (w1 .wide .result) (w2 .wide2 .result)
+    can-link-first (a .i) (t .pre .2) (t .pre .4)
     (w1 .wide .ensures ∙ ap (λ (x : ℕ). getD (a .w .now) (x + a .i) 0) (fu .front-u-at .ensures))
     (w2 .wide2 .ensures ∙ ap (λ (x : ℕ). getD (a .w .now) (x + a .i) 0) (fv .front-v-at .ensures))
 
@@ -27,10 +27,10 @@ link-requires-2 c κs =
     let fu = w1 .before .before in
     let t = fu .before .before in
     let a = t .args in
-    can-link-second (a .w .now) (a .s) (a .p) (t .pre .0) (t .pre .1) (t .pre .3) (a .i) (t .pre .2) (t .pre .4) (w1 .wide .result) (w2 .wide2 .result)
+    can-link-second (a .i) (t .pre .2) (t .pre .4)
     (w1 .wide .ensures ∙ ap (λ (x : ℕ). getD (a .w .now) (x + a .i) 0) (fu .front-u-at .ensures))
     (w2 .wide2 .ensures ∙ ap (λ (x : ℕ). getD (a .w .now) (x + a .i) 0) (fv .front-v-at .ensures))
-    (l1 .link .last .0) (l1 .link .kept .0)
+    (l1 .link .kept .0)
 
 returns : tie.Need-returns
 returns c =
@@ -43,10 +43,10 @@ returns c =
     let t = fu .before .before in
     let a = t .args in
     λ n k m es g.
-    link-edge-to (a .w .now) (a .s) (a .p) n k es (a .i) m g (w1 .wide .result) (w2 .wide2 .result)
+    link-edge-to (a .i) m g
     (w1 .wide .ensures ∙ ap (λ (x : ℕ). getD (a .w .now) (x + a .i) 0) (fu .front-u-at .ensures))
     (w2 .wide2 .ensures ∙ ap (λ (x : ℕ). getD (a .w .now) (x + a .i) 0) (fv .front-v-at .ensures))
-    (l1 .link .last .0) (l2 .link2 .last .0) (l1 .link .ensures) (l2 .link2 .ensures)
+    (l1 .link .ensures) (l2 .link2 .ensures)
 
 pub link-edge-spec : {M : Type 1} → statement M
 link-edge-spec =

@@ -20,7 +20,7 @@ link-all-requires c κs =
     let w2 = f2 .fill2 .last .0 in
     let x : Filled w w1 (front-used-at (a .s) (a .p)) (a .k) 0 = subst (λ (i : ℕ). Filled w w1 i (a .k) 0) (u .front-used-at .ensures) (f1 .fill .ensures) in
     let y : Filled w1 w2 (heads-at (a .s) (a .p)) (a .n) (a .k) = subst (λ (i : ℕ). Filled w1 w2 i (a .n) (a .k)) (h .heads-at .ensures) (f2 .fill2 .ensures) in
-    (a .n, t .pre .0, cleared w w1 w2 (a .s) (a .p) (a .n) (a .k) (t .pre .0) (t .pre .1) x y)
+    (a .n, t .pre .0, cleared (t .pre .1) x y)
 
 returns : tie.Need-returns
 returns c =
@@ -37,7 +37,7 @@ returns c =
     let x : Filled w w1 (front-used-at (a .s) (a .p)) (a .k) 0 = subst (λ (i : ℕ). Filled w w1 i (a .k) 0) (u .front-used-at .ensures) (f1 .fill .ensures) in
     let y : Filled w1 w2 (heads-at (a .s) (a .p)) (a .n) (a .k) = subst (λ (i : ℕ). Filled w1 w2 i (a .n) (a .k)) (h .heads-at .ensures) (f2 .fill2 .ensures) in
     λ es q.
-    list-to w w1 w2 (a .s) (a .p) (a .n) (a .k) es q x y (la .link-all .last .0) (la .link-all .ensures (a .n) es (cleared w w1 w2 (a .s) (a .p) (a .n) (a .k) es q x y))
+    list-to q x y (la .link-all .ensures (a .n) es (cleared q x y))
 
 pub list-edges-spec : {M : Type 1} → statement M
 list-edges-spec =

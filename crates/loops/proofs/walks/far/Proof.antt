@@ -14,8 +14,7 @@ returns c =
     let fu = wd .before .before in
     let a = fu .before .before .args in
     λ n k l es q.
-    far-by-first (a .w .now) (a .s) (a .p) n k (a .c) l (a .v) es q (wd .wide .result)
-    (wd .wide .ensures ∙ ap (λ (x : ℕ). getD (a .w .now) (x + a .c) 0) (fu .front-u-at .ensures)) (i .if1 .taken) (c .wide2 .result)
+    far-by-first q (wd .wide .ensures ∙ ap (λ (x : ℕ). getD (a .w .now) (x + a .c) 0) (fu .front-u-at .ensures)) (i .if1 .taken)
     (c .wide2 .ensures ∙ ap (λ (x : ℕ). getD (a .w .now) (x + a .c) 0) (fv .front-v-at .ensures))
 
 returns-2 : tie.Need-returns-2
@@ -24,8 +23,7 @@ returns-2 c =
     let fu = wd .before .before in
     let a = fu .before .before .args in
     λ n k l es q.
-    far-by-second (a .w .now) (a .s) (a .p) n k (a .c) l (a .v) es q (wd .wide .result)
-    (wd .wide .ensures ∙ ap (λ (x : ℕ). getD (a .w .now) (x + a .c) 0) (fu .front-u-at .ensures)) (c .if1 .left)
+    far-by-second q (wd .wide .ensures ∙ ap (λ (x : ℕ). getD (a .w .now) (x + a .c) 0) (fu .front-u-at .ensures)) (c .if1 .left)
 
 pub far-spec : {M : Type 1} → statement M
 far-spec =

@@ -14,8 +14,7 @@ returns c =
     let fl = fu .before in
     let a = fl .before .before .args in
     λ n k l es q.
-    next-by-first (a .w .now) (a .s) (a .p) n k (a .c) l (a .v) es q (wd .wide .result)
-    (wd .wide .ensures ∙ ap (λ (x : ℕ). getD (a .w .now) (x + a .c) 0) (fu .front-u-at .ensures)) (i .if1 .taken) (c .wide2 .result)
+    next-by-first q (wd .wide .ensures ∙ ap (λ (x : ℕ). getD (a .w .now) (x + a .c) 0) (fu .front-u-at .ensures)) (i .if1 .taken)
     (c .wide2 .ensures ∙ ap (λ (x : ℕ). getD (a .w .now) (x + 2 * a .c) 0) (fl .front-links-at .ensures))
 
 returns-2 : tie.Need-returns-2
@@ -26,8 +25,7 @@ returns-2 c =
     let fl = fu .before in
     let a = fl .before .before .args in
     λ n k l es q.
-    next-by-second (a .w .now) (a .s) (a .p) n k (a .c) l (a .v) es q (wd .wide .result)
-    (wd .wide .ensures ∙ ap (λ (x : ℕ). getD (a .w .now) (x + a .c) 0) (fu .front-u-at .ensures)) (i .if1 .left) (c .wide3 .result)
+    next-by-second q (wd .wide .ensures ∙ ap (λ (x : ℕ). getD (a .w .now) (x + a .c) 0) (fu .front-u-at .ensures)) (i .if1 .left)
     (c .wide3 .ensures ∙ ap (λ (x : ℕ). getD (a .w .now) (x + (2 * a .c + 1)) 0) (fl .front-links-at .ensures))
 
 pub next-at-spec : {M : Type 1} → statement M
