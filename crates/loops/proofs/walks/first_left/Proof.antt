@@ -8,7 +8,7 @@ use lib.Dec.{eqb}
 use borrow.Author.Tests.{eq-eqb, ne-eqb}
 use Rattle.definition.specs.Plane.{Edge}
 use Rattle.cells.specs.Layout.{front-used-at}
-use Rattle.loops.specs.Trace.{Ready, AtNode}
+use Rattle.loops.specs.Trace.{Ready}
 use Rattle.loops.proofs.Unused.{Seeking, seeking-start, seeking-end, seeking-found, seeking-past, seeking-on, seeking-at, behind}
 use borrow.Author.Needs.{needs}
 use Rattle.loops.proofs.walks.first_left.Statement.{statement}
