@@ -1,5 +1,5 @@
 -- Words of nodes: put, raised, and what they tell then.
-use mathlib.Core.Path.{_≡_, refl, ap, sym, _∙_, subst}
+use mathlib.Core.Path.{_≡_, refl, ap, sym, _∙_}
 use mathlib.Core.Logic.{_≢_}
 use mathlib.Core.Bool.{Bool, true, false, not, cond, _||_, or-false, false≢true}
 use mathlib.Core.List.{List, [], _∷_}
@@ -22,7 +22,6 @@ use Rattle.side_candidates.proofs.Scans.{Scan, Spot, scan-start, spot-has}
 use Rattle.edge_candidates.specs.Wishes.{Besides}
 use Rattle.edge_candidates.proofs.Around.{Around, around-start, around-after, around-before, around-read, around-more, around-end, around-less}
 use Rattle.edge_candidates.proofs.Givers.{besides-refl, besides-set, rep-besides, read-kept, after-kept, before-kept}
-use Rattle.candidates.specs.Spans.{In, Beside}
 use Rattle.candidates.specs.Words.{Spare, CanMark, Cleared, Put, of-region, Risen, Raised, RaisedBy, Told, MarkedTo}
 use Rattle.candidates.specs.declared.spans.Span.{Span}
 use Rattle.candidates.proofs.Lists.{besides-trans}

@@ -209,7 +209,7 @@ fn region_around(
     )
 }
 
-// The side nodes for the end a of the edge from a to other, ascending, come to `at`; how many they are. What is wanted at a is listed where the stack of the region was.
+// The side nodes for an end, ascending, come to `at`; how many they are. What is wanted there is listed where the stack of the region was.
 pub fn candidates(
     w: &mut [u32],
     q: &[f64],
@@ -218,27 +218,14 @@ pub fn candidates(
     used: usize,
     n: usize,
     at: usize,
-    left: bool,
-    a: usize,
-    other: usize,
     seed: usize,
-    normal: Vec,
-    target: f64,
-    y: Quality,
+    aim: Aim,
 ) -> usize
-    requires { ⌜ ((m : Mesh) × CanChoose (now w) (now q) s p used n at a other seed m) ⌝ }
-    ensures { λ k. ⌜ ((m : Mesh) → CanChoose (now (w .entry)) (now (q .entry)) s p used n at a other seed m → ChosenTo (now (w .entry)) (now (w .exit)) s p n at k (candidates (quality-of y) (turn left) m a other seed (vec normal) target)) ⌝ }
+    requires { ⌜ ((m : Mesh) × CanChoose (now w) (now q) s p used n at (aim .end) (aim .other) seed m) ⌝ }
+    ensures { λ k. ⌜ ((m : Mesh) → CanChoose (now (w .entry)) (now (q .entry)) s p used n at (aim .end) (aim .other) seed m → ChosenTo (now (w .entry)) (now (w .exit)) s p n at k (candidates (quality-of (aim .quality)) (turn (aim .left)) m (aim .end) (aim .other) seed (vec (aim .normal)) (aim .target))) ⌝ }
 {
-    let k = region_around(w, q, s, p, used, seed, a, target, y);
+    let k = region_around(w, q, s, p, used, seed, aim.end, aim.target, aim.quality);
     let i = stack_at(s, p);
-    let o = wish_at(w, q, s, p, a, other, i);
-    let aim = Aim {
-        left,
-        end: a,
-        other,
-        normal,
-        target,
-        quality: y,
-    };
+    let o = wish_at(w, q, s, p, aim.end, aim.other, i);
     scan(w, q, s, p, k, n, at, aim, i, o)
 }

@@ -12,7 +12,6 @@ use Rattle.definition.specs.Plane.{Edge}
 use Rattle.definition.specs.Lists.{filter}
 use Rattle.definition.specs.Cells.{Tri, tri, Live, Mesh, new-live, live-tri, edges, tri-edges, key, owners, tri-owners}
 use Rattle.definition.specs.Candidates.{shared-by-tris}
-use Rattle.laws.specs.Lists.{filter-yes, filter-no}
 use Rattle.live_regions.specs.Walls.{counted, wall-mark, tally-with, tally}
 
 tally-over : (l : List Live) → tally 3 l ≡ 3

@@ -1,4 +1,5 @@
 // Candidates at an end of a front edge, or a node inserted where there is none.
+use candidates::aim::Aim;
 use candidates::candidates;
 use cells::counters::Counters;
 use insertion::insert::Place;
@@ -132,6 +133,15 @@ pub fn side_nodes(
     let n = c.points;
     let used = c.used;
     let normal = stance.normal;
+    let quality = rules.quality;
+    let aim = Aim {
+        left,
+        end: a,
+        other,
+        normal,
+        target: stance.target,
+        quality,
+    };
     let k = candidates(
         w,
         q,
@@ -140,13 +150,8 @@ pub fn side_nodes(
         used,
         n,
         near,
-        left,
-        a,
-        other,
         stance.seed,
-        normal,
-        stance.target,
-        rules.quality,
+        aim,
     );
     if k > 0 {
         return Side {

@@ -31,9 +31,9 @@ wish-at-requires c κs =
     let a = t .args in
     let m = t .pre .0 in
     let k = t .pre .1 in
-    let g = region-of (quality-of (a .y)) m (a .seed) (a .a) (a .target) in
+    let g = region-of (quality-of (a .aim .quality)) m (a .seed) (a .aim .end) (a .aim .target) in
     let f = ra .region-around .ensures m (k .lent) (omega (arith, k .first, k .count)) in
-    (m, can-wish (a .w .now) (ra .region-around .last .0) (a .q .now) (a .s) (a .p) (a .used) (a .n) (a .at) (a .a) (a .other) (a .seed) (ra .region-around .result) m g k f (st .stack-at .result) (st .stack-at .ensures))
+    (m, can-wish (a .w .now) (ra .region-around .last .0) (a .q .now) (a .s) (a .p) (a .used) (a .n) (a .at) (a .aim .end) (a .aim .other) (a .seed) (ra .region-around .result) m g k f (st .stack-at .result) (st .stack-at .ensures))
 
 scan-requires : tie.Need-scan-requires
 scan-requires c κs =
@@ -44,11 +44,11 @@ scan-requires c κs =
     let a = t .args in
     let m = t .pre .0 in
     let k = t .pre .1 in
-    let g = region-of (quality-of (a .y)) m (a .seed) (a .a) (a .target) in
+    let g = region-of (quality-of (a .aim .quality)) m (a .seed) (a .aim .end) (a .aim .target) in
     let f = ra .region-around .ensures m (k .lent) (omega (arith, k .first, k .count)) in
     let w1 = ra .region-around .last .0 in
-    let y = can-wish (a .w .now) w1 (a .q .now) (a .s) (a .p) (a .used) (a .n) (a .at) (a .a) (a .other) (a .seed) (ra .region-around .result) m g k f (st .stack-at .result) (st .stack-at .ensures) in
-    (m, g, can-scan (a .w .now) w1 (a .q .now) (a .s) (a .p) (a .used) (a .n) (a .at) (a .a) (a .other) (a .seed) (ra .region-around .result) m g k f (st .stack-at .result) (st .stack-at .ensures) (wi .wish-at .last .0) (wi .wish-at .result) (wi .wish-at .ensures m y))
+    let y = can-wish (a .w .now) w1 (a .q .now) (a .s) (a .p) (a .used) (a .n) (a .at) (a .aim .end) (a .aim .other) (a .seed) (ra .region-around .result) m g k f (st .stack-at .result) (st .stack-at .ensures) in
+    (m, g, can-scan (a .w .now) w1 (a .q .now) (a .s) (a .p) (a .used) (a .n) (a .at) (a .aim .end) (a .aim .other) (a .seed) (ra .region-around .result) m g k f (st .stack-at .result) (st .stack-at .ensures) (wi .wish-at .last .0) (wi .wish-at .result) (wi .wish-at .ensures m y))
 
 same-length : tie.Need-same-length
 same-length c =
@@ -66,16 +66,16 @@ returns c =
     let t = ra .before .before .before .before in
     let a = t .args in
     λ m k.
-    let g = region-of (quality-of (a .y)) m (a .seed) (a .a) (a .target) in
+    let g = region-of (quality-of (a .aim .quality)) m (a .seed) (a .aim .end) (a .aim .target) in
     let f = ra .region-around .ensures m (k .lent) (omega (arith, k .first, k .count)) in
     let w1 = ra .region-around .last .0 in
     let v = wi .wish-at .last .0 in
     let w2 = sc .scan .last .0 in
-    let y = wi .wish-at .ensures m (can-wish (a .w .now) w1 (a .q .now) (a .s) (a .p) (a .used) (a .n) (a .at) (a .a) (a .other) (a .seed) (ra .region-around .result) m g k f (st .stack-at .result) (st .stack-at .ensures)) in
-    let h = can-scan (a .w .now) w1 (a .q .now) (a .s) (a .p) (a .used) (a .n) (a .at) (a .a) (a .other) (a .seed) (ra .region-around .result) m g k f (st .stack-at .result) (st .stack-at .ensures) v (wi .wish-at .result) y in
-    subst (ChosenTo (a .w .now) w2 (a .s) (a .p) (a .n) (a .at) (sc .scan .result)) (chosen-are (quality-of (a .y)) (turn (a .left)) m (a .a) (a .other) (a .seed) (a .n) (vec (a .normal)) (a .target) (k .count))
-    (chosen-to (a .w .now) w1 v w2 (a .q .now) (a .s) (a .p) (a .used) (a .n) (a .at) (a .a) (a .other) (a .seed) (ra .region-around .result) (sc .scan .result) m g
-    (filter (is-choice (quality-of (a .y)) (turn (a .left)) m (a .a) (a .other) (vec (a .normal)) (a .target) g) (below (a .n))) k f (st .stack-at .result) (st .stack-at .ensures) (y .besides) (sc .scan .ensures m g h))
+    let y = wi .wish-at .ensures m (can-wish (a .w .now) w1 (a .q .now) (a .s) (a .p) (a .used) (a .n) (a .at) (a .aim .end) (a .aim .other) (a .seed) (ra .region-around .result) m g k f (st .stack-at .result) (st .stack-at .ensures)) in
+    let h = can-scan (a .w .now) w1 (a .q .now) (a .s) (a .p) (a .used) (a .n) (a .at) (a .aim .end) (a .aim .other) (a .seed) (ra .region-around .result) m g k f (st .stack-at .result) (st .stack-at .ensures) v (wi .wish-at .result) y in
+    subst (ChosenTo (a .w .now) w2 (a .s) (a .p) (a .n) (a .at) (sc .scan .result)) (chosen-are (quality-of (a .aim .quality)) (turn (a .aim .left)) m (a .aim .end) (a .aim .other) (a .seed) (a .n) (vec (a .aim .normal)) (a .aim .target) (k .count))
+    (chosen-to (a .w .now) w1 v w2 (a .q .now) (a .s) (a .p) (a .used) (a .n) (a .at) (a .aim .end) (a .aim .other) (a .seed) (ra .region-around .result) (sc .scan .result) m g
+    (filter (is-choice (quality-of (a .aim .quality)) (turn (a .aim .left)) m (a .aim .end) (a .aim .other) (vec (a .aim .normal)) (a .aim .target) g) (below (a .n))) k f (st .stack-at .result) (st .stack-at .ensures) (y .besides) (sc .scan .ensures m g h))
 
 pub candidates-spec : {M : Type 1} → statement M
 candidates-spec = tie.close (tie.spec region-around-requires stack-at-requires wish-at-requires scan-requires same-length returns)

@@ -1,4 +1,4 @@
-use mathlib.Core.Path.{_≡_, _∙_}
+use mathlib.Core.Path.{_∙_}
 use mathlib.Core.Bool.{_||_}
 use native.Mathlib.Omega.{arith}
 use lib.Dec.{eqb}

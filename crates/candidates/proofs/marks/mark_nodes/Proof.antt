@@ -1,10 +1,8 @@
 use mathlib.Core.Path.{_∙_}
 use native.Mathlib.Omega.{arith}
-use lib.ListN.{length}
 use Rattle.edge_candidates.proofs.Givers.{rep-besides}
 use Rattle.candidates.proofs.Lists.{hand-kept}
 use Rattle.candidates.proofs.Words.{can-kept, marked-to}
-use borrow.Author.Needs.{needs}
 use Rattle.candidates.proofs.marks.mark_nodes.Statement.{statement}
 use Rattle.candidates.proofs.marks.mark_nodes.Tie as tie
 

@@ -3,7 +3,6 @@ use mathlib.Core.Bool.{Bool, true, false}
 use Prim.Native.Nat.{ℕ, _/_, _%_}
 use lib.Dec.{eqb}
 use lib.ListN.{length}
-use Rattle.definition.specs.Plane.{Edge}
 use Rattle.definition.specs.Cells.{Mesh, key}
 use Rattle.definition.specs.Candidates.{shared-by-tris}
 use Rattle.side_candidates.specs.Hand.{open-edge}

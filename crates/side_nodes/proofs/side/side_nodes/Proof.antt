@@ -18,14 +18,14 @@ use Rattle.side_nodes.proofs.side.side_nodes.Tie as tie
 
 candidates-requires : tie.Need-candidates-requires
 candidates-requires c κs =
-    let t = c .before .before .before .before .before .before in
+    let t = c .before .before .before .before .before .before .before in
     let a = t .args in
     (t .pre .1, can-choose (a .w .now) (a .q .now) (a .rules) (a .c) (a .near) (a .a) (a .other) (a .stance .seed) (a .inserted) (t .pre .1) (t .pre .2))
 
 returns : tie.Need-returns
 returns c =
     let j = c .before .before .before in
-    let t = j .before .before .before .before .before .before .before in
+    let t = j .before .before .before .before .before .before .before .before in
     let a = t .args in
     let w' = j .candidates .last .0 in
     λ base m f h g o.
@@ -41,7 +41,7 @@ returns c =
 returns-2 : tie.Need-returns-2
 returns-2 c =
     let j = c .before .before .before .before .before in
-    let t = j .before .before .before .before .before .before .before in
+    let t = j .before .before .before .before .before .before .before .before in
     let a = t .args in
     let w' = j .candidates .last .0 in
     λ base m f h g o.
@@ -57,7 +57,7 @@ returns-2 c =
 by-insertion-requires : tie.Need-by-insertion-requires
 by-insertion-requires c κs =
     let j = c .before .before .before .before .before .before .before in
-    let t = j .before .before .before .before .before .before .before in
+    let t = j .before .before .before .before .before .before .before .before in
     let a = t .args in
     let w' = j .candidates .last .0 in
     let y = j .candidates .ensures (t .pre .1) (can-choose (a .w .now) (a .q .now) (a .rules) (a .c) (a .near) (a .a) (a .other) (a .stance .seed) (a .inserted) (t .pre .1) (t .pre .2)) in
@@ -66,7 +66,7 @@ by-insertion-requires c κs =
 returns-3 : tie.Need-returns-3
 returns-3 c =
     let j = c .before .before .before .before .before .before .before .before .before .before .before .before .before .before in
-    let t = j .before .before .before .before .before .before .before in
+    let t = j .before .before .before .before .before .before .before .before in
     let a = t .args in
     let w' = j .candidates .last .0 in
     let i = c .before .before .before .before .before .before in
