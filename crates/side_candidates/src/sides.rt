@@ -20,22 +20,22 @@ pub const SIDE_ALONG: f64 = 0.25;
 
 pub const SIDE_ACROSS: f64 = 2.5;
 
-// d has a length between the side factors, goes far enough along n and, measured by that, not too far across.
+// d goes far enough along n and, measured by that, not too far across, and has a length between the side factors; its root is taken last.
 pub fn ahead(y: Quality, n: Vec, d: Vec, target: f64) -> bool
     ensures { λ r. ⌜ r ≡ ahead (quality-of y) (vec n) (vec d) target ⌝ }
 {
-    let far = norm(d);
-    if far < y.side_low * target {
-        return false;
-    }
-    if far > y.side_high * target {
-        return false;
-    }
     let along = dot(d, n);
     if along < SIDE_ALONG * target {
         return false;
     }
-    !(abs(d.dx * n.dy - d.dy * n.dx) > SIDE_ACROSS * along)
+    if abs(d.dx * n.dy - d.dy * n.dx) > SIDE_ACROSS * along {
+        return false;
+    }
+    let far = norm(d);
+    if far < y.side_low * target {
+        return false;
+    }
+    !(far > y.side_high * target)
 }
 
 // The node v of the region in hand is another than the two ends, and the segment from a stays inside.
