@@ -9,6 +9,7 @@ use reference::generators::large::SHAPES;
 use reference::input::{Input, LARGEST};
 use reference::random::Random;
 use sedgepick::lent::{self, Call, Further, Memory, Set};
+use sedgepick::Refusal;
 
 /// Triangles of the meshes: a jittered grid with a hole.
 const TRIANGLES: [usize; 3] = [200, 800, 4000];
@@ -44,7 +45,7 @@ fn clock() -> f64 {
     t.seconds as f64 + 1e-9 * t.nanoseconds as f64
 }
 
-/// The slices that the port is lent: the most that may be, cleared before each run.
+/// The slices that the port is lent, cleared before each run.
 struct Lent {
     points: Vec<f64>,
     quads: Vec<u32>,
@@ -126,15 +127,25 @@ fn plate(triangles: usize, steps: f64, stop: u32) -> Input {
     }
 }
 
-/// A call with the most that may be lent.
+/// A call with the memory that the binding lends at first, or twice as much as often as it takes: both work slices are cleared whole at the end of a call, so more than is needed costs time.
 fn call_of(input: &Input) -> Call {
-    Call {
-        given: input.points.len(),
-        capacity: LARGEST.points,
-        count: input.triangles.len(),
-        slots: LARGEST.slots,
+    let (given, count) = (input.points.len(), input.triangles.len());
+    let mut call = Call {
+        given,
+        capacity: (given + given / 4 + 32).min(LARGEST.points),
+        count,
+        slots: (2 * count + 64).min(LARGEST.slots),
         size: input.size(),
         stop: input.stop,
+    };
+    loop {
+        let mut lent = Lent::new(&call);
+        lent.clear(input);
+        match lent::run_front(input.triangles.as_flattened(), lent.memory(), call) {
+            Err(Refusal::NoPoint) => call.capacity = (2 * call.capacity).min(LARGEST.points),
+            Err(Refusal::NoSlots) => call.slots = (2 * call.slots).min(LARGEST.slots),
+            _ => return call,
+        }
     }
 }
 
