@@ -205,12 +205,15 @@ fn front_around(w: &[u32], s: usize, p: usize, u: usize, v: usize) -> bool
     tri == 1
 }
 
-// The same, around the end with the shorter ring.
-fn front_by_walk(w: &[u32], s: usize, p: usize, u: usize, v: usize) -> bool
+// The same, around the end with the shorter ring, which is that of u where `near` says so.
+fn front_by_walk(w: &[u32], s: usize, p: usize, u: usize, v: usize, near: bool) -> bool
     requires { ⌜ ((m : Mesh) × Rep (now w) s p m) ⌝ }
     requires { ⌜ IsEdge p u v ⌝ }
     ensures { λ r. ⌜ ((m : Mesh) → Rep (now (w .entry)) s p m → r ≡ is-front m (key u v)) ⌝ }
 {
+    if near {
+        return front_around(w, s, p, u, v);
+    }
     if is_shorter(w, s, p, u, v) {
         return front_around(w, s, p, v, u);
     }
@@ -238,7 +241,7 @@ fn front_by_note(w: &[u32], s: usize, p: usize, u: usize, v: usize, known: usize
 }
 
 // The same for u below v: by the note of u, and by a walk where its front edges are not noted.
-fn front_from(w: &[u32], s: usize, p: usize, u: usize, v: usize) -> bool
+fn front_from(w: &[u32], s: usize, p: usize, u: usize, v: usize, near: bool) -> bool
     requires { ⌜ ((m : Mesh) × Rep (now w) s p m) ⌝ }
     requires { ⌜ IsEdge p u v ⌝ }
     requires { ⌜ u < v ⌝ }
@@ -246,13 +249,13 @@ fn front_from(w: &[u32], s: usize, p: usize, u: usize, v: usize) -> bool
 {
     let known = wide(w[notes_at(s, p) + u]) % 4;
     if known == 0 {
-        return front_by_walk(w, s, p, u, v);
+        return front_by_walk(w, s, p, u, v, near);
     }
     front_by_note(w, s, p, u, v, known)
 }
 
 // The same for u above v: by the note of v, and by a walk where its front edges are not noted.
-fn front_to(w: &[u32], s: usize, p: usize, u: usize, v: usize) -> bool
+fn front_to(w: &[u32], s: usize, p: usize, u: usize, v: usize, near: bool) -> bool
     requires { ⌜ ((m : Mesh) × Rep (now w) s p m) ⌝ }
     requires { ⌜ IsEdge p u v ⌝ }
     requires { ⌜ v < u ⌝ }
@@ -260,7 +263,7 @@ fn front_to(w: &[u32], s: usize, p: usize, u: usize, v: usize) -> bool
 {
     let known = wide(w[notes_at(s, p) + v]) % 4;
     if known == 0 {
-        return front_by_walk(w, s, p, u, v);
+        return front_by_walk(w, s, p, u, v, near);
     }
     front_by_note(w, s, p, v, u, known)
 }
@@ -272,9 +275,21 @@ pub fn is_front(w: &[u32], s: usize, p: usize, u: usize, v: usize) -> bool
     ensures { λ r. ⌜ ((m : Mesh) → Rep (now (w .entry)) s p m → r ≡ is-front m (key u v)) ⌝ }
 {
     if u < v {
-        return front_from(w, s, p, u, v);
+        return front_from(w, s, p, u, v, false);
     }
-    front_to(w, s, p, u, v)
+    front_to(w, s, p, u, v, false)
+}
+
+// The same, for callers that name a node of few cells first: where no note tells, a walk around u does.
+pub fn is_front_around(w: &[u32], s: usize, p: usize, u: usize, v: usize) -> bool
+    requires { ⌜ ((m : Mesh) × Rep (now w) s p m) ⌝ }
+    requires { ⌜ IsEdge p u v ⌝ }
+    ensures { λ r. ⌜ ((m : Mesh) → Rep (now (w .entry)) s p m → r ≡ is-front m (key u v)) ⌝ }
+{
+    if u < v {
+        return front_from(w, s, p, u, v, true);
+    }
+    front_to(w, s, p, u, v, true)
 }
 
 // The slot of the first triangle that has the edge u-v; s: there is none. A walk around u tells: for callers that name a node of few cells first.

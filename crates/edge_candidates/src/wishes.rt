@@ -1,7 +1,7 @@
 // What is wanted at an end of a front edge, worked out once for all candidates: the nodes whose front edges give an ideal are listed, and the ideals of the first of them are kept as they are found.
 use crate::words::is_number;
 use crate::words::put;
-use cells::find::is_front;
+use cells::find::is_front_around;
 use cells::find::node_after;
 use cells::find::node_before;
 use cells::layout::BEFORE;
@@ -87,7 +87,7 @@ fn ideal_of(
     if v == other {
         return nothing(u);
     }
-    if is_front(w, s, p, v, a) {
+    if is_front_around(w, s, p, v, a) {
         let d = from_to(q, a, v);
         let n = norm(d);
         if n <= TINY_LENGTH {

@@ -17,7 +17,7 @@ front-swap m u v = ap (is-front m) (key-swap u v)
 returns : tie.Need-returns
 returns c = λ m h. passed refl refl (λ g. omega (arith, g .up, c .if1 .taken))
 
-is-front-requires : tie.Need-is-front-requires
+is-front-requires : tie.Need-is-front-around-requires
 is-front-requires c κs =
     let t = c .before .before .before in
     ((t .pre .0, t .pre .1 .rep), record { node = t .pre .1 .second; apart = λ e. omega (arith, e, c .before .if1 .left) })
@@ -25,7 +25,7 @@ is-front-requires c κs =
 returns-2 : tie.Need-returns-2
 returns-2 c = λ m h.
     let t = c .before .before .before .before .before in
-    passed refl refl (λ g. false≢true (sym (not-true (c .before .is-front .result) (c .if2 .taken)) ∙ c .before .is-front .ensures m (h .rep) ∙ front-swap m (t .args .v) (t .args .u) ∙ g .front))
+    passed refl refl (λ g. false≢true (sym (not-true (c .before .is-front-around .result) (c .if2 .taken)) ∙ c .before .is-front-around .ensures m (h .rep) ∙ front-swap m (t .args .v) (t .args .u) ∙ g .front))
 
 put-edge-requires : tie.Need-put-edge-requires
 put-edge-requires c κs =
@@ -37,7 +37,7 @@ put-edge-requires c κs =
     record {
       room = h .rep .room;
       order = h .order;
-      inside = h .inside (record { up = omega (arith, o .if1 .left); front = front-swap (t .pre .0) (t .args .u) (t .args .v) ∙ sym (f .is-front .ensures (t .pre .0) (h .rep)) ∙ not-false (f .is-front .result) (e .if2 .left) });
+      inside = h .inside (record { up = omega (arith, o .if1 .left); front = front-swap (t .pre .0) (t .args .u) (t .args .v) ∙ sym (f .is-front-around .ensures (t .pre .0) (h .rep)) ∙ not-false (f .is-front-around .result) (e .if2 .left) });
       first = h .first;
       second = h .second;
     }
@@ -49,7 +49,7 @@ add-result c =
     let o = f .before .before in
     let t = o .before .before in
     let h = t .pre .1 in
-    omega (arith, h .rep .room .small, h .inside (record { up = omega (arith, o .if1 .left); front = front-swap (t .pre .0) (t .args .u) (t .args .v) ∙ sym (f .is-front .ensures (t .pre .0) (h .rep)) ∙ not-false (f .is-front .result) (e .if2 .left) }))
+    omega (arith, h .rep .room .small, h .inside (record { up = omega (arith, o .if1 .left); front = front-swap (t .pre .0) (t .args .u) (t .args .v) ∙ sym (f .is-front-around .ensures (t .pre .0) (h .rep)) ∙ not-false (f .is-front-around .result) (e .if2 .left) }))
 
 returns-3 : tie.Need-returns-3
 returns-3 c = λ m h.
@@ -57,7 +57,7 @@ returns-3 c = λ m h.
     let f = e .before in
     let o = f .before .before in
     let t = o .before .before in
-    taken refl (record { up = omega (arith, o .if1 .left); front = front-swap m (t .args .u) (t .args .v) ∙ sym (f .is-front .ensures m (h .rep)) ∙ not-false (f .is-front .result) (e .if2 .left) }) (c .before .before .put-edge .ensures)
+    taken refl (record { up = omega (arith, o .if1 .left); front = front-swap m (t .args .u) (t .args .v) ∙ sym (f .is-front-around .ensures m (h .rep)) ∙ not-false (f .is-front-around .result) (e .if2 .left) }) (c .before .before .put-edge .ensures)
 
 pub try-edge-spec : {M : Type 1} → statement M
 try-edge-spec =

@@ -29,7 +29,7 @@ returns-2 c =
     let a = e1 .before .before .before .args in
     λ m r k y. not-given (a .q .now) m (a .a) (a .other) (vec (a .u)) (a .v) (c .nothing2 .result) (c .nothing2 .ensures) (by-other every m (a .a) (a .other) (vec (a .u)) (a .v) (e1 .if1 .left) (e2 .if2 .taken))
 
-is-front-requires : tie.Need-is-front-requires
+is-front-requires : tie.Need-is-front-around-requires
 is-front-requires c κs =
     let e1 = c .before in
     let t = e1 .before .before .before in
@@ -61,7 +61,7 @@ returns-3 c =
     let d : vec (ft .from-to .result) ≡ toward m (a .a) (a .v) = toward-read (a .q .now) (a .p) m k (a .a) (a .v) y (vec (ft .from-to .result)) (ft .from-to .ensures) in
     let n : nm .norm .result ≡ norm (toward m (a .a) (a .v)) = nm .norm .ensures ∙ ap norm d in
     not-given (a .q .now) m (a .a) (a .other) (vec (a .u)) (a .v) (c .nothing3 .result) (c .nothing3 .ensures)
-    (by-tiny every m (a .a) (a .other) (vec (a .u)) (a .v) (e1 .if1 .left) (e2 .if2 .left) (ap (is-front m) (key-swap (a .a) (a .v)) ∙ sym (is .is-front .ensures m r) ∙ t3 .if3 .taken) (subst (λ (x : Float). (x ≼ tiny-length) ≡ true) n (e4 .if4 .taken)))
+    (by-tiny every m (a .a) (a .other) (vec (a .u)) (a .v) (e1 .if1 .left) (e2 .if2 .left) (ap (is-front m) (key-swap (a .a) (a .v)) ∙ sym (is .is-front-around .ensures m r) ∙ t3 .if3 .taken) (subst (λ (x : Float). (x ≼ tiny-length) ≡ true) n (e4 .if4 .taken)))
 
 returns-4 : tie.Need-returns-4
 unfolding tiny-length ideal-sum _≺_ _≼_ 0·2 1e-12 f64
@@ -83,7 +83,7 @@ returns-4 c =
     let n : nm .norm .result ≡ norm (toward m (a .a) (a .v)) = nm .norm .ensures ∙ ap norm d in
     let o : vec (ov .over .result) ≡ over (toward m (a .a) (a .v)) (norm (toward m (a .a) (a .v))) = ov .over .ensures ∙ ap (λ (x : Vec). over x (nm .norm .result)) d ∙ ap (over (toward m (a .a) (a .v))) n in
     record {
-      yes = by-half every m (a .a) (a .other) (vec (a .u)) (a .v) (ideal-sum ≺ nm2 .norm2 .result) (e1 .if1 .left) (e2 .if2 .left) (ap (is-front m) (key-swap (a .a) (a .v)) ∙ sym (is .is-front .ensures m r) ∙ t3 .if3 .taken) (subst (λ (x : Float). (x ≼ tiny-length) ≡ false) n (e4 .if4 .left))
+      yes = by-half every m (a .a) (a .other) (vec (a .u)) (a .v) (ideal-sum ≺ nm2 .norm2 .result) (e1 .if1 .left) (e2 .if2 .left) (ap (is-front m) (key-swap (a .a) (a .v)) ∙ sym (is .is-front-around .ensures m r) ∙ t3 .if3 .taken) (subst (λ (x : Float). (x ≼ tiny-length) ≡ false) n (e4 .if4 .left))
           (half-gives (vec (a .u)) (over (toward m (a .a) (a .v)) (norm (toward m (a .a) (a .v)))) (vec (pl .plus .result)) (nm2 .norm2 .result) (pl .plus .ensures ∙ ap (plus (vec (a .u))) o) (nm2 .norm2 .ensures));
       is = λ h. half-is (a .q .now) (a .a) (a .v) (vec (a .u)) (vec (ft .from-to .result)) (vec (ov .over .result)) (vec (pl .plus .result)) (vec (c .over2 .result)) (nm .norm .result) (nm2 .norm2 .result)
           (ft .from-to .ensures) (nm .norm .ensures) (ov .over .ensures) (pl .plus .ensures) (nm2 .norm2 .ensures) (c .over2 .ensures);
@@ -98,7 +98,7 @@ returns-5 c =
     let t = e1 .before .before .before in
     let a = t .args in
     λ m r k y. not-given (a .q .now) m (a .a) (a .other) (vec (a .u)) (a .v) (c .nothing4 .result) (c .nothing4 .ensures)
-    (by-inner every m (a .a) (a .other) (vec (a .u)) (a .v) (e1 .if1 .left) (e2 .if2 .left) (ap (is-front m) (key-swap (a .a) (a .v)) ∙ sym (is .is-front .ensures m r) ∙ e3 .if3 .left))
+    (by-inner every m (a .a) (a .other) (vec (a .u)) (a .v) (e1 .if1 .left) (e2 .if2 .left) (ap (is-front m) (key-swap (a .a) (a .v)) ∙ sym (is .is-front-around .ensures m r) ∙ e3 .if3 .left))
 
 pub ideal-of-spec : {M : Type 1} → statement M
 ideal-of-spec =
