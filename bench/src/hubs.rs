@@ -14,10 +14,13 @@ fn growth(from: &Row, to: &Row, time: fn(&Row) -> f64) -> f64 {
     (time(to) / time(from)).ln() / more.ln()
 }
 
-/// A row for each shape and number of triangles, then the growth between the two largest of each shape.
-pub fn run() {
+/// A row for each shape, or for the one that is named, and each number of triangles, then the growth between the two largest of each shape.
+pub fn run(only: Option<String>) {
     let mut shapes = Vec::new();
     for (name, make) in HUBS {
+        if only.as_ref().is_some_and(|o| o != name) {
+            continue;
+        }
         let mut rows: Vec<Row> = Vec::new();
         for n in TRIANGLES {
             if rows.last().is_some_and(|r| r.rust > PATIENCE) {

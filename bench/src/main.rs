@@ -1,5 +1,5 @@
-//! Times of the port, linked from its static library, and of the patched Rust on the same meshes, in one run; with the word `hubs`, on meshes around one
-//! node; with the word `filing`, those of the filing order; with the word `joints`, those of the port with and without joints.
+//! Times of the port, linked from its static library, and of the patched Rust on the same meshes, in one run; with the word `hubs`, and a shape's name for
+//! one of them, on meshes around one node; with the word `filing`, those of the filing order; with the word `joints`, those of the port with and without joints.
 
 mod filing;
 mod hubs;
@@ -245,7 +245,7 @@ fn print_head(second: &str) {
 
 fn main() {
     match std::env::args().nth(1).as_deref() {
-        Some("hubs") => return hubs::run(),
+        Some("hubs") => return hubs::run(std::env::args().nth(2)),
         Some("filing") => return filing::run(),
         Some("joints") => return joints::run(),
         _ => {}
