@@ -1,9 +1,10 @@
 //! Times of the port, linked from its static library, and of the patched Rust on the same meshes, in one run; with the word `hubs`, and a shape's name for
-//! one of them, on meshes around one node; with the word `filing`, those of the filing order; with the word `joints`, those of the port with and without joints.
+//! one of them, on meshes around one node; with the word `largest`, and a shape's name, on the largest of them; with the word `filing`, those of the filing order; with the word `joints`, those of the port with and without joints.
 
 mod filing;
 mod hubs;
 mod joints;
+mod largest;
 
 use reference::generators::large::SHAPES;
 use reference::input::{Input, LARGEST};
@@ -127,8 +128,8 @@ fn plate(triangles: usize, steps: f64, stop: u32) -> Input {
     }
 }
 
-/// A call with the memory that the binding lends at first, or twice as much as often as it takes: both work slices are cleared whole at the end of a call, so more than is needed costs time.
-fn call_of(input: &Input) -> Call {
+/// A call with the memory that the binding lends at first, or twice as much as often as it takes: both work slices are cleared whole at the end of a call, so more than is needed costs time. `refusal` makes the call and tells how it was refused.
+fn call_for(input: &Input, refusal: impl Fn(Memory<'_>, Call) -> Option<Refusal>) -> Call {
     let (given, count) = (input.points.len(), input.triangles.len());
     let mut call = Call {
         given,
@@ -141,12 +142,20 @@ fn call_of(input: &Input) -> Call {
     loop {
         let mut lent = Lent::new(&call);
         lent.clear(input);
-        match lent::run_front(input.triangles.as_flattened(), lent.memory(), call) {
-            Err(Refusal::NoPoint) => call.capacity = (2 * call.capacity).min(LARGEST.points),
-            Err(Refusal::NoSlots) => call.slots = (2 * call.slots).min(LARGEST.slots),
+        match refusal(lent.memory(), call) {
+            Some(Refusal::NoPoint) => call.capacity = (2 * call.capacity).min(LARGEST.points),
+            Some(Refusal::NoSlots) => call.slots = (2 * call.slots).min(LARGEST.slots),
             _ => return call,
         }
     }
+}
+
+/// So for a whole run.
+fn call_of(input: &Input) -> Call {
+    let triangles = input.triangles.as_flattened();
+    call_for(input, |memory, call| {
+        lent::run_front(triangles, memory, call).err()
+    })
 }
 
 /// The port's time with joints, and counts of quads and points.
@@ -246,6 +255,7 @@ fn print_head(second: &str) {
 fn main() {
     match std::env::args().nth(1).as_deref() {
         Some("hubs") => return hubs::run(std::env::args().nth(2)),
+        Some("largest") => return largest::run(std::env::args().nth(2)),
         Some("filing") => return filing::run(),
         Some("joints") => return joints::run(),
         _ => {}

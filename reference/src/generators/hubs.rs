@@ -135,24 +135,24 @@ fn flat_star(n: usize) -> Shape {
     s
 }
 
-/// Strips of squares that begin at one node: the front is one loop, which goes through that node after each strip.
+/// Strips that begin at one node, narrow enough to lie apart: the front is one loop, which goes through that node after each strip.
 fn one_loop(n: usize) -> Shape {
-    const WIDTH: f64 = 0.02;
+    const EACH: usize = 4;
     let (mut s, hub) = middle();
-    let strips = (n / 4).clamp(1, 64);
-    let each = n / strips / 2;
+    let strips = (n / 2 / EACH).max(1);
+    let width = 0.6 / strips as f64;
     for k in 0..strips {
         let (y, x) = (TAU * k as f64 / strips as f64).sin_cos();
         let mut at =
             |along: f64, across: f64| s.add(along * x - across * y, along * y + across * x);
-        let mut left = vec![at(0.2, WIDTH)];
+        let mut left = vec![at(0.2, width)];
         let mut right = vec![hub];
-        for j in 1..=each {
-            let along = 0.2 + 6.0 * j as f64 / each as f64;
-            right.push(at(along, -WIDTH));
-            left.push(at(along, WIDTH));
+        for j in 1..=EACH {
+            let along = 0.2 + 6.0 * j as f64 / EACH as f64;
+            right.push(at(along, -width));
+            left.push(at(along, width));
         }
-        for j in 0..each {
+        for j in 0..EACH {
             let (a, b, c, d) = (right[j], right[j + 1], left[j + 1], left[j]);
             s.tris.extend([[a, b, d], [b, c, d]]);
         }
