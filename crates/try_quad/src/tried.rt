@@ -10,6 +10,7 @@ use flips::flip::third;
 use outcomes::End;
 use outcomes::Tried;
 use outcomes::without_quad;
+use pairs::Begun;
 use pairs::try_pairs;
 use plane::sides::cross;
 use plane::vectors::from_to;
@@ -83,7 +84,13 @@ fn with_both(
                 b,
             );
             let log = Log { at, round };
-            try_pairs(w, q, j, t, rules, c, log, inserted, u, v, &nodes, count)
+            let begun = Begun {
+                u,
+                v,
+                log,
+                inserted,
+            };
+            try_pairs(w, q, j, t, rules, c, begun, &nodes, count)
         }
     }
 }

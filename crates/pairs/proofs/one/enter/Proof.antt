@@ -18,7 +18,7 @@ note-quad-requires c κs =
     let m = t .pre .1 in
     let xs = t .pre .2 in
     let h = t .pre .3 in
-    let g = grown m (a .n) (a .a) (a .b) (a .d) (a .e) in (
+    let g = grown m (a .n) (a .quad .a) (a .quad .b) (a .quad .d) (a .quad .e) in (
       (t .pre .0, m, replaced m g xs, g, ids xs, h .log', enters-placing h (k .quad-grown .result) (k .quad-grown .ensures) (l .list-at .result) (l .list-at .ensures)),
       enters-words h (k .quad-grown .result) (k .quad-grown .ensures),
     )
@@ -30,7 +30,7 @@ returns c =
     let k = l .before in
     let a = k .before .before .before .args in
     λ base m xs h.
-    q .note-quad .ensures base m (replaced m (grown m (a .n) (a .a) (a .b) (a .d) (a .e)) xs) (grown m (a .n) (a .a) (a .b) (a .d) (a .e)) (ids xs) (h .log')
+    q .note-quad .ensures base m (replaced m (grown m (a .n) (a .quad .a) (a .quad .b) (a .quad .d) (a .quad .e)) xs) (grown m (a .n) (a .quad .a) (a .quad .b) (a .quad .d) (a .quad .e)) (ids xs) (h .log')
     (enters-placing h (k .quad-grown .result) (k .quad-grown .ensures) (l .list-at .result) (l .list-at .ensures))
 
 pub enter-spec : {M : Type 1} → statement M

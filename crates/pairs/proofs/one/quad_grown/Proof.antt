@@ -7,13 +7,13 @@ use Rattle.pairs.proofs.one.quad_grown.Tie as tie
 
 returns : tie.Need-returns
 returns c =
-    let a = c .before .args in
-    λ gone. grown-is (a .a) (a .b) (a .d) (a .e) (a .round) _ refl refl refl refl (key-up (a .a) (a .b) (c .if1 .taken)) refl gone
+    let a = c .before .before .args in
+    λ gone. grown-is (a .quad .a) (a .quad .b) (a .quad .d) (a .quad .e) (a .round) _ refl refl refl refl (key-up (a .quad .a) (a .quad .b) (c .if1 .taken)) refl gone
 
 returns-2 : tie.Need-returns-2
 returns-2 c =
-    let a = c .before .args in
-    λ gone. grown-is (a .a) (a .b) (a .d) (a .e) (a .round) _ refl refl refl refl (key-back (a .a) (a .b) (c .if1 .left)) refl gone
+    let a = c .before .before .args in
+    λ gone. grown-is (a .quad .a) (a .quad .b) (a .quad .d) (a .quad .e) (a .round) _ refl refl refl refl (key-back (a .quad .a) (a .quad .b) (c .if1 .left)) refl gone
 
 pub quad-grown-spec : {M : Type 1} → statement M
 quad-grown-spec = tie.close (tie.spec returns returns-2)
