@@ -20,12 +20,29 @@ ghost use Rattle.outcomes.specs.Ends.{only-inserted};
 ghost use Rattle.traces.specs.Log.{Logged};
 ghost use Rattle.side_nodes.specs.Sides.{CanSeek, GoesBy, SidesTo};
 
-// What an attempt goes by at both ends: the seed's slot, the edge's inward normal, the target, and whether the edge's length is off it.
+// The front edge u-v, taken from a to b.
+pub struct Edge {
+    pub u: usize,
+    pub v: usize,
+    pub a: usize,
+    pub b: usize,
+}
+
+// What an attempt goes by at both ends: the edge, with the seed's triangle on its left; the seed's slot, the inward normal, the target, and whether the edge's length is off it.
 pub struct Stance {
+    pub edge: Edge,
     pub seed: usize,
     pub normal: Vec,
     pub target: f64,
     pub mismatch: bool,
+}
+
+// An end of the edge and the other one, whether a quarter left looks into the triangle there, and where the side nodes come to.
+pub struct Seat {
+    pub end: usize,
+    pub other: usize,
+    pub left: bool,
+    pub near: usize,
 }
 
 // Side nodes at an end: some are found; none; or no point, too few slots or no room in the trace are left and the run ends.
@@ -68,16 +85,15 @@ fn by_insertion(
     c: Counters,
     at: usize,
     stance: Stance,
-    near: usize,
-    a: usize,
-    other: usize,
+    seat: Seat,
     inserted: usize,
 ) -> Side
-    requires { ⌜ ((base : List ℕ) × (m : Mesh) × CanSeek (now w) (now q) rules c near a other (stance .seed) inserted m × Logged base (now t) at m) ⌝ }
-    ensures { λ r. ⌜ ((base : List ℕ) (m : Mesh) → CanSeek (now (w .entry)) (now (q .entry)) rules c near a other (stance .seed) inserted m → Logged base (now (t .entry)) at m → SidesTo (now (w .entry)) (now (w .exit)) (now (q .entry)) (now (q .exit)) base (now (t .exit)) rules near c (sides-by (only-inserted inserted) m (insert-along (settings-of rules) m (stance .seed) (node-at m a) (vec (stance .normal)) (stance .target))) r) ⌝ }
+    requires { ⌜ ((base : List ℕ) × (m : Mesh) × CanSeek (now w) (now q) rules c (seat .near) (seat .end) (seat .other) (stance .seed) inserted m × Logged base (now t) at m) ⌝ }
+    ensures { λ r. ⌜ ((base : List ℕ) (m : Mesh) → CanSeek (now (w .entry)) (now (q .entry)) rules c (seat .near) (seat .end) (seat .other) (stance .seed) inserted m → Logged base (now (t .entry)) at m → SidesTo (now (w .entry)) (now (w .exit)) (now (q .entry)) (now (q .exit)) base (now (t .exit)) rules (seat .near) c (sides-by (only-inserted inserted) m (insert-along (settings-of rules) m (stance .seed) (node-at m (seat .end)) (vec (stance .normal)) (stance .target))) r) ⌝ }
 {
     let n = c.points;
     let used = c.used;
+    let near = seat.near;
     let normal = stance.normal;
     let place = insert_along(
         w,
@@ -90,7 +106,7 @@ fn by_insertion(
         rules.bucket,
         at,
         stance.seed,
-        a,
+        seat.end,
         normal,
         stance.target,
     );
@@ -112,7 +128,7 @@ fn by_insertion(
     }
 }
 
-// The side nodes at the end a of the edge from a to other come to `near`: the candidates, or where there is none and the edge's length is off the target a node inserted.
+// The side nodes at an end of the edge: the candidates, or where there is none and the edge's length is off the target a node inserted.
 pub fn side_nodes(
     w: &mut [u32],
     q: &mut [f64],
@@ -121,23 +137,20 @@ pub fn side_nodes(
     c: Counters,
     at: usize,
     stance: Stance,
-    near: usize,
-    left: bool,
-    a: usize,
-    other: usize,
+    seat: Seat,
     inserted: usize,
 ) -> Side
-    requires { ⌜ ((base : List ℕ) × (m : Mesh) × CanSeek (now w) (now q) rules c near a other (stance .seed) inserted m × Logged base (now t) at m) ⌝ }
-    ensures { λ r. ⌜ ((base : List ℕ) (m : Mesh) (f : attempt.Stance) → CanSeek (now (w .entry)) (now (q .entry)) rules c near a other (stance .seed) inserted m → Logged base (now (t .entry)) at m → GoesBy f stance → SidesTo (now (w .entry)) (now (w .exit)) (now (q .entry)) (now (q .exit)) base (now (t .exit)) rules near c (side-nodes (settings-of rules) (turn left) f (only-inserted inserted) m a other) r) ⌝ }
+    requires { ⌜ ((base : List ℕ) × (m : Mesh) × CanSeek (now w) (now q) rules c (seat .near) (seat .end) (seat .other) (stance .seed) inserted m × Logged base (now t) at m) ⌝ }
+    ensures { λ r. ⌜ ((base : List ℕ) (m : Mesh) (f : attempt.Stance) → CanSeek (now (w .entry)) (now (q .entry)) rules c (seat .near) (seat .end) (seat .other) (stance .seed) inserted m → Logged base (now (t .entry)) at m → GoesBy f stance → SidesTo (now (w .entry)) (now (w .exit)) (now (q .entry)) (now (q .exit)) base (now (t .exit)) rules (seat .near) c (side-nodes (settings-of rules) (turn (seat .left)) f (only-inserted inserted) m (seat .end) (seat .other)) r) ⌝ }
 {
     let n = c.points;
     let used = c.used;
     let normal = stance.normal;
     let quality = rules.quality;
     let aim = Aim {
-        left,
-        end: a,
-        other,
+        left: seat.left,
+        end: seat.end,
+        other: seat.other,
         normal,
         target: stance.target,
         quality,
@@ -149,7 +162,7 @@ pub fn side_nodes(
         rules.capacity,
         used,
         n,
-        near,
+        seat.near,
         stance.seed,
         aim,
     );
@@ -166,5 +179,5 @@ pub fn side_nodes(
     if !mismatch {
         return no_node(Found::Missing, inserted, c, at);
     }
-    by_insertion(w, q, t, rules, c, at, stance, near, a, other, inserted)
+    by_insertion(w, q, t, rules, c, at, stance, seat, inserted)
 }

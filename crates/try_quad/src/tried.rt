@@ -18,7 +18,9 @@ use plane::vectors::length;
 use plane::vectors::norm;
 use plane::vectors::size_mismatch;
 use rules::Rules;
+use side_nodes::side::Edge;
 use side_nodes::side::Found;
+use side_nodes::side::Seat;
 use side_nodes::side::Side;
 use side_nodes::side::Stance;
 use side_nodes::side::side_nodes;
@@ -48,15 +50,12 @@ fn with_both(
     t: &mut [u32],
     rules: Rules,
     round: usize,
-    u: usize,
-    v: usize,
-    a: usize,
-    b: usize,
+    edge: Edge,
     nears: usize,
     far: Side,
 ) -> Tried
-    requires { ⌜ ((base : List ℕ) × (q₀ : List Float) × (c₀ : Counters) × (cs : List ℕ) × (x : Sides) × Both (now w) q₀ (now q) rules c₀ u v a b nears far cs x × LocksIn (now j) x × LogsIn base (now t) (far .at) round x) ⌝ }
-    ensures { λ r. ⌜ ((base : List ℕ) (q₀ : List Float) (c₀ : Counters) (cs : List ℕ) (x : Sides) (f : attempt.Stance) → Both (now (w .entry)) q₀ (now (q .entry)) rules c₀ u v a b nears far cs x → LocksIn (now (j .entry)) x → LogsIn base (now (t .entry)) (far .at) round x → f .edge ≡ (u, v) → f .a ≡ a → f .b ≡ b → TriedTo (now (w .entry)) (now (w .exit)) q₀ (now (q .entry)) base (now (t .exit)) rules c₀ (try-both (settings-of rules) f cs x) r) ⌝ }
+    requires { ⌜ ((base : List ℕ) × (q₀ : List Float) × (c₀ : Counters) × (cs : List ℕ) × (x : Sides) × Both (now w) q₀ (now q) rules c₀ (edge .u) (edge .v) (edge .a) (edge .b) nears far cs x × LocksIn (now j) x × LogsIn base (now t) (far .at) round x) ⌝ }
+    ensures { λ r. ⌜ ((base : List ℕ) (q₀ : List Float) (c₀ : Counters) (cs : List ℕ) (x : Sides) (f : attempt.Stance) → Both (now (w .entry)) q₀ (now (q .entry)) rules c₀ (edge .u) (edge .v) (edge .a) (edge .b) nears far cs x → LocksIn (now (j .entry)) x → LogsIn base (now (t .entry)) (far .at) round x → f .edge ≡ (edge .u, edge .v) → f .a ≡ edge .a → f .b ≡ edge .b → TriedTo (now (w .entry)) (now (w .exit)) q₀ (now (q .entry)) base (now (t .exit)) rules c₀ (try-both (settings-of rules) f cs x) r) ⌝ }
 {
     let found = far.found;
     let c = far.counters;
@@ -80,13 +79,13 @@ fn with_both(
                 nears,
                 far_at(rules.slots, rules.capacity),
                 far.count,
-                a,
-                b,
+                edge.a,
+                edge.b,
             );
             let log = Log { at, round };
             let begun = Begun {
-                u,
-                v,
+                u: edge.u,
+                v: edge.v,
                 log,
                 inserted,
             };
@@ -104,14 +103,10 @@ fn with_first(
     rules: Rules,
     round: usize,
     stance: Stance,
-    u: usize,
-    v: usize,
-    a: usize,
-    b: usize,
     near: Side,
 ) -> Tried
-    requires { ⌜ ((base : List ℕ) × (q₀ : List Float) × (c₀ : Counters) × (x : Sides) × First (now w) q₀ (now q) rules c₀ u v a b (stance .seed) near x × LocksIn (now j) x × LogsIn base (now t) (near .at) round x) ⌝ }
-    ensures { λ r. ⌜ ((base : List ℕ) (q₀ : List Float) (c₀ : Counters) (x : Sides) (f : attempt.Stance) → First (now (w .entry)) q₀ (now (q .entry)) rules c₀ u v a b (stance .seed) near x → LocksIn (now (j .entry)) x → LogsIn base (now (t .entry)) (near .at) round x → Stands f u v a b (stance .seed) (vec (stance .normal)) (stance .target) (stance .mismatch) → TriedTo (now (w .entry)) (now (w .exit)) q₀ (now (q .exit)) base (now (t .exit)) rules c₀ (try-first (settings-of rules) f x) r) ⌝ }
+    requires { ⌜ ((base : List ℕ) × (q₀ : List Float) × (c₀ : Counters) × (x : Sides) × First (now w) q₀ (now q) rules c₀ (stance .edge .u) (stance .edge .v) (stance .edge .a) (stance .edge .b) (stance .seed) near x × LocksIn (now j) x × LogsIn base (now t) (near .at) round x) ⌝ }
+    ensures { λ r. ⌜ ((base : List ℕ) (q₀ : List Float) (c₀ : Counters) (x : Sides) (f : attempt.Stance) → First (now (w .entry)) q₀ (now (q .entry)) rules c₀ (stance .edge .u) (stance .edge .v) (stance .edge .a) (stance .edge .b) (stance .seed) near x → LocksIn (now (j .entry)) x → LogsIn base (now (t .entry)) (near .at) round x → Stands f (stance .edge .u) (stance .edge .v) (stance .edge .a) (stance .edge .b) (stance .seed) (vec (stance .normal)) (stance .target) (stance .mismatch) → TriedTo (now (w .entry)) (now (w .exit)) q₀ (now (q .exit)) base (now (t .exit)) rules c₀ (try-first (settings-of rules) f x) r) ⌝ }
 {
     let found = near.found;
     let c = near.counters;
@@ -123,26 +118,19 @@ fn with_first(
         Found::NoSlots => without_quad(End::NoSlots, c, at, inserted, 0, 0),
         Found::NoTrace => without_quad(End::NoTrace, c, at, inserted, 0, 0),
         Found::Found => {
-            let far = side_nodes(
-                w,
-                q,
-                t,
-                rules,
-                c,
-                at,
-                stance,
-                far_at(rules.slots, rules.capacity),
-                false,
-                b,
-                a,
-                inserted,
-            );
-            with_both(w, q, j, t, rules, round, u, v, a, b, near.count, far)
+            let seat = Seat {
+                end: stance.edge.b,
+                other: stance.edge.a,
+                left: false,
+                near: far_at(rules.slots, rules.capacity),
+            };
+            let far = side_nodes(w, q, t, rules, c, at, stance, seat, inserted);
+            with_both(w, q, j, t, rules, round, stance.edge, near.count, far)
         }
     }
 }
 
-// The edge u-v taken from a to b, with the seed's triangle on the left: at a a quarter left looks into it.
+// The edge with the seed's triangle on its left: at a a quarter left looks into it.
 fn try_along(
     w: &mut [u32],
     q: &mut [f64],
@@ -151,18 +139,15 @@ fn try_along(
     rules: Rules,
     c: Counters,
     log: Log,
-    u: usize,
-    v: usize,
+    edge: Edge,
     seed: usize,
-    a: usize,
-    b: usize,
 ) -> Tried
-    requires { ⌜ ((base : List ℕ) × (m : Mesh) × CanAttempt (now w) (now q) rules c u v m × Locks (now j) (m .locked) × Logged base (now t) (log .at) m × (log .round ≡ this-round m)) ⌝ }
-    requires { ⌜ Ends (c .points) u v a b × (seed < rules .slots) ⌝ }
-    ensures { λ r. ⌜ ((base : List ℕ) (m : Mesh) → CanAttempt (now (w .entry)) (now (q .entry)) rules c u v m → Locks (now (j .entry)) (m .locked) → Logged base (now (t .entry)) (log .at) m → log .round ≡ this-round m → TriedTo (now (w .entry)) (now (w .exit)) (now (q .entry)) (now (q .exit)) base (now (t .exit)) rules c (try-along (settings-of rules) m (u, v) seed a b) r) ⌝ }
+    requires { ⌜ ((base : List ℕ) × (m : Mesh) × CanAttempt (now w) (now q) rules c (edge .u) (edge .v) m × Locks (now j) (m .locked) × Logged base (now t) (log .at) m × (log .round ≡ this-round m)) ⌝ }
+    requires { ⌜ Ends (c .points) (edge .u) (edge .v) (edge .a) (edge .b) × (seed < rules .slots) ⌝ }
+    ensures { λ r. ⌜ ((base : List ℕ) (m : Mesh) → CanAttempt (now (w .entry)) (now (q .entry)) rules c (edge .u) (edge .v) m → Locks (now (j .entry)) (m .locked) → Logged base (now (t .entry)) (log .at) m → log .round ≡ this-round m → TriedTo (now (w .entry)) (now (w .exit)) (now (q .entry)) (now (q .exit)) base (now (t .exit)) rules c (try-along (settings-of rules) m (edge .u, edge .v) seed (edge .a) (edge .b)) r) ⌝ }
 {
-    let span = length(q, a, b);
-    let tangent = from_to(q, a, b);
+    let span = length(q, edge.a, edge.b);
+    let tangent = from_to(q, edge.a, edge.b);
     let long = norm(tangent);
     let target = target_of(rules.size, span);
     if target <= TINY_LENGTH {
@@ -174,26 +159,20 @@ fn try_along(
     let normal = inward_normal(tangent, long);
     let mismatch = size_mismatch(span, target);
     let stance = Stance {
+        edge,
         seed,
         normal,
         target,
         mismatch,
     };
-    let near = side_nodes(
-        w,
-        q,
-        t,
-        rules,
-        c,
-        log.at,
-        stance,
-        near_at(rules.slots, rules.capacity),
-        true,
-        a,
-        b,
-        0,
-    );
-    with_first(w, q, j, t, rules, log.round, stance, u, v, a, b, near)
+    let seat = Seat {
+        end: edge.a,
+        other: edge.b,
+        left: true,
+        near: near_at(rules.slots, rules.capacity),
+    };
+    let near = side_nodes(w, q, t, rules, c, log.at, stance, seat, 0);
+    with_first(w, q, j, t, rules, log.round, stance, near)
 }
 
 // An attempt on the edge u-v: its seed is the first triangle that owns it. What happens to the mesh is noted in the lent trace.
@@ -217,7 +196,9 @@ pub fn try_quad(
     }
     let apex = third(w, rules.slots, seed, u, v);
     if cross(q, u, v, apex) > 0.0 {
-        return try_along(w, q, j, t, rules, c, log, u, v, seed, u, v);
+        let up = Edge { u, v, a: u, b: v };
+        return try_along(w, q, j, t, rules, c, log, up, seed);
     }
-    try_along(w, q, j, t, rules, c, log, u, v, seed, v, u)
+    let down = Edge { u, v, a: v, b: u };
+    try_along(w, q, j, t, rules, c, log, down, seed)
 }

@@ -20,7 +20,7 @@ candidates-requires : tie.Need-candidates-requires
 candidates-requires c κs =
     let t = c .before .before .before .before .before .before .before in
     let a = t .args in
-    (t .pre .1, can-choose (a .w .now) (a .q .now) (a .rules) (a .c) (a .near) (a .a) (a .other) (a .stance .seed) (a .inserted) (t .pre .1) (t .pre .2))
+    (t .pre .1, can-choose (a .w .now) (a .q .now) (a .rules) (a .c) (a .seat .near) (a .seat .end) (a .seat .other) (a .stance .seed) (a .inserted) (t .pre .1) (t .pre .2))
 
 returns : tie.Need-returns
 returns c =
@@ -29,14 +29,14 @@ returns c =
     let a = t .args in
     let w' = j .candidates .last .0 in
     λ base m f h g o.
-    let y = j .candidates .ensures m (can-choose (a .w .now) (a .q .now) (a .rules) (a .c) (a .near) (a .a) (a .other) (a .stance .seed) (a .inserted) m h) in
-    let cs = candidates (quality-of (a .rules .quality)) (turn (a .left)) m (a .a) (a .other) (a .stance .seed) (vec (a .stance .normal)) (a .stance .target) in
-    let e = nodes-of (a .rules) (turn (a .left)) f (only-inserted (a .inserted)) m (a .a) (a .other) (a .stance .seed) (vec (a .stance .normal)) (a .stance .target) (a .stance .mismatch) o in
+    let y = j .candidates .ensures m (can-choose (a .w .now) (a .q .now) (a .rules) (a .c) (a .seat .near) (a .seat .end) (a .seat .other) (a .stance .seed) (a .inserted) m h) in
+    let cs = candidates (quality-of (a .rules .quality)) (turn (a .seat .left)) m (a .seat .end) (a .seat .other) (a .stance .seed) (vec (a .stance .normal)) (a .stance .target) in
+    let e = nodes-of (a .rules) (turn (a .seat .left)) f (only-inserted (a .inserted)) m (a .seat .end) (a .seat .other) (a .stance .seed) (vec (a .stance .normal)) (a .stance .target) (a .stance .mismatch) o in
     let st = settings-of (a .rules) in
     let r : Side = record { found = founds.Found; count = j .candidates .result; inserted = a .inserted; counters = a .c; at = a .at } in
-    let z = from-found st f (only-inserted (a .inserted)) m (a .a) cs (omega (arith, y .len, c .if1 .taken)) in
-    subst (λ x. SidesTo (a .w .now) w' (a .q .now) (a .q .now) base (a .t .now) (a .rules) (a .near) (a .c) x r) (sym (e ∙ z))
-    (spare-to (a .w .now) (a .q .now) (a .rules) (a .c) (a .near) (a .a) (a .other) (a .stance .seed) (a .inserted) m h w' (y .spare) base (a .t .now) (a .at) g _ r refl refl (refl, record { are = y .are; few = y .few; below = y .below }, left-spare (a .w .now) (a .q .now) (a .rules) (a .c) (a .near) (a .a) (a .other) (a .stance .seed) (a .inserted) m h w' (y .spare) r refl refl))
+    let z = from-found st f (only-inserted (a .inserted)) m (a .seat .end) cs (omega (arith, y .len, c .if1 .taken)) in
+    subst (λ x. SidesTo (a .w .now) w' (a .q .now) (a .q .now) base (a .t .now) (a .rules) (a .seat .near) (a .c) x r) (sym (e ∙ z))
+    (spare-to (a .w .now) (a .q .now) (a .rules) (a .c) (a .seat .near) (a .seat .end) (a .seat .other) (a .stance .seed) (a .inserted) m h w' (y .spare) base (a .t .now) (a .at) g _ r refl refl (refl, record { are = y .are; few = y .few; below = y .below }, left-spare (a .w .now) (a .q .now) (a .rules) (a .c) (a .seat .near) (a .seat .end) (a .seat .other) (a .stance .seed) (a .inserted) m h w' (y .spare) r refl refl))
 
 returns-2 : tie.Need-returns-2
 returns-2 c =
@@ -45,14 +45,14 @@ returns-2 c =
     let a = t .args in
     let w' = j .candidates .last .0 in
     λ base m f h g o.
-    let y = j .candidates .ensures m (can-choose (a .w .now) (a .q .now) (a .rules) (a .c) (a .near) (a .a) (a .other) (a .stance .seed) (a .inserted) m h) in
-    let cs = candidates (quality-of (a .rules .quality)) (turn (a .left)) m (a .a) (a .other) (a .stance .seed) (vec (a .stance .normal)) (a .stance .target) in
-    let e = nodes-of (a .rules) (turn (a .left)) f (only-inserted (a .inserted)) m (a .a) (a .other) (a .stance .seed) (vec (a .stance .normal)) (a .stance .target) (a .stance .mismatch) o in
+    let y = j .candidates .ensures m (can-choose (a .w .now) (a .q .now) (a .rules) (a .c) (a .seat .near) (a .seat .end) (a .seat .other) (a .stance .seed) (a .inserted) m h) in
+    let cs = candidates (quality-of (a .rules .quality)) (turn (a .seat .left)) m (a .seat .end) (a .seat .other) (a .stance .seed) (vec (a .stance .normal)) (a .stance .target) in
+    let e = nodes-of (a .rules) (turn (a .seat .left)) f (only-inserted (a .inserted)) m (a .seat .end) (a .seat .other) (a .stance .seed) (vec (a .stance .normal)) (a .stance .target) (a .stance .mismatch) o in
     let st = settings-of (a .rules) in
-    let z = from-missing st f (only-inserted (a .inserted)) m (a .a) cs (omega (arith, y .len, c .before .before .if1 .left)) (o .off ∙ not-true (a .stance .mismatch) (c .before .if2 .taken)) in
+    let z = from-missing st f (only-inserted (a .inserted)) m (a .seat .end) cs (omega (arith, y .len, c .before .before .if1 .left)) (o .off ∙ not-true (a .stance .mismatch) (c .before .if2 .taken)) in
     let r = c .no-node .ensures in
-    subst (λ x. SidesTo (a .w .now) w' (a .q .now) (a .q .now) base (a .t .now) (a .rules) (a .near) (a .c) x (c .no-node .result)) (sym (e ∙ z))
-    (spare-to (a .w .now) (a .q .now) (a .rules) (a .c) (a .near) (a .a) (a .other) (a .stance .seed) (a .inserted) m h w' (y .spare) base (a .t .now) (a .at) g _ _ (r .3) refl (r .0, left-spare (a .w .now) (a .q .now) (a .rules) (a .c) (a .near) (a .a) (a .other) (a .stance .seed) (a .inserted) m h w' (y .spare) _ (r .1) (r .2)))
+    subst (λ x. SidesTo (a .w .now) w' (a .q .now) (a .q .now) base (a .t .now) (a .rules) (a .seat .near) (a .c) x (c .no-node .result)) (sym (e ∙ z))
+    (spare-to (a .w .now) (a .q .now) (a .rules) (a .c) (a .seat .near) (a .seat .end) (a .seat .other) (a .stance .seed) (a .inserted) m h w' (y .spare) base (a .t .now) (a .at) g _ _ (r .3) refl (r .0, left-spare (a .w .now) (a .q .now) (a .rules) (a .c) (a .seat .near) (a .seat .end) (a .seat .other) (a .stance .seed) (a .inserted) m h w' (y .spare) _ (r .1) (r .2)))
 
 by-insertion-requires : tie.Need-by-insertion-requires
 by-insertion-requires c κs =
@@ -60,8 +60,8 @@ by-insertion-requires c κs =
     let t = j .before .before .before .before .before .before .before .before in
     let a = t .args in
     let w' = j .candidates .last .0 in
-    let y = j .candidates .ensures (t .pre .1) (can-choose (a .w .now) (a .q .now) (a .rules) (a .c) (a .near) (a .a) (a .other) (a .stance .seed) (a .inserted) (t .pre .1) (t .pre .2)) in
-    (t .pre .0, t .pre .1, seek-again (a .w .now) (a .q .now) (a .rules) (a .c) (a .near) (a .a) (a .other) (a .stance .seed) (a .inserted) (t .pre .1) (t .pre .2) w' (y .spare), t .pre .3)
+    let y = j .candidates .ensures (t .pre .1) (can-choose (a .w .now) (a .q .now) (a .rules) (a .c) (a .seat .near) (a .seat .end) (a .seat .other) (a .stance .seed) (a .inserted) (t .pre .1) (t .pre .2)) in
+    (t .pre .0, t .pre .1, seek-again (a .w .now) (a .q .now) (a .rules) (a .c) (a .seat .near) (a .seat .end) (a .seat .other) (a .stance .seed) (a .inserted) (t .pre .1) (t .pre .2) w' (y .spare), t .pre .3)
 
 returns-3 : tie.Need-returns-3
 returns-3 c =
@@ -71,14 +71,14 @@ returns-3 c =
     let w' = j .candidates .last .0 in
     let i = c .before .before .before .before .before .before in
     λ base m f h g o.
-    let y = j .candidates .ensures m (can-choose (a .w .now) (a .q .now) (a .rules) (a .c) (a .near) (a .a) (a .other) (a .stance .seed) (a .inserted) m h) in
-    let cs = candidates (quality-of (a .rules .quality)) (turn (a .left)) m (a .a) (a .other) (a .stance .seed) (vec (a .stance .normal)) (a .stance .target) in
-    let e = nodes-of (a .rules) (turn (a .left)) f (only-inserted (a .inserted)) m (a .a) (a .other) (a .stance .seed) (vec (a .stance .normal)) (a .stance .target) (a .stance .mismatch) o in
+    let y = j .candidates .ensures m (can-choose (a .w .now) (a .q .now) (a .rules) (a .c) (a .seat .near) (a .seat .end) (a .seat .other) (a .stance .seed) (a .inserted) m h) in
+    let cs = candidates (quality-of (a .rules .quality)) (turn (a .seat .left)) m (a .seat .end) (a .seat .other) (a .stance .seed) (vec (a .stance .normal)) (a .stance .target) in
+    let e = nodes-of (a .rules) (turn (a .seat .left)) f (only-inserted (a .inserted)) m (a .seat .end) (a .seat .other) (a .stance .seed) (vec (a .stance .normal)) (a .stance .target) (a .stance .mismatch) o in
     let st = settings-of (a .rules) in
-    let z = from-insertion st f (only-inserted (a .inserted)) m (a .a) cs (omega (arith, y .len, i .before .before .before .before .before .if1 .left)) (o .off ∙ not-false (a .stance .mismatch) (i .before .before .before .before .if2 .left)) in
-    let u = insertion-of st f m (a .a) (a .stance .seed) (vec (a .stance .normal)) (a .stance .target) (a .stance .mismatch) o in
-    subst (λ x. SidesTo (a .w .now) (i .by-insertion .last .0) (a .q .now) (i .by-insertion .last .1 .0) base (i .by-insertion .last .1 .1 .0) (a .rules) (a .near) (a .c) x (i .by-insertion .result)) (sym (e ∙ z ∙ ap (sides-by (only-inserted (a .inserted)) m) u))
-    (after-spare (a .w .now) (a .q .now) (a .rules) (a .c) (a .near) (a .a) (a .other) (a .stance .seed) (a .inserted) m h w' (y .spare) (i .by-insertion .last .0) (i .by-insertion .last .1 .0) base (i .by-insertion .last .1 .1 .0) _ (i .by-insertion .result) (i .by-insertion .ensures base m (seek-again (a .w .now) (a .q .now) (a .rules) (a .c) (a .near) (a .a) (a .other) (a .stance .seed) (a .inserted) m h w' (y .spare)) g))
+    let z = from-insertion st f (only-inserted (a .inserted)) m (a .seat .end) cs (omega (arith, y .len, i .before .before .before .before .before .if1 .left)) (o .off ∙ not-false (a .stance .mismatch) (i .before .before .before .before .if2 .left)) in
+    let u = insertion-of st f m (a .seat .end) (a .stance .seed) (vec (a .stance .normal)) (a .stance .target) (a .stance .mismatch) o in
+    subst (λ x. SidesTo (a .w .now) (i .by-insertion .last .0) (a .q .now) (i .by-insertion .last .1 .0) base (i .by-insertion .last .1 .1 .0) (a .rules) (a .seat .near) (a .c) x (i .by-insertion .result)) (sym (e ∙ z ∙ ap (sides-by (only-inserted (a .inserted)) m) u))
+    (after-spare (a .w .now) (a .q .now) (a .rules) (a .c) (a .seat .near) (a .seat .end) (a .seat .other) (a .stance .seed) (a .inserted) m h w' (y .spare) (i .by-insertion .last .0) (i .by-insertion .last .1 .0) base (i .by-insertion .last .1 .1 .0) _ (i .by-insertion .result) (i .by-insertion .ensures base m (seek-again (a .w .now) (a .q .now) (a .rules) (a .c) (a .seat .near) (a .seat .end) (a .seat .other) (a .stance .seed) (a .inserted) m h w' (y .spare)) g))
 
 pub side-nodes-spec : {M : Type 1} → statement M
 side-nodes-spec =

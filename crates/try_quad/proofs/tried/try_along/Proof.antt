@@ -23,8 +23,8 @@ returns c =
     let no = c .before .before .before .norm in
     let ta = c .before .before .target-of in
     λ base m h l lg ir. refused-at-once (a .w .now) (a .q .now) base (a .t .now) (a .log .at) (a .rules) (a .c) m (h .ready) lg (c .without-quad .result) (c .without-quad .ensures)
-    (try-along (settings-of (a .rules)) m (a .u, a .v) (a .seed) (a .a) (a .b))
-    (short-target (a .w .now) (a .q .now) (a .rules) (a .c) (a .u) (a .v) m h (a .a) (a .b) (a .seed) (t .pre .1 .0) (t .pre .1 .1) (le .result) (le .ensures .0) (vec (ft .result)) (ft .ensures) (no .result) (no .ensures) (ta .result) (ta .ensures (settings-of (a .rules)) (sized (a .rules))) (c .before .if1 .taken))
+    (try-along (settings-of (a .rules)) m (a .edge .u, a .edge .v) (a .seed) (a .edge .a) (a .edge .b))
+    (short-target (a .w .now) (a .q .now) (a .rules) (a .c) (a .edge .u) (a .edge .v) m h (a .edge .a) (a .edge .b) (a .seed) (t .pre .1 .0) (t .pre .1 .1) (le .result) (le .ensures .0) (vec (ft .result)) (ft .ensures) (no .result) (no .ensures) (ta .result) (ta .ensures (settings-of (a .rules)) (sized (a .rules))) (c .before .if1 .taken))
 
 returns-2 : tie.Need-returns-2
 unfolding tiny-length _≼_ 1e-12 f64
@@ -36,14 +36,14 @@ returns-2 c =
     let no = c .before .before .before .before .norm in
     let ta = c .before .before .before .target-of in
     λ base m h l lg ir. refused-at-once (a .w .now) (a .q .now) base (a .t .now) (a .log .at) (a .rules) (a .c) m (h .ready) lg (c .without-quad2 .result) (c .without-quad2 .ensures)
-    (try-along (settings-of (a .rules)) m (a .u, a .v) (a .seed) (a .a) (a .b))
-    (short-edge (a .w .now) (a .q .now) (a .rules) (a .c) (a .u) (a .v) m h (a .a) (a .b) (a .seed) (t .pre .1 .0) (t .pre .1 .1) (le .result) (le .ensures .0) (vec (ft .result)) (ft .ensures) (no .result) (no .ensures) (ta .result) (ta .ensures (settings-of (a .rules)) (sized (a .rules))) (c .before .before .if1 .left) (c .before .if2 .taken))
+    (try-along (settings-of (a .rules)) m (a .edge .u, a .edge .v) (a .seed) (a .edge .a) (a .edge .b))
+    (short-edge (a .w .now) (a .q .now) (a .rules) (a .c) (a .edge .u) (a .edge .v) m h (a .edge .a) (a .edge .b) (a .seed) (t .pre .1 .0) (t .pre .1 .1) (le .result) (le .ensures .0) (vec (ft .result)) (ft .ensures) (no .result) (no .ensures) (ta .result) (ta .ensures (settings-of (a .rules)) (sized (a .rules))) (c .before .before .if1 .left) (c .before .if2 .taken))
 
 side-nodes-requires : tie.Need-side-nodes-requires
 side-nodes-requires c κs =
     let t = c .before .before .before .before .before .before .before .before .before .before .before .before .before .before .before .before .before .before in
     let a = t .args in
-    (t .pre .0 .0, t .pre .0 .1, seek-near (a .w .now) (a .q .now) (a .rules) (a .c) (a .u) (a .v) (t .pre .0 .1) (t .pre .0 .2) (a .a) (a .b) (a .seed) (t .pre .1 .0) (t .pre .1 .1) (c .near-at .ensures), t .pre .0 .4)
+    (t .pre .0 .0, t .pre .0 .1, seek-near (a .w .now) (a .q .now) (a .rules) (a .c) (a .edge .u) (a .edge .v) (t .pre .0 .1) (t .pre .0 .2) (a .edge .a) (a .edge .b) (a .seed) (t .pre .1 .0) (t .pre .1 .1) (c .before .before .before .near-at .ensures), t .pre .0 .4)
 
 with-first-requires : tie.Need-with-first-requires
 with-first-requires c κs =
@@ -53,17 +53,17 @@ with-first-requires c κs =
     let ft = c .before .before .before .before .before .before .before .before .before .before .before .before .before .before .before .before .before .before .before .before .from-to in
     let no = c .before .before .before .before .before .before .before .before .before .before .before .before .before .before .before .before .before .before .before .norm in
     let ta = c .before .before .before .before .before .before .before .before .before .before .before .before .before .before .before .before .before .before .target-of in
-    let na = c .before .before .before .before .before .before .before .before .before .before .near-at in
+    let na = c .before .before .before .before .before .before .before .before .before .before .before .before .before .near-at in
     let sn = c .before .before .before .before .before .before .before .before .before .side-nodes in
     let no2 = c .before .before .before .before .before .before .before .before .before .before .before .before .before .before .before .inward-normal in
     let sm = c .before .before .before .before .before .before .before .before .before .before .before .before .before .before .size-mismatch in
     let m = t .pre .0 .1 in
     let h = t .pre .0 .2 in
     let g = settings-of (a .rules) in
-    let f = stance g m (a .u, a .v) (a .seed) (a .a) (a .b) in
-    let st = stands (a .w .now) (a .q .now) (a .rules) (a .c) (a .u) (a .v) m h (a .a) (a .b) (a .seed) (t .pre .1 .0) (t .pre .1 .1) (le .result) (le .ensures .0) (vec (ft .result)) (ft .ensures) (no .result) (no .ensures) (ta .result) (ta .ensures (settings-of (a .rules)) (sized (a .rules))) (vec (no2 .result)) (sm .result) (no2 .ensures) (sm .ensures) in
-    let z = sn .ensures (t .pre .0 .0) m f (seek-near (a .w .now) (a .q .now) (a .rules) (a .c) (a .u) (a .v) m h (a .a) (a .b) (a .seed) (t .pre .1 .0) (t .pre .1 .1) (na .ensures)) (t .pre .0 .4) (st .goes) in
-    (t .pre .0 .0, a .q .now, a .c, side-nodes g (turn true) f (only-inserted 0) m (a .a) (a .b), first-of (a .w .now) (a .q .now) (a .rules) (a .c) (a .u) (a .v) m h (a .a) (a .b) (a .seed) (t .pre .1 .0) (t .pre .1 .1) f (na .ensures) z, sides-lock (a .j .now) (only-inserted 0) m (t .pre .0 .3) g (turn true) f (a .a) (a .b), first-log (a .w .now) (a .q .now) (a .rules) (a .c) (a .u) (a .v) m h (a .a) (a .b) (a .seed) (t .pre .1 .0) (t .pre .1 .1) f (na .ensures) z (t .pre .0 .5))
+    let f = stance g m (a .edge .u, a .edge .v) (a .seed) (a .edge .a) (a .edge .b) in
+    let st = stands (a .w .now) (a .q .now) (a .rules) (a .c) (a .edge .u) (a .edge .v) m h (a .edge .a) (a .edge .b) (a .seed) (t .pre .1 .0) (t .pre .1 .1) (le .result) (le .ensures .0) (vec (ft .result)) (ft .ensures) (no .result) (no .ensures) (ta .result) (ta .ensures (settings-of (a .rules)) (sized (a .rules))) (vec (no2 .result)) (sm .result) (no2 .ensures) (sm .ensures) in
+    let z = sn .ensures (t .pre .0 .0) m f (seek-near (a .w .now) (a .q .now) (a .rules) (a .c) (a .edge .u) (a .edge .v) m h (a .edge .a) (a .edge .b) (a .seed) (t .pre .1 .0) (t .pre .1 .1) (na .ensures)) (t .pre .0 .4) (st .goes) in
+    (t .pre .0 .0, a .q .now, a .c, side-nodes g (turn true) f (only-inserted 0) m (a .edge .a) (a .edge .b), first-of (a .w .now) (a .q .now) (a .rules) (a .c) (a .edge .u) (a .edge .v) m h (a .edge .a) (a .edge .b) (a .seed) (t .pre .1 .0) (t .pre .1 .1) f (na .ensures) z, sides-lock (a .j .now) (only-inserted 0) m (t .pre .0 .3) g (turn true) f (a .edge .a) (a .edge .b), first-log (a .w .now) (a .q .now) (a .rules) (a .c) (a .edge .u) (a .edge .v) m h (a .edge .a) (a .edge .b) (a .seed) (t .pre .1 .0) (t .pre .1 .1) f (na .ensures) z (t .pre .0 .5))
 
 returns-3 : tie.Need-returns-3
 unfolding first-turn tiny-length _≼_ 1e-12 f64
@@ -74,19 +74,19 @@ returns-3 c =
     let ft = c .before .before .before .before .before .before .before .before .before .before .before .before .before .before .before .before .before .before .before .before .before .before .before .before .before .before .before .from-to in
     let no = c .before .before .before .before .before .before .before .before .before .before .before .before .before .before .before .before .before .before .before .before .before .before .before .before .before .before .norm in
     let ta = c .before .before .before .before .before .before .before .before .before .before .before .before .before .before .before .before .before .before .before .before .before .before .before .before .before .target-of in
-    let na = c .before .before .before .before .before .before .before .before .before .before .before .before .before .before .before .before .before .near-at in
+    let na = c .before .before .before .before .before .before .before .before .before .before .before .before .before .before .before .before .before .before .before .before .near-at in
     let sn = c .before .before .before .before .before .before .before .before .before .before .before .before .before .before .before .before .side-nodes in
     let no2 = c .before .before .before .before .before .before .before .before .before .before .before .before .before .before .before .before .before .before .before .before .before .before .inward-normal in
     let sm = c .before .before .before .before .before .before .before .before .before .before .before .before .before .before .before .before .before .before .before .before .before .size-mismatch in
     let wf = c .before .before .before .before .before .before .with-first in
     λ base m h l lg ir.
     let g = settings-of (a .rules) in
-    let f = stance g m (a .u, a .v) (a .seed) (a .a) (a .b) in
-    let st = stands (a .w .now) (a .q .now) (a .rules) (a .c) (a .u) (a .v) m h (a .a) (a .b) (a .seed) (t .pre .1 .0) (t .pre .1 .1) (le .result) (le .ensures .0) (vec (ft .result)) (ft .ensures) (no .result) (no .ensures) (ta .result) (ta .ensures (settings-of (a .rules)) (sized (a .rules))) (vec (no2 .result)) (sm .result) (no2 .ensures) (sm .ensures) in
-    let z = sn .ensures base m f (seek-near (a .w .now) (a .q .now) (a .rules) (a .c) (a .u) (a .v) m h (a .a) (a .b) (a .seed) (t .pre .1 .0) (t .pre .1 .1) (na .ensures)) lg (st .goes) in
-    along-to (a .w .now) (a .q .now) (a .rules) (a .c) (a .u) (a .v) m h (a .a) (a .b) (a .seed) (t .pre .1 .0) (t .pre .1 .1) f (na .ensures) z
-    (goes-on (a .w .now) (a .q .now) (a .rules) (a .c) (a .u) (a .v) m h (a .a) (a .b) (a .seed) (t .pre .1 .0) (t .pre .1 .1) (le .result) (le .ensures .0) (vec (ft .result)) (ft .ensures) (no .result) (no .ensures) (ta .result) (ta .ensures (settings-of (a .rules)) (sized (a .rules))) (c .before .before .before .before .before .before .before .before .before .before .before .before .before .before .before .before .before .before .before .before .before .before .before .before .if1 .left) (c .before .before .before .before .before .before .before .before .before .before .before .before .before .before .before .before .before .before .before .before .before .before .before .if2 .left))
-    (wf .ensures base (a .q .now) (a .c) (side-nodes g (turn true) f (only-inserted 0) m (a .a) (a .b)) f (first-of (a .w .now) (a .q .now) (a .rules) (a .c) (a .u) (a .v) m h (a .a) (a .b) (a .seed) (t .pre .1 .0) (t .pre .1 .1) f (na .ensures) z) (sides-lock (a .j .now) (only-inserted 0) m l g (turn true) f (a .a) (a .b)) (first-log (a .w .now) (a .q .now) (a .rules) (a .c) (a .u) (a .v) m h (a .a) (a .b) (a .seed) (t .pre .1 .0) (t .pre .1 .1) f (na .ensures) z ir) st)
+    let f = stance g m (a .edge .u, a .edge .v) (a .seed) (a .edge .a) (a .edge .b) in
+    let st = stands (a .w .now) (a .q .now) (a .rules) (a .c) (a .edge .u) (a .edge .v) m h (a .edge .a) (a .edge .b) (a .seed) (t .pre .1 .0) (t .pre .1 .1) (le .result) (le .ensures .0) (vec (ft .result)) (ft .ensures) (no .result) (no .ensures) (ta .result) (ta .ensures (settings-of (a .rules)) (sized (a .rules))) (vec (no2 .result)) (sm .result) (no2 .ensures) (sm .ensures) in
+    let z = sn .ensures base m f (seek-near (a .w .now) (a .q .now) (a .rules) (a .c) (a .edge .u) (a .edge .v) m h (a .edge .a) (a .edge .b) (a .seed) (t .pre .1 .0) (t .pre .1 .1) (na .ensures)) lg (st .goes) in
+    along-to (a .w .now) (a .q .now) (a .rules) (a .c) (a .edge .u) (a .edge .v) m h (a .edge .a) (a .edge .b) (a .seed) (t .pre .1 .0) (t .pre .1 .1) f (na .ensures) z
+    (goes-on (a .w .now) (a .q .now) (a .rules) (a .c) (a .edge .u) (a .edge .v) m h (a .edge .a) (a .edge .b) (a .seed) (t .pre .1 .0) (t .pre .1 .1) (le .result) (le .ensures .0) (vec (ft .result)) (ft .ensures) (no .result) (no .ensures) (ta .result) (ta .ensures (settings-of (a .rules)) (sized (a .rules))) (c .before .before .before .before .before .before .before .before .before .before .before .before .before .before .before .before .before .before .before .before .before .before .before .before .if1 .left) (c .before .before .before .before .before .before .before .before .before .before .before .before .before .before .before .before .before .before .before .before .before .before .before .if2 .left))
+    (wf .ensures base (a .q .now) (a .c) (side-nodes g (turn true) f (only-inserted 0) m (a .edge .a) (a .edge .b)) f (first-of (a .w .now) (a .q .now) (a .rules) (a .c) (a .edge .u) (a .edge .v) m h (a .edge .a) (a .edge .b) (a .seed) (t .pre .1 .0) (t .pre .1 .1) f (na .ensures) z) (sides-lock (a .j .now) (only-inserted 0) m l g (turn true) f (a .edge .a) (a .edge .b)) (first-log (a .w .now) (a .q .now) (a .rules) (a .c) (a .edge .u) (a .edge .v) m h (a .edge .a) (a .edge .b) (a .seed) (t .pre .1 .0) (t .pre .1 .1) f (na .ensures) z ir) st)
 
 pub try-along-spec : {M : Type 1} → statement M
 try-along-spec =

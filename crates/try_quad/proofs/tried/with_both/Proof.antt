@@ -28,7 +28,7 @@ try-pairs-requires c κs =
     let e = c .before .before .before .before .before .before .before .before .before .enum-told5 .given .1 in
     let near = c .before .before .before .before .before .near-at .ensures in
     let far = c .before .before .before .before .far-at .ensures in
-    (t .pre .0, t .args .a, t .args .b, both-found h e .m, kept-list h e near far, can-pair h e near far _ _ _ (c .before .before .before .best .ensures), both-lock h e (t .pre .6), both-log h e (t .pre .7), both-round h e (t .pre .7))
+    (t .pre .0, t .args .edge .a, t .args .edge .b, both-found h e .m, kept-list h e near far, can-pair h e near far _ _ _ (c .before .before .before .best .ensures), both-lock h e (t .pre .6), both-log h e (t .pre .7), both-round h e (t .pre .7))
 
 returns : tie.Need-returns
 returns c =
@@ -71,7 +71,7 @@ returns-5 c =
     let k = c .before .before .before .before .before .before .before .before .best .ensures in
     let z = c .before .before .before .before .try-pairs in
     λ base q₀ c₀ cs x f h l lg ee ea eb.
-    both-to h e f ee ea eb (z .last .0) base (z .last .1 .1 .1 .0) (z .result) (z .ensures base (t .args .a) (t .args .b) (both-found h e .m) (kept-list h e near far) (can-pair h e near far _ _ _ k) (both-lock h e l) (both-log h e lg) (both-round h e lg))
+    both-to h e f ee ea eb (z .last .0) base (z .last .1 .1 .1 .0) (z .result) (z .ensures base (t .args .edge .a) (t .args .edge .b) (both-found h e .m) (kept-list h e near far) (can-pair h e near far _ _ _ k) (both-lock h e l) (both-log h e lg) (both-round h e lg))
 
 pub with-both-spec : {M : Type 1} → statement M
 with-both-spec =

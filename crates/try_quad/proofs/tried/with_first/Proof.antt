@@ -17,14 +17,14 @@ enum-told : tie.Need-enum-told
 enum-told c = search needs
 
 far-at-requires : tie.Need-far-at-requires
-far-at-requires c κs = first-sizes (c .before .before .before .before .before .before .before .before .before .before .pre .4) (c .before .before .before .enum-told5 .given .1)
+far-at-requires c κs = first-sizes (c .before .before .before .before .before .before .before .pre .4) (c .enum-told5 .given .1)
 
 side-nodes-requires : tie.Need-side-nodes-requires
 side-nodes-requires c κs =
     let t = c .before .before .before .before .before .before .before .before .before .before .before in
     let h = t .pre .4 in
     let e = c .before .before .before .before .enum-told5 .given .1 in
-    (t .pre .0, first-found h e .m, seek-far h e (c .far-at .ensures), first-log h e (t .pre .6))
+    (t .pre .0, first-found h e .m, seek-far h e (c .before .before .before .far-at .ensures), first-log h e (t .pre .6))
 
 with-both-requires : tie.Need-with-both-requires
 with-both-requires c κs =
@@ -32,13 +32,13 @@ with-both-requires c κs =
     let a = t .args in
     let h = t .pre .4 in
     let e = c .before .before .before .before .before .before .before .before .before .before .before .before .before .before .enum-told5 .given .1 in
-    let fa = c .before .before .before .before .before .before .before .before .before .before .far-at .ensures in
+    let fa = c .before .before .before .before .before .before .before .before .before .before .before .before .before .far-at .ensures in
     let sn = c .before .before .before .before .before .before .before .before .before .side-nodes in
-    let f : Stance = record { edge = (a .u, a .v); a = a .a; b = a .b; seed = a .stance .seed; normal = vec (a .stance .normal); target = a .stance .target; mismatch = a .stance .mismatch } in
+    let f : Stance = record { edge = (a .stance .edge .u, a .stance .edge .v); a = a .stance .edge .a; b = a .stance .edge .b; seed = a .stance .seed; normal = vec (a .stance .normal); target = a .stance .target; mismatch = a .stance .mismatch } in
     let m = first-found h e .m in
     let g = settings-of (a .rules) in
     let z = sn .ensures (t .pre .0) m f (seek-far h e fa) (first-log h e (t .pre .6)) (record { from = refl; along = refl; far = refl; off = refl }) in
-    let y = side-nodes g (turn false) f (only-inserted (a .near .inserted)) m (a .b) (a .a) in
+    let y = side-nodes g (turn false) f (only-inserted (a .near .inserted)) m (a .stance .edge .b) (a .stance .edge .a) in
     (t .pre .0, t .pre .1, t .pre .2, first-found h e .cs, y, both-of h e {y = y} fa z, sides-lock (a .j .now) _ _ (first-lock h e (t .pre .5)) _ _ f _ _, sides-log g m (first-valid h e) _ f _ _ _ (z .log) (first-round h e (t .pre .6)))
 
 returns : tie.Need-returns
@@ -78,13 +78,13 @@ returns-5 c =
     let t = c .before .before .before .before .before .before .before .before .before .before .before .before .before .before .before .before .before .before .before .before .before .before .before .before .before .before in
     let a = t .args in
     let e = c .before .before .before .before .before .before .before .before .before .before .before .before .before .before .before .before .before .before .before .enum-told5 .given .1 in
-    let fa = c .before .before .before .before .before .before .before .before .before .before .before .before .before .before .before .far-at .ensures in
+    let fa = c .before .before .before .before .before .before .before .before .before .before .before .before .before .before .before .before .before .before .far-at .ensures in
     let sn = c .before .before .before .before .before .before .before .before .before .before .before .before .before .before .side-nodes in
     let wb = c .before .before .before .before .with-both in
     λ base q₀ c₀ x f h l lg st.
     let m = first-found h e .m in
     let g = settings-of (a .rules) in
-    let y = side-nodes g (turn false) f (only-inserted (a .near .inserted)) m (a .b) (a .a) in
+    let y = side-nodes g (turn false) f (only-inserted (a .near .inserted)) m (a .stance .edge .b) (a .stance .edge .a) in
     let z = sn .ensures base m f (seek-far h e fa) (first-log h e lg) (st .goes) in
     first-to h e {y = y} fa z f (st .first) (st .second) (refl {a = y}) (wb .last .0) (wb .last .1 .1 .1 .0) (wb .result)
     (wb .ensures base q₀ c₀ (first-found h e .cs) y f (both-of h e {y = y} fa z) (sides-lock (a .j .now) _ _ (first-lock h e l) _ _ f _ _) (sides-log g m (first-valid h e) _ f _ _ _ (z .log) (first-round h e lg)) (st .edge) (st .first) (st .second))
