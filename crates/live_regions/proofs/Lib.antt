@@ -5,3 +5,4 @@ pub mod Takes
 pub mod Tallies
 pub mod Walking
 pub mod Steps
+pub mod Notes

@@ -2,7 +2,7 @@
 use mathlib.Core.Path.{_≡_, refl, ap, sym, _∙_, subst}
 use mathlib.Core.Logic.{_≢_}
 use mathlib.Core.Bool.{Bool, true, false, not, cond, _||_, _&&_, or-true, false≢true}
-use mathlib.Core.List.{List, [], _∷_, _++_}
+use mathlib.Core.List.{List, [], _∷_, _++_, foldl}
 use Prim.Native.Nat.{ℕ}
 use native.Mathlib.Omega.{arith}
 use lib.Dec.{eqb}
@@ -10,12 +10,13 @@ use borrow.Author.Tests.{eq-eqb, ne-eqb}
 use Rattle.rings.specs.Rings.{Out, Distinct, without}
 use Rattle.rings.proofs.Lists.{Same, same, differ, decide, out-append, without-hit, without-miss, without-out, without-append}
 use Rattle.definition.specs.Lists.{any, filter}
-use Rattle.definition.specs.Cells.{Live, Mesh, live-tri, in-slot, among, without as without-slot}
+use Rattle.definition.specs.Plane.{Edge}
+use Rattle.definition.specs.Cells.{Tri, Live, Mesh, live-tri, in-slot, key, owners, among, without as without-slot}
 use Rattle.definition.specs.Candidates.{on-top}
 use Rattle.cells.proofs.Slots.{slot-hit, slot-miss}
 use Rattle.cells.specs.Rep.{slots}
 use Rattle.cells.proofs.Corners.{out-left, out-right}
-use Rattle.live_regions.specs.Stack.{Inner, rev, listed, Fresh, Visited}
+use Rattle.live_regions.specs.Stack.{Inner, rev, listed, Fresh, Visited, Behind, Passed, Told}
 
 -- ---- numbers
 
@@ -135,3 +136,38 @@ on-top-seen seen st e u = rw u (go (live-tri e))
     go : (b : Bool) → cond (b && not true) (e ∷ without-slot (e .slot) st) st ≡ st
     go true = refl
     go false = refl
+
+-- ---- owners that need not be pushed
+
+pub behind-more : (i : ℕ) (x : Live) (seen l : List Live) → Behind i seen l → Behind i (x ∷ seen) l
+unfolding any in-slot
+behind-more i x seen [] h = tt
+behind-more i x seen (e ∷ l) h = (go (eqb (e .slot) i) (eqb (e .slot) (x .slot)) (listed (e .slot) seen) (h .0), behind-more i x seen l (h .1))
+  where
+    go : (a b c : Bool) → (a || c) ≡ true → (a || (b || c)) ≡ true
+    go true b c k = refl
+    go false b c k = rw k (or-true b)
+
+pub passed-more : (m : Mesh) (i : ℕ) (x : Live) (seen : List Live) (e : Edge) → Passed m i seen e → Passed m i (x ∷ seen) e
+passed-more m i x seen e h = record { shared = h .shared; behind = behind-more i x seen (owners m e) (h .behind) }
+
+pub told-more : (m : Mesh) (i : ℕ) (x : Live) (seen : List Live) (n : ℕ) (t : Tri) → Told m i seen n t → Told m i (x ∷ seen) n t
+told-more m i x seen n t h =
+    record {
+      first = λ e. passed-more m i x seen (key (t .n0) (t .n1)) (h .first e);
+      second = λ e. passed-more m i x seen (key (t .n1) (t .n2)) (h .second e);
+      third = λ e. passed-more m i x seen (key (t .n2) (t .n0)) (h .third e);
+    }
+
+-- a mark that has no bit
+pub told-none : (m : Mesh) (i : ℕ) (seen : List Live) (n : ℕ) (t : Tri) → n ≡ 16 → Told m i seen n t
+told-none m i seen n t z = record { first = λ e. absurd (omega arith); second = λ e. absurd (omega arith); third = λ e. absurd (omega arith) }
+
+-- pushing those that were seen changes nothing
+pub behind-pushed : (i : ℕ) (seen st l : List Live) → listed i seen ≡ true → Behind i seen l → foldl (on-top seen) st l ≡ st
+behind-pushed i seen st [] v h = refl
+behind-pushed i seen st (x ∷ l) v h = ap (λ (z : List Live). foldl (on-top seen) z l) (on-top-seen seen st x (go (decide (x .slot) i))) ∙ behind-pushed i seen st l v (h .1)
+  where
+    go : Same (x .slot) i → listed (x .slot) seen ≡ true
+    go (same e) = ap (λ (k : ℕ). listed k seen) e ∙ v
+    go (differ e) = let z = h .0 in rw (ne-eqb (x .slot) i e) at z

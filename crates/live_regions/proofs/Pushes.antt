@@ -1,7 +1,7 @@
 -- One cell pushed.
 use mathlib.Core.Path.{_≡_, refl, ap, sym, _∙_, subst}
 use mathlib.Core.Logic.{_≢_}
-use mathlib.Core.Bool.{Bool, true, false, _||_}
+use mathlib.Core.Bool.{Bool, true, false, _||_, false≢true}
 use mathlib.Core.List.{List, [], _∷_, _++_}
 use Prim.Native.Nat.{ℕ, _+_, _*_, _≤_, _<_}
 use native.Mathlib.Omega.{arith}
@@ -16,16 +16,26 @@ use Rattle.definition.specs.Candidates.{on-top}
 use Rattle.laws.specs.Lists.{stored-kept}
 use Rattle.laws.specs.Frames.{on, off}
 use Rattle.cells.specs.Layout.{list-at, refused-at, stack-at}
-use Rattle.cells.specs.Rep.{Held, slots}
+use Rattle.cells.specs.Rep.{Rep, Held, TriIn, slots}
 use Rattle.cells.proofs.Fronts.{held-tri}
 use Rattle.cells.proofs.Slots.{rep-held, slots-length, slots-without}
-use Rattle.live_regions.specs.Stack.{rev, listed, Mark, Scratch, Hold, Met, PushTo}
-use Rattle.live_regions.proofs.Lists.{without-rev, out-unrev, out-rev, out-listed, listed-out, listed-without, inner-without, fresh-without, on-top-hit, on-top-other, on-top-seen, visited-out}
-use Rattle.live_regions.proofs.Scratches.{scratch-refl, scratch-trans, scratch-mark, scratch-ring, scratch-rep, ring-set, noted-kept}
+use Rattle.live_regions.specs.Stack.{Inner, rev, listed, Mark, Told, Scratch, Hold, Met, PushTo}
+use Rattle.live_regions.proofs.Lists.{without-rev, out-unrev, out-rev, out-listed, listed-out, listed-without, inner-without, fresh-without, on-top-hit, on-top-other, on-top-seen, visited-out, told-none}
+use Rattle.live_regions.proofs.Scratches.{scratch-refl, scratch-trans, scratch-mark, scratch-ring, scratch-rep, ring-set, noted-kept, known-set}
 
 -- at most as many cells are listed as there are slots
 pub few-out : (w : List ℕ) (s p : ℕ) (m : Mesh) (out seen st : List Live) → Hold w s p m out seen st → length out ≤ s
 few-out w s p m out seen st h = omega (arith, h .few, room (m .used) (slots seen) (h .distinct) (h .below), slots-length seen, h .rep .used)
+
+-- a slot on the stack has a triangle
+on-list : (w : List ℕ) (s p j : ℕ) (m : Mesh) → Rep w s p m → (st : List Live) → Inner m st → listed j st ≡ true → eqb (getD w j 0) 3 ≡ true
+unfolding any in-slot
+on-list w s p j m r [] h k = absurd (false≢true k)
+on-list w s p j m r (x ∷ st) h k = go (decide j (x .slot)) (on-list w s p j m r st (h .2))
+  where
+    go : Same j (x .slot) → (listed j st ≡ true → eqb (getD w j 0) 3 ≡ true) → eqb (getD w j 0) 3 ≡ true
+    go (same q) f = ap (λ (i : ℕ). eqb (getD w i 0) 3) q ∙ held-tri w s (m .used) (length (m .points)) x (rep-held w s p m r (h .0)) ∙ h .1
+    go (differ q) f = f (rw (ne-eqb j (x .slot) q) at k)
 
 module _ (w : List ℕ) (s p j : ℕ) (m : Mesh) (out seen st : List Live) (e : Live) (h : Met w s p j m out seen st e) where
   held : Held w s (m .used) (length (m .points)) e
@@ -41,27 +51,30 @@ module _ (w : List ℕ) (s p j : ℕ) (m : Mesh) (out seen st : List Live) (e : 
   unseen n = go (listed (e .slot) seen) refl marked
     where
       go : (b : Bool) → listed (e .slot) seen ≡ b → Mark (getD w (20 * s + 3 * p + j) 0) b (listed (e .slot) st) → listed (e .slot) seen ≡ false
+      go true q z = absurd (omega (arith, z .0))
+      go false q z = q
+
+  waiting : 16 ≤ getD w (20 * s + 3 * p + j) 0 → (listed (e .slot) seen ≡ false) × (listed (e .slot) st ≡ true)
+  waiting n = go (listed (e .slot) seen) refl (listed (e .slot) st) refl marked
+    where
+      go : (a : Bool) → listed (e .slot) seen ≡ a → (b : Bool) → listed (e .slot) st ≡ b → Mark (getD w (20 * s + 3 * p + j) 0) a b → (listed (e .slot) seen ≡ false) × (listed (e .slot) st ≡ true)
+      go true q b u z = absurd (omega (arith, z .1))
+      go false q true u z = (q, u)
+      go false q false u z = absurd (omega arith)
+
+  pub on-stack : 16 ≤ getD w (20 * s + 3 * p + j) 0 → Out j (rev (slots st)) → ⊥
+  on-stack z o =
+      false≢true (sym (out-listed (e .slot) st (subst (λ (i : ℕ). Out i (slots st)) (h .slot) (out-unrev j (slots st) o))) ∙ waiting z .1)
+
+  off-stack : getD w (20 * s + 3 * p + j) 0 < 2 → listed (e .slot) st ≡ false
+  off-stack n = go (listed (e .slot) st) refl (subst (λ (b : Bool). Mark (getD w (20 * s + 3 * p + j) 0) b (listed (e .slot) st)) (unseen n) marked)
+    where
+      go : (b : Bool) → listed (e .slot) st ≡ b → Mark (getD w (20 * s + 3 * p + j) 0) false b → listed (e .slot) st ≡ false
       go true q z = absurd (omega arith)
       go false q z = q
 
-  pub on-stack : getD w (20 * s + 3 * p + j) 0 ≡ 1 → Out j (rev (slots st)) → ⊥
-  on-stack z o =
-      let f : listed (e .slot) st ≡ false = out-listed (e .slot) st (subst (λ (i : ℕ). Out i (slots st)) (h .slot) (out-unrev j (slots st) o)) in
-      go (listed (e .slot) seen) (subst (Mark (getD w (20 * s + 3 * p + j) 0) (listed (e .slot) seen)) f marked)
-    where
-      go : (b : Bool) → Mark (getD w (20 * s + 3 * p + j) 0) b false → ⊥
-      go true q = omega arith
-      go false q = omega arith
-
-  off-stack : getD w (20 * s + 3 * p + j) 0 < 2 → getD w (20 * s + 3 * p + j) 0 ≢ 1 → listed (e .slot) st ≡ false
-  off-stack n k = go (listed (e .slot) st) refl (subst (λ (b : Bool). Mark (getD w (20 * s + 3 * p + j) 0) b (listed (e .slot) st)) (unseen n) marked)
-    where
-      go : (b : Bool) → listed (e .slot) st ≡ b → Mark (getD w (20 * s + 3 * p + j) 0) false b → listed (e .slot) st ≡ false
-      go true q z = absurd (k z)
-      go false q z = q
-
-  pub push-seen : 2 ≤ getD w (20 * s + 3 * p + j) 0 → PushTo w w s p m out seen (on-top seen st e)
-  push-seen z = go (listed (e .slot) seen) refl marked
+  pub push-seen : 2 ≤ getD w (20 * s + 3 * p + j) 0 → getD w (20 * s + 3 * p + j) 0 < 16 → PushTo w w s p m out seen (on-top seen st e)
+  push-seen z y = go (listed (e .slot) seen) refl marked
     where
       never : (b : Bool) → Mark (getD w (20 * s + 3 * p + j) 0) false b → ⊥
       never true q = omega arith
@@ -74,13 +87,14 @@ module _ (w : List ℕ) (s p j : ℕ) (m : Mesh) (out seen st : List Live) (e : 
   pub push-other : getD w j 0 ≢ 3 → PushTo w w s p m out seen (on-top seen st e)
   push-other k = rw (on-top-other seen st e (sym kind ∙ ne-eqb (getD w j 0) 3 k)) (record { hold = h .hold; scratch = scratch-refl w s p })
 
-  -- w1: j is in no ring and its mark is 1; w2: j is linked
-  module _ (n : getD w (20 * s + 3 * p + j) 0 < 2) (k : getD w j 0 ≡ 3) (w1 w2 : List ℕ) (sc : Scratch w w1 s p)
+  -- w1: j is in no ring and its mark is that of a slot on the stack; w2: j is linked
+  module _ (un : listed (e .slot) seen ≡ false) (k : eqb (getD w j 0) 3 ≡ true) (w1 w2 : List ℕ) (sc : Scratch w w1 s p)
       (list : (i : ℕ) → list-at s p ≤ i → i < refused-at s p → getD w1 i 0 ≡ getD w i 0)
-      (others : (i : ℕ) → i < s → i ≢ j → getD w1 (20 * s + 3 * p + i) 0 ≡ getD w (20 * s + 3 * p + i) 0) (own : getD w1 (20 * s + 3 * p + j) 0 ≡ 1)
+      (others : (i : ℕ) → i < s → i ≢ j → getD w1 (20 * s + 3 * p + i) 0 ≡ getD w (20 * s + 3 * p + i) 0) (own : 16 ≤ getD w1 (20 * s + 3 * p + j) 0)
+      (told : (t : TriIn m j) → Told m j seen (getD w1 (20 * s + 3 * p + j) 0) (t .t))
       (ring : Ring w1 (stack-at s p) (s + 1) s (without j (rev (slots st)))) (l : LinkedTo w1 w2 (stack-at s p) (s + 1) j s) where
     is-tri : live-tri e ≡ true
-    is-tri = sym kind ∙ eq-eqb (getD w j 0) 3 k
+    is-tri = sym kind ∙ k
 
     sc2 : Scratch w w2 s p
     sc2 = scratch-trans w w1 w2 s p sc (scratch-ring w1 w2 s p (l .kept))
@@ -102,8 +116,9 @@ module _ (w : List ℕ) (s p j : ℕ) (m : Mesh) (out seen st : List Live) (e : 
         go : Same i j → Mark (getD w2 (20 * s + 3 * p + i) 0) (listed i seen) (eqb i (e .slot) || listed i (without-slot (e .slot) st))
         go (same y) =
             let js : j < s = h .inside in
-            let u : listed i seen ≡ false = ap (λ (x : ℕ). listed x seen) (y ∙ h .slot) ∙ unseen n in
-            rw (u, eq-eqb i (e .slot) (y ∙ h .slot)) (ap (λ (x : ℕ). getD w2 (20 * s + 3 * p + x) 0) y ∙ l .kept .low (20 * s + 3 * p + j) (omega arith) ∙ own)
+            let u : listed i seen ≡ false = ap (λ (x : ℕ). listed x seen) (y ∙ h .slot) ∙ un in
+            let z : getD w2 (20 * s + 3 * p + j) 0 ≡ getD w1 (20 * s + 3 * p + j) 0 = l .kept .low (20 * s + 3 * p + j) (omega arith) in
+            rw (u, eq-eqb i (e .slot) (y ∙ h .slot), y, z) own
         go (differ y) =
             rw (ne-eqb i (e .slot) (λ z. y (z ∙ sym (h .slot))), listed-without i (e .slot) st (λ z. y (z ∙ sym (h .slot))), other i q y) (h .hold .marks i q)
 
@@ -117,7 +132,7 @@ module _ (w : List ℕ) (s p j : ℕ) (m : Mesh) (out seen st : List Live) (e : 
           ring = rw same-list (l .own (without j (rev (slots st))) ring (out-self j (rev (slots st))) (λ z. omega arith));
           stack = (h .has, is-tri, inner-without m (e .slot) st (h .hold .stack));
           inner = h .hold .inner;
-          fresh = (unseen n, fresh-without (e .slot) seen st (h .hold .fresh));
+          fresh = (un, fresh-without (e .slot) seen st (h .hold .fresh));
           distinct = h .hold .distinct;
           below = h .hold .below;
           few = h .hold .few;
@@ -125,33 +140,37 @@ module _ (w : List ℕ) (s p j : ℕ) (m : Mesh) (out seen st : List Live) (e : 
               (λ i a b. l .kept .low i (omega (arith, fo, slots-length out)) ∙ list i a (omega (arith, fo, slots-length out))) (h .hold .stored);
           marks = marks;
           visited = h .hold .visited;
-          noted = noted-kept w w2 s p j m out (h .hold .rep) (h .hold .inner) (visited-out j seen out (ap (λ (i : ℕ). listed i seen) (h .slot) ∙ unseen n) (h .hold .visited)) other (h .hold .noted);
+          noted = noted-kept w w2 s p j m out (h .hold .rep) (h .hold .inner) (visited-out j seen out (ap (λ (i : ℕ). listed i seen) (h .slot) ∙ un) (h .hold .visited)) other (h .hold .noted);
+          known = known-set w w2 s p j m seen (h .hold .rep) other
+              (λ t z. subst (λ (n : ℕ). Told m j seen n (t .t)) (sym (l .kept .low (20 * s + 3 * p + j) (omega arith))) (told t)) (h .hold .known);
         }
 
     pub push-linked : PushTo w w2 s p m out seen (on-top seen st e)
-    push-linked = rw (on-top-hit seen st e is-tri (unseen n)) (record { hold = hold; scratch = sc2 })
+    push-linked = rw (on-top-hit seen st e is-tri un) (record { hold = hold; scratch = sc2 })
 
   pub ring-again : (w1 : List ℕ) → UnlinkedFrom w w1 (stack-at s p) (s + 1) j → Ring w1 (stack-at s p) (s + 1) s (without j (rev (slots st)))
   ring-again w1 u = let js : j < s = h .inside in u .rings (rev (slots st)) s (h .hold .ring) (λ z. omega arith)
 
-  pub push-again : getD w (20 * s + 3 * p + j) 0 < 2 → getD w j 0 ≡ 3 → getD w (20 * s + 3 * p + j) 0 ≡ 1 → (w1 w2 : List ℕ)
+  pub push-again : 16 ≤ getD w (20 * s + 3 * p + j) 0 → (w1 w2 : List ℕ)
       → UnlinkedFrom w w1 (stack-at s p) (s + 1) j → LinkedTo w1 w2 (stack-at s p) (s + 1) j s → PushTo w w2 s p m out seen (on-top seen st e)
-  push-again n k o w1 w2 u l =
+  push-again n w1 w2 u l =
       let js : j < s = h .inside in
-      push-linked n k w1 w2 (scratch-ring w w1 s p (u .kept)) (λ i a b. u .kept .low i (omega arith)) (λ i q z. u .kept .low (20 * s + 3 * p + i) (omega arith))
-      (u .kept .low (20 * s + 3 * p + j) (omega arith) ∙ o) (ring-again w1 u) l
+      let q : getD w1 (20 * s + 3 * p + j) 0 ≡ getD w (20 * s + 3 * p + j) 0 = u .kept .low (20 * s + 3 * p + j) (omega arith) in
+      push-linked (waiting n .0) (on-list w s p j m (h .hold .rep) st (h .hold .stack) (ap (λ (i : ℕ). listed i st) (h .slot) ∙ waiting n .1)) w1 w2 (scratch-ring w w1 s p (u .kept)) (λ i a b. u .kept .low i (omega arith)) (λ i q z. u .kept .low (20 * s + 3 * p + i) (omega arith))
+      (rw q n) (λ t. subst (λ (v : ℕ). Told m j seen v (t .t)) (sym q) (h .hold .known j t n)) (ring-again w1 u) l
 
-  pub ring-first : getD w (20 * s + 3 * p + j) 0 < 2 → getD w (20 * s + 3 * p + j) 0 ≢ 1
-      → Ring (set w (20 * s + 3 * p + j) 1) (stack-at s p) (s + 1) s (without j (rev (slots st)))
-  ring-first n o =
+  pub ring-first : getD w (20 * s + 3 * p + j) 0 < 2
+      → Ring (set w (20 * s + 3 * p + j) 16) (stack-at s p) (s + 1) s (without j (rev (slots st)))
+  ring-first n =
       let js : j < s = h .inside in
-      let q : Out j (slots st) = subst (λ (i : ℕ). Out i (slots st)) (sym (h .slot)) (listed-out (e .slot) st (off-stack n o)) in
-      rw (without-out j (rev (slots st)) (out-rev j (slots st) q)) (ring-set w (stack-at s p) (s + 1) s (20 * s + 3 * p + j) 1 (rev (slots st)) (omega arith) (h .hold .ring))
+      let q : Out j (slots st) = subst (λ (i : ℕ). Out i (slots st)) (sym (h .slot)) (listed-out (e .slot) st (off-stack n)) in
+      rw (without-out j (rev (slots st)) (out-rev j (slots st) q)) (ring-set w (stack-at s p) (s + 1) s (20 * s + 3 * p + j) 16 (rev (slots st)) (omega arith) (h .hold .ring))
 
-  pub push-first : getD w (20 * s + 3 * p + j) 0 < 2 → getD w j 0 ≡ 3 → getD w (20 * s + 3 * p + j) 0 ≢ 1 → (w2 : List ℕ)
-      → LinkedTo (set w (20 * s + 3 * p + j) 1) w2 (stack-at s p) (s + 1) j s → PushTo w w2 s p m out seen (on-top seen st e)
-  push-first n k o w2 l =
+  pub push-first : getD w (20 * s + 3 * p + j) 0 < 2 → getD w j 0 ≡ 3 → (w2 : List ℕ)
+      → LinkedTo (set w (20 * s + 3 * p + j) 16) w2 (stack-at s p) (s + 1) j s → PushTo w w2 s p m out seen (on-top seen st e)
+  push-first n k w2 l =
       let js : j < s = h .inside in
-      push-linked n k (set w (20 * s + 3 * p + j) 1) w2 (scratch-mark w s p j 1 js) (λ i a b. off w (20 * s + 3 * p + j) 1 i (omega arith))
-      (λ i q z. off w (20 * s + 3 * p + j) 1 (20 * s + 3 * p + i) (λ y. z (omega arith))) (on w (20 * s + 3 * p + j) 1 (omega (arith, h .hold .fits)))
-      (ring-first n o) l
+      let q : getD (set w (20 * s + 3 * p + j) 16) (20 * s + 3 * p + j) 0 ≡ 16 = on w (20 * s + 3 * p + j) 16 (omega (arith, h .hold .fits)) in
+      push-linked (unseen n) (eq-eqb (getD w j 0) 3 k) (set w (20 * s + 3 * p + j) 16) w2 (scratch-mark w s p j 16 js) (λ i a b. off w (20 * s + 3 * p + j) 16 i (omega arith))
+      (λ i q z. off w (20 * s + 3 * p + j) 16 (20 * s + 3 * p + i) (λ y. z (omega arith))) (omega (arith, q))
+      (λ t. told-none m j seen (getD (set w (20 * s + 3 * p + j) 16) (20 * s + 3 * p + j) 0) (t .t) q) (ring-first n) l

@@ -1,22 +1,24 @@
 -- Changes of marks, list and stack alone; a ring with one sentinel.
-use mathlib.Core.Path.{_≡_, refl, _∙_}
+use mathlib.Core.Path.{_≡_, refl, sym, _∙_, subst}
 use mathlib.Core.Logic.{_≢_}
 use mathlib.Core.List.{List, [], _∷_, _++_}
 use Prim.Native.Nat.{ℕ, _+_, _*_, _^_, _≤_, _<_}
 use native.Mathlib.Omega.{arith}
 use lib.ListN.{length, getD, set, length-set}
 use Rattle.rings.specs.Rings.{nx, pv, Linked, Out, Ring, Kept, CanLink, CanUnlink}
+use Rattle.rings.proofs.Lists.{Same, same, differ, decide}
 use Rattle.rings.proofs.Rings.{last-below}
 use Rattle.rings.proofs.Chains.{both}
-use Rattle.definition.specs.Cells.{Live, Mesh}
+use Rattle.definition.specs.Cells.{Live, Mesh, new-live}
 use Rattle.laws.specs.Frames.{off, Under}
 use Rattle.rings.proofs.Families.{near}
 use Rattle.cells.specs.Layout.{mesh-end, stack-at, all-end}
-use Rattle.cells.specs.Rep.{Rep, slots}
+use Rattle.cells.specs.Rep.{Rep, TriIn, slots}
 use Rattle.cells.proofs.Frames.{rep-under}
 use Rattle.cells.proofs.Slots.{rep-held}
 use Rattle.live_regions.specs.Walls.{wall-mark}
-use Rattle.live_regions.specs.Stack.{Inner, Noted, Scratch}
+use Rattle.live_regions.specs.Stack.{Inner, Noted, Told, Known, Scratch}
+use Rattle.live_regions.proofs.Lists.{told-more}
 
 pub scratch-refl : (w : List ℕ) (s p : ℕ) → Scratch w w s p
 scratch-refl w s p = record { len = refl; mesh = λ i h. refl; rest = λ i h k. refl }
@@ -71,6 +73,24 @@ noted-kept w w' s p j m (x ∷ l) r i o f h =
 pub noted-snoc : (w : List ℕ) (s p : ℕ) (m : Mesh) (l : List Live) (x : Live) → Noted w s p m l → getD w (20 * s + 3 * p + x .slot) 0 ≡ wall-mark m x → Noted w s p m (l ++ x ∷ [])
 noted-snoc w s p m [] x h e = (e, tt)
 noted-snoc w s p m (y ∷ l) x h e = (h .0, noted-snoc w s p m l x (h .1) e)
+
+-- ---- edges that need not be walked
+
+pub known-more : (w : List ℕ) (s p : ℕ) (m : Mesh) (x : Live) (seen : List Live) → Known w s p m seen → Known w s p m (x ∷ seen)
+known-more w s p m x seen k i t h = told-more m i x seen (getD w (20 * s + 3 * p + i) 0) (t .t) (k i t h)
+
+-- while the marks of all slots but j stay, and that of j is true
+pub known-set : (w w' : List ℕ) (s p j : ℕ) (m : Mesh) (seen : List Live) → Rep w s p m
+    → ((i : ℕ) → i < m .used → i ≢ j → getD w' (20 * s + 3 * p + i) 0 ≡ getD w (20 * s + 3 * p + i) 0)
+    → ((t : TriIn m j) → 16 ≤ getD w' (20 * s + 3 * p + j) 0 → Told m j seen (getD w' (20 * s + 3 * p + j) 0) (t .t)) → Known w s p m seen → Known w' s p m seen
+unfolding new-live
+known-set w w' s p j m seen r f own k i t h = go (decide i j)
+  where
+    go : Same i j → Told m i seen (getD w' (20 * s + 3 * p + i) 0) (t .t)
+    go (same e) = subst (λ (z : ℕ). (v : TriIn m z) → 16 ≤ getD w' (20 * s + 3 * p + z) 0 → Told m z seen (getD w' (20 * s + 3 * p + z) 0) (v .t)) (sym e) own t h
+    go (differ e) =
+        let q : getD w' (20 * s + 3 * p + i) 0 ≡ getD w (20 * s + 3 * p + i) 0 = f i (rep-held w s p m r (t .has) .inside) e in
+        subst (λ (n : ℕ). Told m i seen n (t .t)) (sym q) (k i t (rw q at h))
 
 -- ---- the ring
 

@@ -28,7 +28,7 @@ use Rattle.cells.proofs.Frames.{rep-under}
 use Rattle.cells.proofs.Members.{Lookup, absent, present, lookup}
 use Rattle.plane.specs.Points.{Within, node-of}
 use Rattle.live_regions.specs.Walls.{wall-mark}
-use Rattle.live_regions.specs.Stack.{listed, top-or, Scratch, Hold, Met, PushTo, CanList, StepTo, StepFrom, LiveTo}
+use Rattle.live_regions.specs.Stack.{listed, top-or, Scratch, Hold, Met, PushTo, CanPushAll, TakeTo, CanList, StepTo, StepFrom, LiveTo}
 use Rattle.live_regions.specs.Visit.{out-after, stack-after}
 use Rattle.live_regions.proofs.Lists.{listed-out, listed-first, visited-out, on-top-other}
 use Rattle.live_regions.proofs.Scratches.{scratch-trans, scratch-under}
@@ -144,6 +144,10 @@ module _ (w : List ℕ) (s p n i : ℕ) (m : Mesh) (out seen st : List Live) (x 
   seen-few =
       let o = h .top .hold in
       omega (arith, room (m .used) (slots (x ∷ seen)) ((listed-out (x .slot) seen (o .fresh .0), o .distinct)) ((rep-held w s p m (o .rep) (o .stack .0) .inside, o .below)), slots-length seen)
+
+  pub can-push-all : (w1 : List ℕ) (r : ℕ) → TakeTo w w1 s p i r m out seen st x → CanPushAll w1 s p i r m out (x ∷ seen) st (top-tri .t .t)
+  can-push-all w1 r g =
+      record { hold = g .to .hold; visited = ap (λ (k : ℕ). listed k (x ∷ seen)) (h .top .slot) ∙ listed-first x seen; told = g .told (top-tri .t) }
 
   pub can-list : (w1 : List ℕ) (st' : List Live) (f : ℕ) → PushTo w w1 s p m out (x ∷ seen) st' → f ≡ wall-mark m x → CanList w1 s p n i f m out (x ∷ seen) st' x
   can-list w1 st' f g e =

@@ -3,7 +3,7 @@ use mathlib.Core.Path.{_≡_, refl, ap, sym, _∙_}
 use mathlib.Core.Logic.{_≢_}
 use mathlib.Core.Bool.{Bool, true, false, _&&_}
 use mathlib.Core.List.{List, [], _∷_}
-use Prim.Native.Nat.{ℕ, zero, suc, _+_, _≤_}
+use Prim.Native.Nat.{ℕ, zero, suc, _+_, _≤_, _<_}
 use native.Mathlib.Omega.{arith}
 use lib.Dec.{eqb}
 use lib.ListN.{length}
@@ -81,3 +81,48 @@ pub mark-read : (m : Mesh) (i : ℕ) (t : Tri) (x : Live) → x ≡ new-live i (
     → a ≡ counted p 1 → b ≡ counted q 2 → c ≡ counted r 4 → p ≡ shared-by-tris m (key u v) → q ≡ shared-by-tris m (key v y) → r ≡ shared-by-tris m (key y u) → 8 + a + b + c ≡ wall-mark m x
 mark-read m i t x e u v y a b c p q r eu ev ey ea eb ec ep eq er =
     rw (ea, eb, ec, ep, eq, er, eu, ev, ey) (sym (mark-is m i t)) ∙ ap (wall-mark m) (sym e)
+
+-- it is below 16
+pub mark-few : (m : Mesh) (i : ℕ) (t : Tri) (x : Live) (f : ℕ) → x ≡ new-live i (tri t) → f ≡ wall-mark m x → (2 ≤ f) × (f < 16)
+mark-few m i t x f e z =
+    let p = shared-by-tris m (key (t .n0) (t .n1)) in
+    let q = shared-by-tris m (key (t .n1) (t .n2)) in
+    let r = shared-by-tris m (key (t .n2) (t .n0)) in
+    let y : f ≡ 8 + counted p 1 + counted q 2 + counted r 4 = z ∙ ap (wall-mark m) e ∙ mark-is m i t in
+    (omega (arith, y), omega (arith, y, counted-few p 1, counted-few q 2, counted-few r 4))
+
+-- two triangles
+pub record Two (l : List Live) : Type 0 where
+  pub x : Live
+  pub y : Live
+  pub are : l ≡ x ∷ y ∷ []
+  pub tris : (live-tri x ≡ true) × (live-tri y ≡ true)
+
+pub two-of : (l : List Live) → tally 0 l ≡ 2 → Two l
+two-of [] h = absurd (omega arith)
+two-of (x ∷ []) h = go (live-tri x) h
+  where
+    go : (b : Bool) → tally-with b 0 ≡ 2 → Two (x ∷ [])
+    go true k = absurd (omega arith)
+    go false k = absurd (omega arith)
+two-of (x ∷ y ∷ []) h = go (live-tri x) refl (live-tri y) refl h
+  where
+    go : (a : Bool) → live-tri x ≡ a → (b : Bool) → live-tri y ≡ b → tally-with b (tally-with a 0) ≡ 2 → Two (x ∷ y ∷ [])
+    go true p true q k = record { x = x; y = y; are = refl; tris = (p, q) }
+    go true p false q k = absurd (omega arith)
+    go false p true q k = absurd (omega arith)
+    go false p false q k = absurd (omega arith)
+two-of (x ∷ y ∷ z ∷ l) h = absurd (go (live-tri x) (live-tri y) (live-tri z) h)
+  where
+    three : tally 3 l ≡ 2 → ⊥
+    three k = omega (arith, tally-over l)
+
+    go : (a b c : Bool) → tally (tally-with c (tally-with b (tally-with a 0))) l ≡ 2 → ⊥
+    go true true true = three
+    go true true false = three
+    go true false true = three
+    go true false false = three
+    go false true true = three
+    go false true false = three
+    go false false true = three
+    go false false false = three

@@ -72,9 +72,9 @@ fn step(
     requires { ⌜ ((m : Mesh) × (out : List Live) × (seen : List Live) × (st : List Live) × (e : Live) × Pts (now q) p m × StepFrom (now w) s p n i m out seen st e) ⌝ }
     ensures { λ k. ⌜ ((m : Mesh) (out seen st : List Live) (e : Live) → Pts (now (q .entry)) p m → StepFrom (now (w .entry)) s p n i m out seen st e → StepTo (now (w .entry)) (now (w .exit)) s p k m (out-after (in-reach m (flat x y) r (e .cell)) out e) (e ∷ seen) (stack-after (in-reach m (flat x y) r (e .cell)) m seen st e)) ⌝ }
 {
-    take(w, s, p, i);
+    let b = take(w, s, p, i);
     if is_near(w, q, s, p, i, x, y, r) {
-        let f = push_around(w, s, p, i);
+        let f = push_around(w, s, p, i, b);
         list_one(w, s, p, n, i, f);
         return n + 1;
     }

@@ -6,16 +6,17 @@ use rings::link;
 use rings::unlink;
 use rings::wide;
 ghost use mathlib.Core.Path.{_≡_};
+ghost use mathlib.Core.Bool.{true};
 ghost use mathlib.Core.List.{List, [], _∷_, _++_};
 ghost use Prim.Native.Nat.{ℕ, _+_, _*_, _<_, _≤_};
 ghost use lib.Dec.{eqb};
-ghost use Rattle.definition.specs.Cells.{Live, Mesh, tri, new-live};
+ghost use Rattle.definition.specs.Cells.{Live, Mesh, tri, new-live, key};
 ghost use Rattle.definition.specs.Candidates.{on-top};
 ghost use Rattle.cells.specs.Rep.{Rep, TriIn};
 ghost use Rattle.cells.specs.Layout.{all-end};
 ghost use Rattle.cells.specs.Walk.{IsEdge};
 ghost use lib.ListN.{length, getD};
-ghost use Rattle.live_regions.specs.Stack.{Hold, Met, PushTo, EdgeTo, AroundTo, OnTop, CanList, CanClear, Unmarked, top-or};
+ghost use Rattle.live_regions.specs.Stack.{Hold, Met, PushTo, CanPush, CanPass, CanNote, Pair, Adds, EdgeTo, CanPushAll, AroundTo, OnTop, TakeTo, CanList, CanClear, Unmarked, top-or};
 ghost use Rattle.live_regions.specs.Walls.{counted, tally-with};
 
 // The marks of the first n slots are cleared.
@@ -47,18 +48,18 @@ pub fn push_one(w: &mut [u32], s: usize, p: usize, j: usize)
     ensures { λ r. ⌜ ((m : Mesh) (out seen st : List Live) (e : Live) → Met (now (w .entry)) s p j m out seen st e → PushTo (now (w .entry)) (now (w .exit)) s p m out seen (on-top seen st e)) ⌝ }
 {
     let m = w[20 * s + 3 * p + j];
+    if m >= 16 {
+        unlink(w, 58 * s + 8 * p, s + 1, j);
+        link(w, 58 * s + 8 * p, s + 1, j, s);
+        return;
+    }
     if m >= 2 {
         return;
     }
     if w[j] != 3 {
         return;
     }
-    if m == 1 {
-        unlink(w, 58 * s + 8 * p, s + 1, j);
-        link(w, 58 * s + 8 * p, s + 1, j, s);
-        return;
-    }
-    w[20 * s + 3 * p + j] = 1;
+    w[20 * s + 3 * p + j] = 16;
     link(w, 58 * s + 8 * p, s + 1, j, s);
 }
 
@@ -79,20 +80,103 @@ fn tallied(w: &[u32], j: usize, k: usize) -> usize
     3
 }
 
-// The owners of u-v are pushed; whether they are two triangles.
-fn push_edge(w: &mut [u32], s: usize, p: usize, u: usize, v: usize) -> bool
-    requires { ⌜ ((m : Mesh) × (out : List Live) × (seen : List Live) × (st : List Live) × Hold (now w) s p m out seen st) ⌝ }
-    requires { ⌜ IsEdge p u v ⌝ }
-    ensures { λ r. ⌜ ((m : Mesh) (out seen st : List Live) → Hold (now (w .entry)) s p m out seen st → EdgeTo (now (w .entry)) (now (w .exit)) s p u v r m out seen st) ⌝ }
+// The nodes a and b are u and v, in either order.
+fn joins(a: usize, b: usize, u: usize, v: usize) -> bool
+    ensures { λ r. ⌜ (r ≡ true → key a b ≡ key u v) ⌝ }
 {
+    if a == u {
+        return b == v;
+    }
+    if a == v {
+        return b == u;
+    }
+    false
+}
+
+// The mark n of a triangle on the stack, of nodes x, y, z, with the bit of its edge u-v.
+fn with_edge(n: u32, x: usize, y: usize, z: usize, u: usize, v: usize) -> u32
+    ensures { λ r. ⌜ n ≤ r ⌝ }
+    ensures { λ r. ⌜ Adds n r x y z u v ⌝ }
+{
+    if n % 2 == 0 {
+        if joins(x, y, u, v) {
+            return n + 1;
+        }
+    }
+    if n / 2 % 2 == 0 {
+        if joins(y, z, u, v) {
+            return n + 2;
+        }
+    }
+    if n / 4 % 2 == 0 {
+        if joins(z, x, u, v) {
+            return n + 4;
+        }
+    }
+    n
+}
+
+// The triangle in slot j, if it is on the stack, need not push the owners of its edge u-v.
+fn note_edge(w: &mut [u32], s: usize, p: usize, j: usize, u: usize, v: usize)
+    requires { ⌜ ((m : Mesh) × (out : List Live) × (seen : List Live) × (st : List Live) × CanNote (now w) s p j u v m out seen st) ⌝ }
+    requires { ⌜ j < s ⌝ }
+    ensures { λ r. ⌜ ((m : Mesh) (out seen st : List Live) → CanNote (now (w .entry)) s p j u v m out seen st → PushTo (now (w .entry)) (now (w .exit)) s p m out seen st) ⌝ }
+{
+    let n = w[20 * s + 3 * p + j];
+    if n < 16 {
+        return;
+    }
+    let x = node(w, s, j, 0);
+    let y = node(w, s, j, 1);
+    let z = node(w, s, j, 2);
+    w[20 * s + 3 * p + j] = with_edge(n, x, y, z, u, v);
+}
+
+// Of two triangles a and b, which own u-v, the one that is not i need not push the owners.
+fn note_other(w: &mut [u32], s: usize, p: usize, i: usize, a: usize, b: usize, u: usize, v: usize)
+    requires { ⌜ ((m : Mesh) × (out : List Live) × (seen : List Live) × (st : List Live) × Pair (now w) s p i a b u v m out seen st) ⌝ }
+    ensures { λ r. ⌜ ((m : Mesh) (out seen st : List Live) → Pair (now (w .entry)) s p i a b u v m out seen st → PushTo (now (w .entry)) (now (w .exit)) s p m out seen st) ⌝ }
+{
+    if b == i {
+        note_edge(w, s, p, a, u, v);
+        return;
+    }
+    note_edge(w, s, p, b, u, v);
+}
+
+// The owners of u-v, one of which is in slot i, are pushed; whether they are two triangles. The other need not push them then.
+fn push_edge(w: &mut [u32], s: usize, p: usize, i: usize, u: usize, v: usize) -> bool
+    requires { ⌜ ((m : Mesh) × (out : List Live) × (seen : List Live) × (st : List Live) × CanPush (now w) s p i u v m out seen st) ⌝ }
+    requires { ⌜ IsEdge p u v ⌝ }
+    ensures { λ r. ⌜ ((m : Mesh) (out seen st : List Live) → CanPush (now (w .entry)) s p i u v m out seen st → EdgeTo (now (w .entry)) (now (w .exit)) s p u v r m out seen st) ⌝ }
+{
+    let first = first_owner(w, s, p, u, v);
     let mut k: usize = 0;
-    let mut c = first_owner(w, s, p, u, v);
+    let mut j = i;
+    let mut c = first;
     while c < 4 * s {
-        k = tallied(w, c / 4, k);
-        push_one(w, s, p, c / 4);
+        j = c / 4;
+        k = tallied(w, j, k);
+        push_one(w, s, p, j);
         c = next_owner(w, s, p, u, v, c);
     }
-    k == 2
+    if k != 2 {
+        return false;
+    }
+    note_other(w, s, p, i, first / 4, j, u, v);
+    true
+}
+
+// So, unless b is 1: they were pushed then.
+fn push_new(w: &mut [u32], s: usize, p: usize, i: usize, u: usize, v: usize, b: u32) -> bool
+    requires { ⌜ ((m : Mesh) × (out : List Live) × (seen : List Live) × (st : List Live) × CanPass (now w) s p i u v b m out seen st) ⌝ }
+    requires { ⌜ IsEdge p u v ⌝ }
+    ensures { λ r. ⌜ ((m : Mesh) (out seen st : List Live) → CanPass (now (w .entry)) s p i u v b m out seen st → EdgeTo (now (w .entry)) (now (w .exit)) s p u v r m out seen st) ⌝ }
+{
+    if b == 1 {
+        return true;
+    }
+    push_edge(w, s, p, i, u, v)
 }
 
 // What an edge adds to the mark of its triangle: k where it is a wall.
@@ -105,18 +189,18 @@ fn counted(shared: bool, k: u32) -> u32
     k
 }
 
-// The owners of the edges of the triangle x in slot i are pushed, edge after edge; the mark that tells its walls.
-pub fn push_around(w: &mut [u32], s: usize, p: usize, i: usize) -> u32
-    requires { ⌜ ((m : Mesh) × (out : List Live) × (seen : List Live) × (st : List Live) × Hold (now w) s p m out seen st × TriIn m i) ⌝ }
+// The owners of the edges of the triangle x in slot i are pushed, edge after edge, unless its mark n told that they were; the mark that tells its walls.
+pub fn push_around(w: &mut [u32], s: usize, p: usize, i: usize, n: u32) -> u32
+    requires { ⌜ ((m : Mesh) × (out : List Live) × (seen : List Live) × (st : List Live) × (t : TriIn m i) × CanPushAll (now w) s p i n m out seen st (t .t)) ⌝ }
     requires { ⌜ i < s ⌝ }
-    ensures { λ r. ⌜ ((m : Mesh) (out seen st : List Live) (x : Live) → Hold (now (w .entry)) s p m out seen st → (t : TriIn m i) → x ≡ new-live i (tri (t .t)) → AroundTo (now (w .entry)) (now (w .exit)) s p r m out seen st x) ⌝ }
+    ensures { λ r. ⌜ ((m : Mesh) (out seen st : List Live) (x : Live) (t : TriIn m i) → CanPushAll (now (w .entry)) s p i n m out seen st (t .t) → x ≡ new-live i (tri (t .t)) → AroundTo (now (w .entry)) (now (w .exit)) s p r m out seen st x) ⌝ }
 {
     let x = node(w, s, i, 0);
     let y = node(w, s, i, 1);
     let z = node(w, s, i, 2);
-    let a = counted(push_edge(w, s, p, x, y), 1);
-    let b = counted(push_edge(w, s, p, y, z), 2);
-    let c = counted(push_edge(w, s, p, z, x), 4);
+    let a = counted(push_new(w, s, p, i, x, y, n % 2), 1);
+    let b = counted(push_new(w, s, p, i, y, z, n / 2 % 2), 2);
+    let c = counted(push_new(w, s, p, i, z, x, n / 4 % 2), 4);
     8 + a + b + c
 }
 
@@ -128,13 +212,15 @@ pub fn top(w: &[u32], s: usize, p: usize) -> usize
     wide(w[58 * s + 8 * p + (s + 1) + s])
 }
 
-// The slot i on top of the stack is taken: it is seen now.
-pub fn take(w: &mut [u32], s: usize, p: usize, i: usize)
+// The slot i on top of the stack is taken: it is seen now. The mark that it had.
+pub fn take(w: &mut [u32], s: usize, p: usize, i: usize) -> u32
     requires { ⌜ ((m : Mesh) × (out : List Live) × (seen : List Live) × (st : List Live) × (x : Live) × OnTop (now w) s p i m out seen st x) ⌝ }
-    ensures { λ r. ⌜ ((m : Mesh) (out seen st : List Live) (x : Live) → OnTop (now (w .entry)) s p i m out seen st x → PushTo (now (w .entry)) (now (w .exit)) s p m out (x ∷ seen) st) ⌝ }
+    ensures { λ r. ⌜ ((m : Mesh) (out seen st : List Live) (x : Live) → OnTop (now (w .entry)) s p i m out seen st x → TakeTo (now (w .entry)) (now (w .exit)) s p i r m out seen st x) ⌝ }
 {
+    let n = w[20 * s + 3 * p + i];
     unlink(w, 58 * s + 8 * p, s + 1, i);
     w[20 * s + 3 * p + i] = 2;
+    n
 }
 
 // The slot i comes to the end of the list of n, with the mark f.

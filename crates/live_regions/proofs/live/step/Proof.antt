@@ -2,7 +2,7 @@ use mathlib.Core.Path.{sym, _∙_}
 use mathlib.Core.List.{[], _∷_, _++_, foldl}
 use native.Mathlib.Omega.{arith}
 use Rattle.definition.specs.Candidates.{on-top, neighbours}
-use Rattle.live_regions.proofs.Steps.{top-tri, can-list, seen-few, step-near, step-far, push-trans}
+use Rattle.live_regions.proofs.Steps.{top-tri, can-push-all, can-list, seen-few, step-near, step-far, push-trans}
 use borrow.Author.Needs.{needs}
 use Rattle.live_regions.proofs.live.step.Statement.{statement}
 use Rattle.live_regions.proofs.live.step.Tie as tie
@@ -23,7 +23,7 @@ is-near-requires c κs =
     let h = t .pre .6 in
     let k = top-tri w (a .s) (a .p) (a .n) (a .i) m out seen st x h in
     let f1 = tk .take .ensures m out seen st x (h .top) in
-    ((m, f1 .hold .rep, pts, k .t), h .top .inside)
+    ((m, f1 .to .hold .rep, pts, k .t), h .top .inside)
 
 push-around-requires : tie.Need-push-around-requires
 push-around-requires c κs =
@@ -42,7 +42,8 @@ push-around-requires c κs =
     let h = t .pre .6 in
     let k = top-tri w (a .s) (a .p) (a .n) (a .i) m out seen st x h in
     let f1 = tk .take .ensures m out seen st x (h .top) in
-    ((m, out, x ∷ seen, st, f1 .hold, k .t), h .top .inside)
+    let ca = can-push-all w (a .s) (a .p) (a .n) (a .i) m out seen st x h w1 (tk .take .result) f1 in
+    ((m, out, x ∷ seen, st, k .t, ca), h .top .inside)
 
 list-one-requires : tie.Need-list-one-requires
 list-one-requires c κs =
@@ -63,9 +64,10 @@ list-one-requires c κs =
     let k = top-tri w (a .s) (a .p) (a .n) (a .i) m out seen st x h in
     let f1 = tk .take .ensures m out seen st x (h .top) in
     let w2 = pa .push-around .last .0 in
-    let f2 = pa .push-around .ensures m out (x ∷ seen) st x (f1 .hold) (k .t) (k .is) in
+    let ca = can-push-all w (a .s) (a .p) (a .n) (a .i) m out seen st x h w1 (tk .take .result) f1 in
+    let f2 = pa .push-around .ensures m out (x ∷ seen) st x (k .t) ca (k .is) in
     let st2 = foldl (on-top (x ∷ seen)) st (neighbours m x) in
-    let cl = can-list w (a .s) (a .p) (a .n) (a .i) m out seen st x h w2 st2 (pa .push-around .result) (push-trans w w1 w2 (a .s) (a .p) m out (x ∷ seen) st2 (f1 .scratch) (f2 .to)) (f2 .walls) in
+    let cl = can-list w (a .s) (a .p) (a .n) (a .i) m out seen st x h w2 st2 (pa .push-around .result) (push-trans w w1 w2 (a .s) (a .p) m out (x ∷ seen) st2 (f1 .to .scratch) (f2 .to)) (f2 .walls) in
     (m, out, x ∷ seen, st2, x, cl)
 
 add-result : tie.Need-add-result
@@ -101,13 +103,14 @@ returns c =
     let k = top-tri w (a .s) (a .p) (a .n) (a .i) m out seen st x h in
     let f1 = tk .take .ensures m out seen st x (h .top) in
     let w2 = pa .push-around .last .0 in
-    let f2 = pa .push-around .ensures m out (x ∷ seen) st x (f1 .hold) (k .t) (k .is) in
+    let ca = can-push-all w (a .s) (a .p) (a .n) (a .i) m out seen st x h w1 (tk .take .result) f1 in
+    let f2 = pa .push-around .ensures m out (x ∷ seen) st x (k .t) ca (k .is) in
     let st2 = foldl (on-top (x ∷ seen)) st (neighbours m x) in
-    let cl = can-list w (a .s) (a .p) (a .n) (a .i) m out seen st x h w2 st2 (pa .push-around .result) (push-trans w w1 w2 (a .s) (a .p) m out (x ∷ seen) st2 (f1 .scratch) (f2 .to)) (f2 .walls) in
+    let cl = can-list w (a .s) (a .p) (a .n) (a .i) m out seen st x h w2 st2 (pa .push-around .result) (push-trans w w1 w2 (a .s) (a .p) m out (x ∷ seen) st2 (f1 .to .scratch) (f2 .to)) (f2 .walls) in
     let w3 = lo .list-one .last .0 in
     let f3 = lo .list-one .ensures m out (x ∷ seen) st2 x cl in
-    step-near w (a .s) (a .p) (a .n) (a .i) m out seen st x h (a .x) (a .y) (a .r) w3 (sym (pa .before .before .if1 .taken) ∙ nr .is-near .ensures m (f1 .hold .rep) pts (k .t))
-    (push-trans w w1 w3 (a .s) (a .p) m (out ++ x ∷ []) (x ∷ seen) st2 (f1 .scratch) (push-trans w1 w2 w3 (a .s) (a .p) m (out ++ x ∷ []) (x ∷ seen) st2 (f2 .to .scratch) f3))
+    step-near w (a .s) (a .p) (a .n) (a .i) m out seen st x h (a .x) (a .y) (a .r) w3 (sym (pa .before .before .if1 .taken) ∙ nr .is-near .ensures m (f1 .to .hold .rep) pts (k .t))
+    (push-trans w w1 w3 (a .s) (a .p) m (out ++ x ∷ []) (x ∷ seen) st2 (f1 .to .scratch) (push-trans w1 w2 w3 (a .s) (a .p) m (out ++ x ∷ []) (x ∷ seen) st2 (f2 .to .scratch) f3))
 
 returns-2 : tie.Need-returns-2
 returns-2 c =
@@ -120,7 +123,7 @@ returns-2 c =
     λ m out seen st x pts h.
     let k = top-tri w (a .s) (a .p) (a .n) (a .i) m out seen st x h in
     let f1 = tk .take .ensures m out seen st x (h .top) in
-    step-far w (a .s) (a .p) (a .n) (a .i) m out seen st x h (a .x) (a .y) (a .r) w1 (sym (c .if1 .left) ∙ nr .is-near .ensures m (f1 .hold .rep) pts (k .t)) f1
+    step-far w (a .s) (a .p) (a .n) (a .i) m out seen st x h (a .x) (a .y) (a .r) w1 (sym (c .if1 .left) ∙ nr .is-near .ensures m (f1 .to .hold .rep) pts (k .t)) (f1 .to)
 
 pub step-spec : {M : Type 1} → statement M
 step-spec =
