@@ -5,11 +5,11 @@ use mathlib.Core.List.{[], _∷_, map}
 use lib.Ieee.{Float, binary64, mul, div, inf}
 use Rattle.definition.specs.Floats.{_⊗_, _⊘_, _≺_, _≼_, finite, greater, 0·0}
 use Rattle.definition.specs.Lists.{any}
-use Rattle.definition.specs.Numbers.{Quality, tiny-cross}
-use Rattle.definition.specs.Plane.{Node, Vec, from-to, dot, dist, twice-area}
-use Rattle.definition.specs.Metrics.{absent, measured, corner-of, corners, not-convex, angle-of, clamp, cosine, largest-cosine, min-scaled-jacobian, quad-metrics, passes}
+use Rattle.definition.specs.Numbers.{Quality}
+use Rattle.definition.specs.Plane.{Node, Vec, from-to, dot, dist}
+use Rattle.definition.specs.Metrics.{absent, measured, corner-of, corners, angle-of, clamp, cosine, largest-cosine, min-scaled-jacobian, quad-metrics, passes}
 use Rattle.plane.specs.declared.metrics.Sides.{Sides}
-use Rattle.plane.specs.Measures.{SidesOf}
+use Rattle.plane.specs.Measures.{SidesOf, folded}
 
 -- a corner's sides, by the distances of its neighbours
 pub sides-by : (a b c : Node) {u v : Float} → u ≡ dist a b → v ≡ dist c b → mul binary64 u v ≡ angle-of (corner-of a b c) .sides
@@ -35,13 +35,11 @@ module _ (a b c d : Node) where
   unfolding any corners
   flat-by s h = rw (h .at-a, h .at-b, h .at-c, h .at-d)
 
-  -- the metrics by the outcomes of the three tests
-  pub metrics-by : (p q r : Bool)
-      → (twice-area a b c d ≼ tiny-cross) ≡ p → any not-convex (corners a b c d) ≡ q
-      → any (λ k. k .sides ≼ 0·0) (map angle-of (corners a b c d)) ≡ r
-      → quad-metrics a b c d ≡ cond (p || q || r) absent (measured (min-scaled-jacobian a b c d) (largest-cosine (map angle-of (corners a b c d))))
-  unfolding quad-metrics
-  metrics-by p q r e f g = rw (e, f, g)
+  -- the metrics by the outcomes of the tests
+  pub metrics-by : (p r : Bool) → folded a b c d ≡ p → any (λ k. k .sides ≼ 0·0) (map angle-of (corners a b c d)) ≡ r
+      → quad-metrics a b c d ≡ cond (p || r) absent (measured (min-scaled-jacobian a b c d) (largest-cosine (map angle-of (corners a b c d))))
+  unfolding quad-metrics folded
+  metrics-by p r e f = rw (e, f)
 
 -- the test of what was measured, by numbers that were handed in
 pub passes-by : (y : Quality) {least most : Float} (sj k : Float) → y .least-jacobian ≡ least → y .largest-cosine ≡ most

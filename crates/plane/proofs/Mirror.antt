@@ -8,7 +8,7 @@ use lib.Dec.{ltb}
 use lib.Ieee.{Float, nan, inf, fin, Format, up, down, odd, units, round, neg, sum, add, sub, mul}
 use borrow.Author.Tests.{ltb-true, ltb-false, le-ltb}
 use Rattle.definition.specs.Floats.{_⊖_, _⊗_}
-use Rattle.definition.specs.Plane.{Node, norm, from-to}
+use Rattle.definition.specs.Plane.{Node, norm, from-to, dist}
 
 -- ---- a rounded number with the other sign
 
@@ -98,6 +98,10 @@ sub-mirror f (fin s m e) (fin t n d) =
     ∙ ap (λ (c : ℕ). square f (sum f t (n * up d * down e) (not s) (m * up e * down d) c)) (mul-comm (down e) (down d))
 
 -- two nodes are as far apart one way as the other
-pub norm-mirror : (a b : Node) → norm (from-to a b) ≡ norm (from-to b a)
+norm-mirror : (a b : Node) → norm (from-to a b) ≡ norm (from-to b a)
 unfolding norm from-to _⊖_ _⊗_
 norm-mirror a b = rw (sub-mirror _ (b .x) (a .x), sub-mirror _ (b .y) (a .y))
+
+pub dist-mirror : (a b : Node) → dist a b ≡ dist b a
+unfolding dist
+dist-mirror a b = norm-mirror b a

@@ -1,8 +1,12 @@
--- The metrics enum by its cases, a quad's side lengths, and their products at its corners.
+-- The metrics enum by its cases, the tests of area and corners, a quad's side lengths, and their products at its corners.
 use mathlib.Core.Path.{_≡_}
-use Rattle.definition.specs.Plane.{Node, dist}
+use mathlib.Core.Bool.{Bool, _||_}
+use Rattle.definition.specs.Floats.{_≼_}
+use Rattle.definition.specs.Lists.{any}
+use Rattle.definition.specs.Numbers.{tiny-cross}
+use Rattle.definition.specs.Plane.{Node, dist, twice-area}
 use Rattle.definition.specs.Metrics as metrics
-use Rattle.definition.specs.Metrics.{absent, measured, corner-of, angle-of}
+use Rattle.definition.specs.Metrics.{absent, measured, corner-of, corners, not-convex, angle-of}
 use Rattle.plane.specs.declared.lengths.Lengths.{Lengths}
 use Rattle.plane.specs.declared.metrics.Metrics.{Metrics}
 use Rattle.plane.specs.declared.metrics.Metrics.the-variants.{Absent, Measured}
@@ -12,6 +16,10 @@ use Rattle.plane.specs.declared.metrics.Sides.{Sides}
 unfoldable pub metrics-of-enum : Metrics → metrics.Metrics
 metrics-of-enum Absent = absent
 metrics-of-enum (Measured sj k) = measured sj k
+
+-- the area or a corner is zero or negative
+unfoldable pub folded : Node → Node → Node → Node → Bool
+folded a b c d = (twice-area a b c d ≼ tiny-cross) || any not-convex (corners a b c d)
 
 -- the lengths of the sides of the quad a b c d, each the same from either end
 pub record LengthsOf (l : Lengths) (a b c d : Node) : Type 0 where

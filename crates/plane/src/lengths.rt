@@ -1,7 +1,7 @@
 // The lengths of a quad's sides, and a vector's length from the length of its double.
 ghost use mathlib.Core.Path.{_≡_};
 ghost use mathlib.Core.Bool.{true};
-ghost use Rattle.definition.specs.Plane.{norm};
+ghost use Rattle.definition.specs.Plane.{dist, norm};
 ghost use Rattle.rounding.specs.Halves.{HalfOf};
 ghost use Rattle.plane.specs.Measures.{LengthsOf};
 ghost use Rattle.plane.specs.Points.{node};
@@ -34,6 +34,18 @@ pub fn lengths_of(a: Spot, b: Spot, c: Spot, d: Spot) -> Lengths
         bc: dist_of(b, c),
         cd: dist_of(c, d),
         da: dist_of(d, a),
+    }
+}
+
+// The lengths, of which two are handed in, by two roots.
+pub fn lengths_from(a: Spot, b: Spot, c: Spot, d: Spot, ab: f64, da: f64) -> Lengths
+    ensures { λ r. ⌜ (ab ≡ dist (node a) (node b) → da ≡ dist (node d) (node a) → LengthsOf r (node a) (node b) (node c) (node d)) ⌝ }
+{
+    Lengths {
+        ab,
+        bc: dist_of(b, c),
+        cd: dist_of(c, d),
+        da,
     }
 }
 

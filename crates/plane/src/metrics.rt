@@ -1,15 +1,15 @@
 // A quad's metrics, and what a trial asks of them.
 ghost use mathlib.Core.Path.{_≡_};
-ghost use mathlib.Core.Bool.{true, not, _&&_};
+ghost use mathlib.Core.Bool.{true, false, not, _&&_};
 ghost use mathlib.Core.List.{[], _∷_, map};
 ghost use lib.Ieee.{inf};
 ghost use Rattle.definition.specs.Call.{point-at};
 ghost use Rattle.definition.specs.Floats.{_≺_, _≼_, finite, greater, 0·0};
 ghost use Rattle.definition.specs.Lists.{any};
 ghost use Rattle.definition.specs.Numbers.{Quality};
-ghost use Rattle.definition.specs.Plane.{Node};
+ghost use Rattle.definition.specs.Plane.{Node, dist};
 ghost use Rattle.definition.specs.Metrics.{corners, corner-of, angle-of, not-convex, clamp, cosine, largest-cosine, quad-metrics, passes, score};
-ghost use Rattle.plane.specs.Measures.{LengthsOf, SidesOf, metrics-of-enum};
+ghost use Rattle.plane.specs.Measures.{LengthsOf, SidesOf, folded, metrics-of-enum};
 ghost use Rattle.plane.specs.Points.{Within, node};
 use crate::area::twice_area;
 use crate::floats::finite;
@@ -17,6 +17,7 @@ use crate::floats::greater;
 use crate::floats::lesser;
 use crate::jacobian::min_scaled_jacobian;
 use crate::lengths::Lengths;
+use crate::lengths::lengths_from;
 use crate::lengths::lengths_of;
 use crate::points::Spot;
 use crate::points::at;
@@ -59,6 +60,16 @@ fn bent(a: Spot, b: Spot, c: Spot, d: Spot) -> bool
         not_convex(b, c, d),
         not_convex(c, d, a),
     )
+}
+
+// The area or some corner is zero or negative.
+fn folded(a: Spot, b: Spot, c: Spot, d: Spot) -> bool
+    ensures { λ r. ⌜ r ≡ folded (node a) (node b) (node c) (node d) ⌝ }
+{
+    if tiny(twice_area(a, b, c, d)) {
+        return true;
+    }
+    bent(a, b, c, d)
 }
 
 // Four lengths, each with its neighbour's.
@@ -123,17 +134,10 @@ fn largest_cosine(a: Spot, b: Spot, c: Spot, d: Spot, s: Sides) -> f64
 
 // ---- the metrics
 
-// Of the quad a b c d.
-pub fn quad_metrics_of(a: Spot, b: Spot, c: Spot, d: Spot) -> Metrics
-    ensures { λ r. ⌜ metrics-of-enum r ≡ quad-metrics (node a) (node b) (node c) (node d) ⌝ }
+// Of the quad a b c d, whose sides' lengths are handed in; neither its area nor a corner is zero or negative.
+fn measured(a: Spot, b: Spot, c: Spot, d: Spot, l: Lengths) -> Metrics
+    ensures { λ r. ⌜ (LengthsOf l (node a) (node b) (node c) (node d) → folded (node a) (node b) (node c) (node d) ≡ false → metrics-of-enum r ≡ quad-metrics (node a) (node b) (node c) (node d)) ⌝ }
 {
-    if tiny(twice_area(a, b, c, d)) {
-        return Metrics::Absent;
-    }
-    if bent(a, b, c, d) {
-        return Metrics::Absent;
-    }
-    let l = lengths_of(a, b, c, d);
     let s = sides_of(l);
     if flat_side(s) {
         return Metrics::Absent;
@@ -144,12 +148,48 @@ pub fn quad_metrics_of(a: Spot, b: Spot, c: Spot, d: Spot) -> Metrics
     )
 }
 
+// Of the quad a b c d.
+pub fn quad_metrics_of(a: Spot, b: Spot, c: Spot, d: Spot) -> Metrics
+    ensures { λ r. ⌜ metrics-of-enum r ≡ quad-metrics (node a) (node b) (node c) (node d) ⌝ }
+{
+    if folded(a, b, c, d) {
+        return Metrics::Absent;
+    }
+    measured(a, b, c, d, lengths_of(a, b, c, d))
+}
+
+// Of the quad a b c d, the lengths of whose sides a b and d a are handed in.
+fn quad_metrics_from(a: Spot, b: Spot, c: Spot, d: Spot, ab: f64, da: f64) -> Metrics
+    ensures { λ r. ⌜ (ab ≡ dist (node a) (node b) → da ≡ dist (node d) (node a) → metrics-of-enum r ≡ quad-metrics (node a) (node b) (node c) (node d)) ⌝ }
+{
+    if folded(a, b, c, d) {
+        return Metrics::Absent;
+    }
+    measured(a, b, c, d, lengths_from(a, b, c, d, ab, da))
+}
+
 // Of the quad of four nodes: absent where the area, a corner or a side is zero or negative.
 pub fn quad_metrics(q: &[f64], a: usize, b: usize, c: usize, d: usize) -> Metrics
     requires { ⌜ Within (now q) a × Within (now q) b × Within (now q) c × Within (now q) d ⌝ }
     ensures { λ r. ⌜ (let p = point-at (now (q .entry)) in metrics-of-enum r ≡ quad-metrics (p a) (p b) (p c) (p d)) ⌝ }
 {
     quad_metrics_of(at(q, a), at(q, b), at(q, c), at(q, d))
+}
+
+// Of the quad of four nodes, the lengths of whose sides a b and d a are handed in.
+pub fn quad_metrics_by(
+    q: &[f64],
+    a: usize,
+    b: usize,
+    c: usize,
+    d: usize,
+    ab: f64,
+    da: f64,
+) -> Metrics
+    requires { ⌜ Within (now q) a × Within (now q) b × Within (now q) c × Within (now q) d ⌝ }
+    ensures { λ r. ⌜ (let p = point-at (now (q .entry)) in ab ≡ dist (p a) (p b) → da ≡ dist (p d) (p a) → metrics-of-enum r ≡ quad-metrics (p a) (p b) (p c) (p d)) ⌝ }
+{
+    quad_metrics_from(at(q, a), at(q, b), at(q, c), at(q, d), ab, da)
 }
 
 // ---- a trial's test and score

@@ -12,8 +12,10 @@ use Rattle.definition.specs.Cells.{new-quad}
 use Rattle.definition.specs.Lists.{contains}
 use Rattle.definition.specs.Metrics.{Metrics, quad-metrics}
 use Rattle.definition.specs.Numbers.{Quality}
+use Rattle.definition.specs.Plane.{dist}
 use Rattle.definition.specs.Trials.{Trial, rated}
 use Rattle.plane.specs.Points.{Within}
+use Rattle.trials.specs.declared.ranked.Half.{Half}
 
 -- the list that stands in the slice from a place on
 abbrev pub part : List ℕ → ℕ → ℕ → List ℕ
@@ -40,12 +42,17 @@ trial-at y q a b c d =
     let scored = rated y (new-quad a b d c) (metrics-at q a b d c) in
     cond (contains (a ∷ b ∷ []) c || contains (a ∷ b ∷ c ∷ []) d) [] scored
 
--- the edge's ends, c and the side nodes at b are in the slice of points
-pub record Far (w : List ℕ) (q : List Float) (far-at fars a b c : ℕ) : Type 0 where
+-- the half's nodes are in the slice of points, and its lengths are theirs
+pub record HalfAt (q : List Float) (h : Half) : Type 0 where
+  pub a-within : Within q (h .a)
+  pub b-within : Within q (h .b)
+  pub c-within : Within q (h .c)
+  pub edge : h .ab ≡ dist (point-at q (h .a)) (point-at q (h .b))
+  pub side : h .ca ≡ dist (point-at q (h .c)) (point-at q (h .a))
+
+-- the side nodes at b are in the slice of points
+pub record Far (w : List ℕ) (q : List Float) (far-at fars : ℕ) : Type 0 where
   pub stands : far-at + fars ≤ length w
-  pub a-within : Within q a
-  pub b-within : Within q b
-  pub c-within : Within q c
   pub within : (j : ℕ) → j < fars → Within q (getD w (far-at + j) 0)
 
 -- the edge's ends and the side nodes at both are below n, and the slice has n points

@@ -11,16 +11,26 @@ ghost use Rattle.definition.specs.Trials.{rated, trial-before, trials};
 ghost use Rattle.plane.specs.Points.{Within};
 ghost use Rattle.rules.specs.Settings.{quality-of};
 ghost use Rattle.trials.specs.Kept.{Keeps, listed, onto, room};
-ghost use Rattle.trials.specs.Ranked.{Far, Named, metrics-at, part, trial-at};
+ghost use Rattle.trials.specs.Ranked.{Far, HalfAt, Named, metrics-at, part, trial-at};
 use crate::kept::NODES;
 use crate::kept::ROOM;
 use crate::kept::Trial;
 use crate::kept::insert;
 use plane::metrics::Metrics;
 use plane::metrics::passes;
-use plane::metrics::quad_metrics;
+use plane::metrics::quad_metrics_by;
 use plane::metrics::score;
+use plane::vectors::length;
 use rules::Quality;
+
+// The half of a pair's quads that its first node gives: the edge a b and the side node c at a, with the lengths of a b and c a.
+pub struct Half {
+    pub a: usize,
+    pub b: usize,
+    pub c: usize,
+    pub ab: f64,
+    pub ca: f64,
+}
 
 // Two of the nodes are one, a and b apart.
 fn meets(a: usize, b: usize, c: usize, d: usize) -> bool
@@ -48,16 +58,14 @@ fn rate(
     count: usize,
     y: Quality,
     q: &[f64],
-    a: usize,
-    b: usize,
-    c: usize,
+    h: Half,
     d: usize,
 ) -> usize
     requires { ⌜ (count ≤ y .pairs) × (y .pairs ≤ room) ⌝ }
-    requires { ⌜ Within (now q) a × Within (now q) b × Within (now q) c × Within (now q) d ⌝ }
-    ensures { λ k. ⌜ Keeps (now (scores .exit)) (now (nodes .exit)) (y .pairs) k (take (y .pairs) (onto trial-before (rated (quality-of y) (new-quad a b d c) (metrics-at (now (q .entry)) a b d c)) (listed (now (scores .entry)) (now (nodes .entry)) count))) ⌝ }
+    requires { ⌜ HalfAt (now q) h × Within (now q) d ⌝ }
+    ensures { λ k. ⌜ Keeps (now (scores .exit)) (now (nodes .exit)) (y .pairs) k (take (y .pairs) (onto trial-before (rated (quality-of y) (new-quad (h .a) (h .b) d (h .c)) (metrics-at (now (q .entry)) (h .a) (h .b) d (h .c))) (listed (now (scores .entry)) (now (nodes .entry)) count))) ⌝ }
 {
-    let m = quad_metrics(q, a, b, d, c);
+    let m = quad_metrics_by(q, h.a, h.b, d, h.c, h.ab, h.ca);
     if let Metrics::Absent = m {
         return count;
     }
@@ -66,10 +74,10 @@ fn rate(
     }
     let t = Trial {
         score: score(m),
-        n0: a,
-        n1: b,
+        n0: h.a,
+        n1: h.b,
         n2: d,
-        n3: c,
+        n3: h.c,
     };
     insert(scores, nodes, count, y.pairs, t)
 }
@@ -81,19 +89,17 @@ fn with_pair(
     count: usize,
     y: Quality,
     q: &[f64],
-    a: usize,
-    b: usize,
-    c: usize,
+    h: Half,
     d: usize,
 ) -> usize
     requires { ⌜ (count ≤ y .pairs) × (y .pairs ≤ room) ⌝ }
-    requires { ⌜ Within (now q) a × Within (now q) b × Within (now q) c × Within (now q) d ⌝ }
-    ensures { λ k. ⌜ Keeps (now (scores .exit)) (now (nodes .exit)) (y .pairs) k (take (y .pairs) (onto trial-before (trial-at (quality-of y) (now (q .entry)) a b c d) (listed (now (scores .entry)) (now (nodes .entry)) count))) ⌝ }
+    requires { ⌜ HalfAt (now q) h × Within (now q) d ⌝ }
+    ensures { λ k. ⌜ Keeps (now (scores .exit)) (now (nodes .exit)) (y .pairs) k (take (y .pairs) (onto trial-before (trial-at (quality-of y) (now (q .entry)) (h .a) (h .b) (h .c) d) (listed (now (scores .entry)) (now (nodes .entry)) count))) ⌝ }
 {
-    if meets(a, b, c, d) {
+    if meets(h.a, h.b, h.c, d) {
         return count;
     }
-    rate(scores, nodes, count, y, q, a, b, c, d)
+    rate(scores, nodes, count, y, q, h, d)
 }
 
 // With the pairs of c and each side node at b, the last first.
@@ -106,20 +112,18 @@ fn with_node(
     q: &[f64],
     far_at: usize,
     fars: usize,
-    a: usize,
-    b: usize,
-    c: usize,
+    h: Half,
 ) -> usize
     requires { ⌜ (count ≤ y .pairs) × (y .pairs ≤ room) ⌝ }
-    requires { ⌜ Far (now w) (now q) «far_at» fars a b c ⌝ }
-    ensures { λ k. ⌜ Keeps (now (scores .exit)) (now (nodes .exit)) (y .pairs) k (take (y .pairs) (onto trial-before (flat-map (trial-at (quality-of y) (now (q .entry)) a b c) (part (now (w .entry)) «far_at» fars)) (listed (now (scores .entry)) (now (nodes .entry)) count))) ⌝ }
+    requires { ⌜ Far (now w) (now q) «far_at» fars × HalfAt (now q) h ⌝ }
+    ensures { λ k. ⌜ Keeps (now (scores .exit)) (now (nodes .exit)) (y .pairs) k (take (y .pairs) (onto trial-before (flat-map (trial-at (quality-of y) (now (q .entry)) (h .a) (h .b) (h .c)) (part (now (w .entry)) «far_at» fars)) (listed (now (scores .entry)) (now (nodes .entry)) count))) ⌝ }
 {
     let mut k = count;
     let mut j = fars;
     while 0 < j {
         j -= 1;
         let d = w[far_at + j] as usize;
-        k = with_pair(scores, nodes, k, y, q, a, b, c, d);
+        k = with_pair(scores, nodes, k, y, q, h, d);
     }
     k
 }
@@ -142,12 +146,15 @@ pub fn best(
     requires { ⌜ ((n : ℕ) × Named n (now w) (now q) «near_at» nears «far_at» fars a b) ⌝ }
     ensures { λ k. ⌜ ((m : Mesh) (n : ℕ) → m .points ≡ first-points n (now (q .entry)) → Named n (now (w .entry)) (now (q .entry)) «near_at» nears «far_at» fars a b → Keeps (now (scores .exit)) (now (nodes .exit)) (y .pairs) k (trials (quality-of y) m a b (part (now (w .entry)) «near_at» nears) (part (now (w .entry)) «far_at» fars))) ⌝ }
 {
+    let ab = length(q, a, b);
     let mut k = 0;
     let mut i = nears;
     while 0 < i {
         i -= 1;
         let c = w[near_at + i] as usize;
-        k = with_node(scores, nodes, k, y, w, q, far_at, fars, a, b, c);
+        let ca = length(q, c, a);
+        let h = Half { a, b, c, ab, ca };
+        k = with_node(scores, nodes, k, y, w, q, far_at, fars, h);
     }
     k
 }

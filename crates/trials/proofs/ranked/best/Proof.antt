@@ -4,8 +4,9 @@ use mathlib.Core.List.{[]}
 use Prim.Native.Nat.{suc, _+_, _-_, _<_}
 use native.Mathlib.Omega.{arith}
 use borrow.Author.Needs.{needs}
-use lib.ListN.{length}
+use lib.ListN.{length, getD}
 use Rattle.definition.specs.Lists.{flat-map}
+use Rattle.plane.specs.Points.{Within}
 use Rattle.rules.specs.Settings.{quality-of}
 use Rattle.trials.specs.Ranked.{part, trial-at, length-part, part-at}
 use Rattle.trials.proofs.Rating.{kept-none}
@@ -14,45 +15,61 @@ use Rattle.trials.proofs.ranked.best.Statement.{statement}
 use Rattle.trials.proofs.ranked.best.Tie as tie
 
 abbrev Inv-loop : tie.InvT-loop
-Inv-loop w q scores₀ nodes₀ y near-at nears far-at fars a b k₀ i₀ scores nodes k i = Gone (λ c. flat-map (trial-at (quality-of y) q a b c) (part w far-at fars)) (part w near-at nears) [] (y .pairs) nears scores nodes k i
+Inv-loop w q scores₀ nodes₀ y near-at nears far-at fars a b ab k₀ i₀ scores nodes k i = Gone (λ c. flat-map (trial-at (quality-of y) q a b c) (part w far-at fars)) (part w near-at nears) [] (y .pairs) nears scores nodes k i
 
 abbrev μ-loop : tie.MeasureT-loop
-μ-loop w q scores₀ nodes₀ y near-at nears far-at fars a b k₀ i₀ scores nodes k i = i
+μ-loop w q scores₀ nodes₀ y near-at nears far-at fars a b ab k₀ i₀ scores nodes k i = i
 
 -- the node that is read
-below : (c : tie.In-loop Inv-loop μ-loop) → c .before .loop .i - 1 < c .before .before .before .before .args .nears
+below : (c : tie.In-loop Inv-loop μ-loop) → c .before .loop .i - 1 < c .before .before .before .before .before .args .nears
 below c = omega (arith, c .before .loop .inv .within, c .loop-test .taken)
 
-inside : (c : tie.In-loop Inv-loop μ-loop) → c .before .before .before .before .args .near-at + (c .before .loop .i - 1) < length (c .before .before .before .before .args .w .now)
-inside c = omega (arith, below c, c .before .before .before .before .pre .1 .1 .near)
+inside : (c : tie.In-loop Inv-loop μ-loop) → c .before .before .before .before .before .args .near-at + (c .before .loop .i - 1) < length (c .before .before .before .before .before .args .w .now)
+inside c = omega (arith, below c, c .before .before .before .before .before .pre .1 .1 .near)
 
 loop-holds : tie.Need-loop-holds Inv-loop μ-loop
-loop-holds c = gone-none _ _ _ _ _ (length-part _ _ _ (c .before .before .pre .1 .1 .near)) _ _ _ (kept-none _ _ _)
+loop-holds c = gone-none _ _ _ _ _ (length-part _ _ _ (c .before .before .before .pre .1 .1 .near)) _ _ _ (kept-none _ _ _)
 
 cast-c : tie.Need-cast-c Inv-loop μ-loop
-cast-c c = search (needs, c .shared-slice-known3 .given (c .before .before .before .before .before .args .near-at + (c .before .before .loop .i - 1)))
+cast-c c = search (needs, c .shared-slice-known3 .given (c .before .before .before .before .before .before .args .near-at + (c .before .before .loop .i - 1)))
+
+-- the node that is read is in the slice of points
+within : (c : tie.In-loop Inv-loop μ-loop)
+    → (let args = c .before .before .before .before .before .args in Within (args .q .now) (getD (args .w .now) (args .near-at + (c .before .loop .i - 1)) 0))
+within c = let k = c .before .before .before .before .before .pre .1 .1 in let h = k .near-below _ (below c) in omega (arith, k .points, h)
+
+length-requires : tie.Need-length-requires Inv-loop μ-loop
+length-requires c κs = let k = c .before .before .pre .1 .1 in (omega (arith, k .points, k .a-below), omega (arith, k .points, k .b-below))
+
+length-requires-2 : tie.Need-length-requires-2 Inv-loop μ-loop
+length-requires-2 c κs =
+    let l = c .before in
+    let k = l .before .before .before .before .before .pre .1 .1 in
+    (within l, omega (arith, k .points, k .a-below))
 
 with-node-requires : tie.Need-with-node-requires Inv-loop μ-loop
 with-node-requires c κs =
-    let l = c .before .before .before in
-    let a = l .before .before .before .before in
-    let k = a .pre .1 .1 in
-    let h = k .near-below _ (below l) in (
+    let l = c .before .before .before .before in
+    let a = l .before .before .before .before .before in
+    let k = a .pre .1 .1 in (
       (l .before .loop .inv .so-far .few, a .pre .0),
-      record {
-        stands = k .far;
-        a-within = omega (arith, k .points, k .a-below);
-        b-within = omega (arith, k .points, k .b-below);
-        c-within = omega (arith, k .points, h);
-        within = λ j u. omega (arith, k .points, k .far-below j u);
-      },
+      (
+        record { stands = k .far; within = λ j u. omega (arith, k .points, k .far-below j u) },
+        record {
+          a-within = omega (arith, k .points, k .a-below);
+          b-within = omega (arith, k .points, k .b-below);
+          c-within = within l;
+          edge = l .before .before .length .ensures .1;
+          side = c .before .before .length2 .ensures .1;
+        },
+      ),
     )
 
 loop-again : tie.Need-loop-again Inv-loop μ-loop
 loop-again c =
-    let l = c .before .before .before .before in
+    let l = c .before .before .before .before .before in
     let e : l .before .loop .i ≡ suc (l .before .loop .i - 1) = omega (arith, l .loop-test .taken) in
-    gone-more _ _ _ _ _ (length-part _ _ _ (l .before .before .before .before .pre .1 .1 .near)) _ _ _ _ _ _ _ _ e (l .before .loop .inv) (rw (part-at _ _ _ _ (below l)) (c .with-node .ensures))
+    gone-more _ _ _ _ _ (length-part _ _ _ (l .before .before .before .before .before .pre .1 .1 .near)) _ _ _ _ _ _ _ _ e (l .before .loop .inv) (rw (part-at _ _ _ _ (below l)) (c .with-node .ensures))
 
 returns : tie.Need-returns Inv-loop μ-loop
 returns c =
@@ -64,5 +81,5 @@ pub best-spec : {M : Type 1} → statement M
 best-spec =
     tie.close
     (tie.spec
-    Inv-loop μ-loop loop-holds (λ c. search needs) (λ c. let h = inside c in search needs) (λ c. let h = inside c in search needs)
-    (λ c. inside (c .before)) cast-c with-node-requires (λ c. search needs) loop-again returns)
+    Inv-loop μ-loop length-requires loop-holds (λ c. search needs) (λ c. let h = inside c in search needs) (λ c. let h = inside c in search needs)
+    (λ c. inside (c .before)) cast-c length-requires-2 with-node-requires (λ c. search needs) loop-again returns)

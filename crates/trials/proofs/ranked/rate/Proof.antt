@@ -18,7 +18,9 @@ returns : tie.Need-returns
 unfolding metrics-at metrics-of-enum
 returns c =
     let k = c .before .before in
-    kept-same _ _ _ _ _ (k .before .before .pre .0 .0) (rated-absent _ _ _ (sym (k .quad-metrics .ensures) ∙ ap metrics-of-enum (c .enum-told .given .1)))
+    let a = k .before .before in
+    let p = a .pre .1 .0 in
+    kept-same _ _ _ _ _ (a .pre .0 .0) (rated-absent _ _ _ (sym (k .quad-metrics-by .ensures (p .edge) (p .side)) ∙ ap metrics-of-enum (c .enum-told .given .1)))
 
 returns-2 : tie.Need-returns-2
 unfolding metrics-at
@@ -26,15 +28,16 @@ returns-2 c =
     let k = c .before in
     let a = k .before .before .before .before .before in
     let y = quality-of (a .args .y) in
-    let m = k .before .before .before .quad-metrics .ensures in
+    let m = k .before .before .before .quad-metrics-by .ensures (a .pre .1 .0 .edge) (a .pre .1 .0 .side) in
     kept-same _ _ _ _ _ (a .pre .0 .0) (rated-fails _ _ _ (ap (passes y) (sym m) ∙ sym (k .passes .ensures y refl refl) ∙ not-true _ (c .if1 .taken)))
 
 returns-3 : tie.Need-returns-3
 unfolding metrics-at trial-of quad-of
 returns-3 c =
     let k = c .before .before .before .before .before in
-    let y = quality-of (k .before .before .before .before .before .args .y) in
-    let m = k .before .before .before .quad-metrics .ensures in
+    let a = k .before .before .before .before .before in
+    let y = quality-of (a .args .y) in
+    let m = k .before .before .before .quad-metrics-by .ensures (a .pre .1 .0 .edge) (a .pre .1 .0 .side) in
     let good = ap (passes y) (sym m) ∙ sym (k .passes .ensures y refl refl) ∙ not-false _ (c .before .before .before .before .if1 .left) in
     kept-one _ _ _ _ _ _ _ (c .insert .ensures) (rated-passes _ _ _ _ good (c .before .before .before .score .ensures ∙ ap score m))
 

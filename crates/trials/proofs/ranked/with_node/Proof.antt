@@ -13,14 +13,14 @@ use Rattle.trials.proofs.ranked.with_node.Statement.{statement}
 use Rattle.trials.proofs.ranked.with_node.Tie as tie
 
 abbrev Inv-loop : tie.InvT-loop
-Inv-loop scores₀ nodes₀ count y w q far-at fars a b c k₀ j₀ scores nodes k j = Gone (trial-at (quality-of y) q a b c) (part w far-at fars) (listed scores₀ nodes₀ count) (y .pairs) fars scores nodes k j
+Inv-loop scores₀ nodes₀ count y w q far-at fars h k₀ j₀ scores nodes k j = Gone (trial-at (quality-of y) q (h .a) (h .b) (h .c)) (part w far-at fars) (listed scores₀ nodes₀ count) (y .pairs) fars scores nodes k j
 
 abbrev μ-loop : tie.MeasureT-loop
-μ-loop scores₀ nodes₀ count y w q far-at fars a b c k₀ j₀ scores nodes k j = j
+μ-loop scores₀ nodes₀ count y w q far-at fars h k₀ j₀ scores nodes k j = j
 
 loop-holds : tie.Need-loop-holds Inv-loop μ-loop
 unfolding onto
-loop-holds c = let k = c .before .before in gone-none _ _ _ _ _ (length-part _ _ _ (k .pre .1 .stands)) _ _ _ (kept-same _ _ _ _ [] (k .pre .0 .0) refl)
+loop-holds c = let k = c .before .before in gone-none _ _ _ _ _ (length-part _ _ _ (k .pre .1 .0 .stands)) _ _ _ (kept-same _ _ _ _ [] (k .pre .0 .0) refl)
 
 cast-d : tie.Need-cast-d Inv-loop μ-loop
 cast-d c = search (needs, c .shared-slice-known3 .given (c .before .before .before .before .before .args .far-at + (c .before .before .loop .j - 1)))
@@ -31,7 +31,7 @@ with-pair-requires c κs =
     let k = l .before .before .before .before in
     let h : l .before .loop .j - 1 < k .args .fars = omega (arith, l .before .loop .inv .within, l .loop-test .taken) in
     let p = k .pre .1 in
-    ((l .before .loop .inv .so-far .few, k .pre .0 .1), (p .a-within, p .b-within, p .c-within, p .within _ h))
+    ((l .before .loop .inv .so-far .few, k .pre .0 .1), (p .1, p .0 .within _ h))
 
 loop-again : tie.Need-loop-again Inv-loop μ-loop
 loop-again c =
@@ -39,7 +39,7 @@ loop-again c =
     let k = l .before .before .before .before in
     let h : l .before .loop .j - 1 < k .args .fars = omega (arith, l .before .loop .inv .within, l .loop-test .taken) in
     let e : l .before .loop .j ≡ suc (l .before .loop .j - 1) = omega (arith, l .loop-test .taken) in
-    gone-more _ _ _ _ _ (length-part _ _ _ (k .pre .1 .stands)) _ _ _ _ _ _ _ _ e (l .before .loop .inv) (rw (part-at _ _ _ _ h) (c .with-pair .ensures))
+    gone-more _ _ _ _ _ (length-part _ _ _ (k .pre .1 .0 .stands)) _ _ _ _ _ _ _ _ e (l .before .loop .inv) (rw (part-at _ _ _ _ h) (c .with-pair .ensures))
 
 returns : tie.Need-returns Inv-loop μ-loop
 returns c = gone-all _ _ _ _ _ _ _ _ _ (c .before .loop .inv) (c .loop-test .left)
