@@ -8,7 +8,7 @@ ghost use Prim.Native.Nat.{_*_, _<_};
 ghost use lib.ListN.{length};
 ghost use Rattle.definition.specs.Lists.{all};
 ghost use Rattle.definition.specs.Cells.{Live, Mesh, tri, new-live, key, tri-edges};
-ghost use Rattle.definition.specs.Candidates.{shared-by-tris, passes-by, walls, segment-inside};
+ghost use Rattle.definition.specs.Candidates.{passes-by, walls, segment-inside};
 ghost use Rattle.cells.specs.Rep.{Rep, Pts, TriIn};
 ghost use Rattle.cells.specs.Walk.{IsEdge};
 ghost use Rattle.live_regions.specs.Walls.{wall-mark};
@@ -46,19 +46,7 @@ fn clears(q: &[f64], p: usize, a: usize, b: usize, u: usize, v: usize) -> bool
     passes_by(q, p, a, b, v, u)
 }
 
-// Two triangles share the edge u-v, as is told, or the segment a b does not cross it.
-fn open_edge(q: &[f64], p: usize, a: usize, b: usize, u: usize, v: usize, shared: bool) -> bool
-    requires { ⌜ ((m : Mesh) × Pts (now q) p m × Ends m a b × Ends m u v) ⌝ }
-    requires { ⌜ IsEdge p u v ⌝ }
-    ensures { λ r. ⌜ ((m : Mesh) → Pts (now (q .entry)) p m → Ends m a b → Ends m u v → shared ≡ shared-by-tris m (key u v) → r ≡ open-edge m a b (key u v)) ⌝ }
-{
-    if shared {
-        return true;
-    }
-    clears(q, p, a, b, u, v)
-}
-
-// So for each edge of the triangle in slot i, whose mark f tells its walls.
+// So for each wall of the triangle in slot i, by its mark f.
 fn open_cell(w: &[u32], q: &[f64], s: usize, p: usize, a: usize, b: usize, i: usize, f: u32) -> bool
     requires { ⌜ ((m : Mesh) × Rep (now w) s p m × Pts (now q) p m × Ends m a b × TriIn m i) ⌝ }
     requires { ⌜ i < s ⌝ }
@@ -70,13 +58,20 @@ fn open_cell(w: &[u32], q: &[f64], s: usize, p: usize, a: usize, b: usize, i: us
     let x = node(w, s, i, 0);
     let y = node(w, s, i, 1);
     let z = node(w, s, i, 2);
-    if !open_edge(q, p, a, b, x, y, f % 2 == 0) {
-        return false;
+    if f % 2 != 0 {
+        if !clears(q, p, a, b, x, y) {
+            return false;
+        }
     }
-    if !open_edge(q, p, a, b, y, z, f / 2 % 2 == 0) {
-        return false;
+    if f / 2 % 2 != 0 {
+        if !clears(q, p, a, b, y, z) {
+            return false;
+        }
     }
-    open_edge(q, p, a, b, z, x, f / 4 % 2 == 0)
+    if f / 4 % 2 != 0 {
+        return clears(q, p, a, b, z, x);
+    }
+    true
 }
 
 // The segment a b crosses none of the edges of the region in hand that two triangles do not share.
