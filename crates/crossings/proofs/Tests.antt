@@ -1,15 +1,15 @@
 -- The tests of an edge against a segment, as the code goes about them.
-use mathlib.Core.Path.{_≡_, refl, sym, _∙_, subst}
-use mathlib.Core.Bool.{Bool, true, false, not, _&&_, _||_, true≢false, false≢true}
+use mathlib.Core.Path.{_≡_, refl, ap, sym, _∙_, subst}
+use mathlib.Core.Bool.{Bool, true, false, not, _&&_, _||_, and-false, true≢false, false≢true}
 use mathlib.Core.List.{List}
 use Prim.Native.Nat.{ℕ, _+_, _*_, _<_}
 use native.Mathlib.Omega.{arith}
 use lib.Dec.{eqb}
 use lib.Ieee.{Float, le}
 use Rattle.rings.specs.Rings as rings
-use Rattle.definition.specs.Floats.{_⊘_, _≼_, lesser, greater}
+use Rattle.definition.specs.Floats.{_⊗_, _⊘_, _≺_, _≼_, 0·0, lesser, greater}
 use Rattle.definition.specs.Root.{floor}
-use Rattle.definition.specs.Plane.{segments-cross}
+use Rattle.definition.specs.Plane.{Node, side, parts, segments-cross}
 use Rattle.definition.specs.Cells.{Mesh, node-at, touches}
 use Rattle.definition.specs.Call.{point-at, first-points}
 use Rattle.definition.specs.Flips.{off-edge, bucket-key, ranges-meet, overlaps, is-crossing}
@@ -61,6 +61,17 @@ module _ (q : List Float) (m : Mesh) (u v a b : ℕ) (side : Float) (e : m .buck
 
 -- ---- a crossing
 
+module _ (p q r s : Node) (x : Bool) where
+  -- parted, by the side of the one
+  pub parts-side : (d : Float) → d ≡ side p q r → x ≡ (d ⊗ side p q s ≺ 0·0) → x ≡ parts p q r s
+  unfolding parts
+  parts-side d e h = h ∙ ap (λ (z : Float). z ⊗ side p q s ≺ 0·0) e
+
+  -- the second test, where the first passes
+  pub cross-rest : parts p q r s ≡ true → x ≡ parts r s p q → x ≡ segments-cross p q r s
+  unfolding segments-cross
+  cross-rest h e = rw h e
+
 -- a is an end
 ends-a : (au bu av bv x y : Bool) → (not au && not av) ≡ false → false ≡ (not (au || bu) && not (av || bv) && x && y)
 ends-a true bu av bv x y h = refl
@@ -92,6 +103,10 @@ module _ (m : Mesh) (u v a b : ℕ) where
   pub shares-b : (r : Bool) → r ≡ off-edge (u, v) b → r ≡ false → false ≡ is-crossing m u v (a, b)
   unfolding is-crossing touches off-edge
   shares-b r e h = ends-b (eqb a u) (eqb b u) (eqb a v) (eqb b v) _ _ (sym e ∙ h)
+
+  pub not-parted : (q : List Float) → Four q m u v a b → parts (point-at q u) (point-at q v) (point-at q a) (point-at q b) ≡ false → is-crossing m u v (a, b) ≡ false
+  unfolding is-crossing segments-cross
+  not-parted q f h = rw (f .u-is, f .v-is, f .a-is, f .b-is, h, and-false)
 
   module _ (r : Bool) (e : r ≡ off-edge (u, v) a) (h : r ≡ true) (t : Bool) (f : t ≡ off-edge (u, v) b) (k : t ≡ true) where
     apart-is : is-crossing m u v (a, b)

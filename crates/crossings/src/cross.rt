@@ -8,10 +8,13 @@ use cells::find::node_before;
 use cells::layout::BEFORE;
 use cells::layout::CORNERS;
 use plane::points::at;
-use plane::sides::segments_cross;
+use plane::sides::side;
 use rings::next;
 ghost use mathlib.Core.Path.{_≡_};
+ghost use mathlib.Core.Bool.{true};
 ghost use Prim.Native.Nat.{_≤_, _<_};
+ghost use Rattle.definition.specs.Floats.{_⊗_, _≺_, 0·0};
+ghost use Rattle.definition.specs.Plane.{side, parts};
 ghost use Rattle.definition.specs.Cells.{Mesh, node-at};
 ghost use Rattle.definition.specs.Flips.{off-edge, overlaps, is-crossing};
 ghost use Rattle.plane.specs.Points.{Within};
@@ -56,9 +59,18 @@ fn overlaps(q: &[f64], bucket: f64, u: usize, v: usize, a: usize, b: usize) -> b
     false
 }
 
-// The edge a-b shares no node with the segment u-v, crosses it, and overlaps it in bucket range on both axes.
+// The line from u to v parts the node b from one whose side of it is d.
+fn other_side(q: &[f64], u: usize, v: usize, d: f64, b: usize) -> bool
+    requires { ⌜ Within (now q) u × Within (now q) v × Within (now q) b ⌝ }
+    ensures { λ r. ⌜ (let p = point-at (now (q .entry)) in r ≡ (d ⊗ side (p u) (p v) (p b) ≺ 0·0)) ⌝ }
+{
+    d * side(q, u, v, b) < 0.0
+}
+
+// The edge a-b, whose ends the line from u to v parts, shares no node with the segment u-v, crosses it, and overlaps it in bucket range on both axes.
 fn is_crossing(q: &[f64], bucket: f64, u: usize, v: usize, a: usize, b: usize) -> bool
     requires { ⌜ Within (now q) u × Within (now q) v × Within (now q) a × Within (now q) b ⌝ }
+    requires { ⌜ (let p = point-at (now q) in parts (p u) (p v) (p a) (p b) ≡ true) ⌝ }
     ensures { λ r. ⌜ ((m : Mesh) → m .bucket ≡ bucket → Four (now (q .entry)) m u v a b → r ≡ is-crossing m u v (a, b)) ⌝ }
 {
     if !off_edge(a, u, v) {
@@ -67,13 +79,13 @@ fn is_crossing(q: &[f64], bucket: f64, u: usize, v: usize, a: usize, b: usize) -
     if !off_edge(b, u, v) {
         return false;
     }
-    if !segments_cross(q, u, v, a, b) {
+    if !other_side(q, a, b, side(q, a, b, u), v) {
         return false;
     }
     overlaps(q, bucket, u, v, a, b)
 }
 
-// x where it is above a and below best and the edge a-x crosses u-v, else best.
+// x where it is above a and below best and the edge a-x crosses u-v, else best; d is the side of a.
 fn better_of(
     q: &[f64],
     n: usize,
@@ -81,11 +93,13 @@ fn better_of(
     u: usize,
     v: usize,
     a: usize,
+    d: f64,
     x: usize,
     best: usize,
 ) -> usize
     requires { ⌜ CanTry (now q) n u v a ⌝ }
     requires { ⌜ best ≤ n ⌝ }
+    requires { ⌜ (let p = point-at (now q) in d ≡ side (p u) (p v) (p a)) ⌝ }
     ensures bound { λ r. ⌜ r ≤ best ⌝ }
     ensures is { λ r. ⌜ ((m : Mesh) → Drawn (now (q .entry)) n bucket m → Choice m u v a x best r) ⌝ }
 {
@@ -93,6 +107,9 @@ fn better_of(
         return best;
     }
     if x >= best {
+        return best;
+    }
+    if !other_side(q, u, v, d, x) {
         return best;
     }
     if is_crossing(q, bucket, u, v, a, x) {
@@ -120,11 +137,12 @@ fn least_beside(
     requires { ⌜ a < n ⌝ }
     ensures { λ r. ⌜ ((m : Mesh) → Known (now (w .entry)) (now (q .entry)) s p n bucket m → LeastAt m n u v a r) ⌝ }
 {
+    let d = side(q, u, v, a);
     let mut best = n;
     let mut c = next(w, BEFORE * s, CORNERS * s + p, CORNERS * s + a);
     while c < CORNERS * s {
-        let one = better_of(q, n, bucket, u, v, a, node_after(w, s, c), best);
-        best = better_of(q, n, bucket, u, v, a, node_before(w, s, c), one);
+        let one = better_of(q, n, bucket, u, v, a, d, node_after(w, s, c), best);
+        best = better_of(q, n, bucket, u, v, a, d, node_before(w, s, c), one);
         c = next(w, BEFORE * s, CORNERS * s + p, c);
     }
     best
