@@ -13,19 +13,24 @@ use Rattle.definition.specs.Cells.{Live, Mesh}
 use Rattle.laws.specs.Lists.{numbers-snoc, filter-yes, filter-no, Stored, stored-kept, stored-snoc, stored-take}
 use Rattle.laws.specs.Frames.{on, off, Under}
 use Rattle.side_candidates.proofs.Scans.{in-hand}
-use Rattle.cells.proofs.Slots.{slots-length, rep-held}
-use Rattle.cells.specs.Layout.{mesh-end, marks-at, list-at, near-at, stack-at}
-use Rattle.cells.specs.Rep.{Rep, slots}
+use Rattle.side_candidates.proofs.Keeping.{noted-same}
+use Rattle.cells.proofs.Slots.{slots-length}
+use Rattle.cells.specs.Layout.{mesh-end, list-at, near-at, stack-at}
+use Rattle.cells.specs.Rep.{slots}
 use Rattle.cells.proofs.Corners.{below-at}
 use Rattle.cells.proofs.Frames.{rep-under}
-use Rattle.live_regions.specs.Stack.{Inner, Noted, LiveTo}
+use Rattle.live_regions.specs.Stack.{LiveTo}
 use Rattle.live_regions.proofs.Scratches.{scratch-rep}
-use Rattle.side_candidates.specs.Hand.{InHand}
-use Rattle.edge_candidates.specs.Wishes.{Besides, AddedTo, CanList, WishedTo}
+use Rattle.side_candidates.specs.Hand.{InHand, fenced, KeptTo}
+use Rattle.edge_candidates.specs.Wishes.{Besides, AddedTo, CanList, Wished, WishedTo}
 use Rattle.edge_candidates.specs.declared.wishes.Wish.{Wish}
 use Rattle.edge_candidates.proofs.Givers.{besides-refl, besides-set}
 use Rattle.edge_candidates.proofs.Nears.{wished-kept}
-use Rattle.candidates.specs.Choice.{CanChoose, ChosenTo, CanScan, ScannedTo}
+use Rattle.candidates.specs.Choice.{CanChoose, Spare, ChosenTo, CanScan, CanPick, ScannedTo}
+use Rattle.candidates.specs.Spans.{Spans}
+use Rattle.candidates.specs.Words.{Told, MarkedTo}
+use Rattle.candidates.specs.declared.aim.Known.{Known}
+use Rattle.candidates.specs.declared.spans.Span.{Span}
 
 -- ---- lists of numbers
 
@@ -80,6 +85,9 @@ pub besides-trans : (w w1 w2 : List ℕ) (b p : ℕ) → Besides w w1 b p → Be
 besides-trans w w1 w2 b p h k =
     record { len = k .len ∙ h .len; before = λ i a. k .before i a ∙ h .before i a; behind = λ i a. k .behind i a ∙ h .behind i a }
 
+spare-of : (w w' : List ℕ) (s p b : ℕ) → near-at s p ≤ b → Besides w w' b p → Spare w w' s p b
+spare-of w w' s p b h z = record { len = z .len; mesh = λ i a. z .before i (omega arith); before = λ i a c. z .before i c; behind = λ i a c. z .behind i a }
+
 -- those chosen below v stand from b on
 pub record Listing (w₀ w : List ℕ) (p b v r : ℕ) (f : ℕ → Bool) : Type 0 where
   pub len : r ≡ length (filter f (numbers 0 v))
@@ -126,23 +134,17 @@ module _ (w₀ w : List ℕ) (p b v r : ℕ) (f : ℕ → Bool) (g : Listing w�
   listing-more w' false k e a = subst (λ (x : List ℕ). Listing w₀ x p b (v + 1) k f) (sym (a .text)) (subst (λ (j : ℕ). Listing w₀ w p b (v + 1) j f) (sym (a .count)) (listing-miss (sym e)))
 
 -- it ends at v, where none is chosen from there on
-pub listing-end : (w₀ w : List ℕ) (p n b v r : ℕ) (f : ℕ → Bool) → Listing w₀ w p b v r f → r ≤ v → v ≤ n → ((u : ℕ) → v ≤ u → f u ≡ false) → ScannedTo w₀ w p n b r (filter f (below n))
+pub listing-end : (w₀ w : List ℕ) (s p n b v r : ℕ) (f : ℕ → Bool) → near-at s p ≤ b → Listing w₀ w p b v r f → r ≤ v → v ≤ n → ((u : ℕ) → v ≤ u → f u ≡ false) → ScannedTo w₀ w s p n b r (filter f (below n))
 unfolding below
-listing-end w₀ w p n b v r f g few h none =
+listing-end w₀ w s p n b v r f a g few h none =
     let y = listing-on w₀ w p b v r n f h (λ u a c. none u a) g in
     record {
       len = y .len;
       few = omega arith;
       stored = y .stored;
       known = filter-below n f (numbers 0 n) (numbers-below n 0 n (omega arith));
-      besides = y .besides;
+      spare = spare-of w₀ w s p b a (y .besides);
     }
-
--- noted walls stay with the marks
-noted-same : (w w' : List ℕ) (s p : ℕ) (m : Mesh) (l : List Live) → Rep w s p m → Inner m l → ((i : ℕ) → i < list-at s p → getD w' i 0 ≡ getD w i 0) → Noted w s p m l → Noted w' s p m l
-noted-same w w' s p m [] r i f h = tt
-noted-same w w' s p m (x ∷ l) r i f h =
-    (f (marks-at s p + x .slot) (omega (arith, rep-held w s p m r (i .0) .inside, r .used)) ∙ h .0, noted-same w w' s p m l r (i .2) f (h .1))
 
 -- the region in hand stays
 pub hand-kept : (w w' : List ℕ) (q : List Float) (s p k b n : ℕ) (m : Mesh) (g : List Live) → InHand w q s p k m g → near-at s p ≤ b → Besides w w' b n → InHand w' q s p k m g
@@ -159,31 +161,55 @@ hand-kept w w' q s p k b n m g h f z =
       noted = noted-same w w' s p m g (h .rep) (h .inner) (λ i a. z .before i (omega arith)) (h .noted);
     }
 
-pub besides-sym : (w w' : List ℕ) (b p : ℕ) → Besides w w' b p → Besides w' w b p
-besides-sym w w' b p h = record { len = sym (h .len); before = λ i a. sym (h .before i a); behind = λ i a. sym (h .behind i a) }
+-- what is wanted stays listed
+wish-kept : (w w' : List ℕ) (q : List Float) (s p b i : ℕ) (o : Wish) (m : Mesh) (a other : ℕ) → b + p ≤ i → Besides w w' b p → Wished w q s i o m a other → Wished w' q s i o m a other
+wish-kept w w' q s p b i o m a other h z = wished-kept w w' q s i o m a other (z .len) (λ j f. z .behind j (omega arith))
 
--- what a scan asks stays
-pub scan-kept : (w w' : List ℕ) (q : List Float) (s p k n b a other i : ℕ) (o : Wish) (m : Mesh) (g : List Live) → CanScan w q s p k n b a other i o m g → Besides w w' b p → CanScan w' q s p k n b a other i o m g
-scan-kept w w' q s p k n b a other i o m g h z =
-    record {
-      hand = hand-kept w w' q s p k b p m g (h .hand) (h .from) z;
-      count = h .count;
-      first = h .first;
-      second = h .second;
-      from = h .from;
-      to = h .to;
-      wish = wished-kept w w' q s i o m a other (z .len) (λ j f. z .behind j (omega (arith, f, h .to))) (h .wish);
-    }
+module _ (w w' : List ℕ) (q : List Float) (s p k b a other : ℕ) (o : Known) (g : Span) (m : Mesh) (region : List Live) (h : CanPick w q s p k b a other o g m region) (z : Besides w w' b p) where
+  pub pick-hand : InHand w' q s p k m (filter (fenced m) region)
+  pick-hand = hand-kept w w' q s p k b p m (filter (fenced m) region) (h .hand) (h .from) z
+
+  pub pick-wish : Wished w' q s (o .at) (o .wish) m a other
+  pick-wish = wish-kept w w' q s p b (o .at) (o .wish) m a other (h .to) z (h .wish)
+
+-- what the words told, with the triangles that have no wall gone from the list
+module _ (w w1 w2 : List ℕ) (q : List Float) (s p k j n b a other i : ℕ) (o : Wish) (m : Mesh) (region : List Live) (h : CanScan w q s p k n b a other i o m region) (g : Span) (y : MarkedTo w w1 p b m a region g)
+    (z : KeptTo w1 w2 q s p j m (filter (fenced m) region)) where
+  pub can-pick : (x : Float) → Spans m a region g → CanPick w2 q s p j b a other (record { far = x; at = i; wish = o }) g m region
+  can-pick x f =
+      record {
+        hand = z .hand;
+        end = omega (arith, h .first, h .count);
+        from = h .from;
+        to = h .to;
+        wish = wished-kept w1 w2 q s i o m a other (z .only .len) (λ u c. z .only .high u (omega (arith, c, h .from, h .to))) (wish-kept w w1 q s p b i o m a other (h .to) (y .besides) (h .wish));
+        spans = f;
+        told = λ v c. subst (Told m a region v) (sym (z .only .high (b + v) (omega (arith, h .from)))) (y .told v c);
+      }
+
+  pub scanned-from : (w3 : List ℕ) (r : ℕ) (cs : List ℕ) → ScannedTo w2 w3 s p n b r cs → ScannedTo w w3 s p n b r cs
+  scanned-from w3 r cs c =
+      let t = y .besides in
+      let l = z .only in
+      let d = c .spare in
+      record {
+        len = c .len;
+        few = c .few;
+        stored = c .stored;
+        known = c .known;
+        spare = record {
+          len = d .len ∙ l .len ∙ t .len;
+          mesh = λ u e. d .mesh u e ∙ l .low u (omega arith) ∙ t .before u (omega (arith, h .from));
+          before = λ u e f. d .before u e f ∙ l .high u (omega arith) ∙ t .before u f;
+          behind = λ u e f. d .behind u e f ∙ l .high u (omega (arith, h .from)) ∙ t .behind u e;
+        };
+      }
 
 -- the words from v on stay where a node comes to place r
 pub words-kept : (w₀ w w' : List ℕ) (b r v k : ℕ) (yes : Bool) → r ≤ v → AddedTo w w' b r v yes k → ((u : ℕ) → v ≤ u → getD w (b + u) 0 ≡ getD w₀ (b + u) 0) → (u : ℕ) → v + 1 ≤ u
     → getD w' (b + u) 0 ≡ getD w₀ (b + u) 0
 words-kept w₀ w w' b r v k true h a f u l = ap (λ (x : List ℕ). getD x (b + u) 0) (a .text) ∙ off w (b + r) v (b + u) (omega arith) ∙ f u (omega arith)
 words-kept w₀ w w' b r v k false h a f u l = ap (λ (x : List ℕ). getD x (b + u) 0) (a .text) ∙ f u (omega arith)
-
--- the words were others before
-pub scanned-from : (w w₁ w' : List ℕ) (p n b r : ℕ) (cs : List ℕ) → Besides w w₁ b p → ScannedTo w₁ w' p n b r cs → ScannedTo w w' p n b r cs
-scanned-from w w₁ w' p n b r cs z h = record { len = h .len; few = h .few; stored = h .stored; known = h .known; besides = besides-trans w w₁ w' b p z (h .besides) }
 
 -- ---- the whole search
 
@@ -219,9 +245,9 @@ stored-at w b (x ∷ l) zero h z = let e : b + 0 ≡ b = omega arith in ap (λ (
 stored-at w b (x ∷ l) (suc i) h z = let e : b + suc i ≡ b + 1 + i = omega arith in ap (λ (j : ℕ). getD w j 0) e ∙ stored-at w (b + 1) l i (omega arith) (z .1)
 
 pub chosen-to : (w w1 v w2 : List ℕ) (q : List Float) (s p used n at a other seed k r : ℕ) (m : Mesh) (g : List Live) (cs : List ℕ)
-    → CanChoose w q s p used n at a other seed m → LiveTo w w1 s p k m g → (i : ℕ) → i ≡ stack-at s p → Besides w1 v i (6 * s) → ScannedTo v w2 p n at r cs → ChosenTo w w2 s p n at r cs
+    → CanChoose w q s p used n at a other seed m → LiveTo w w1 s p k m g → (i : ℕ) → i ≡ stack-at s p → Besides w1 v i (6 * s) → ScannedTo v w2 s p n at r cs → ChosenTo w w2 s p n at r cs
 chosen-to w w1 v w2 q s p used n at a other seed k r m g cs c h j e y z =
-    let b = z .besides in
+    let b = z .spare in
     let l3 : length v ≡ length w1 = y .len in
     let sc = h .scratch in
     let l1 : length w1 ≡ length w = sc .len in
@@ -239,8 +265,8 @@ chosen-to w w1 v w2 q s p used n at a other seed k r m g cs c h j e y z =
       below = λ i x. subst (λ (j : ℕ). j < n) (sym (stored-at w2 at cs i (omega arith) (z .stored))) (below-at n cs i (z .known) (omega arith));
       spare = record {
         len = l2 ∙ l3 ∙ l1;
-        mesh = λ i x. b .before i (omega arith) ∙ y .before i (omega arith) ∙ sc .mesh i x;
-        before = λ i x d. b .before i d ∙ y .before i (omega arith) ∙ sc .rest i x (omega arith);
-        behind = λ i x d. b .behind i x ∙ y .before i (omega arith) ∙ sc .rest i (omega arith) d;
+        mesh = λ i x. b .mesh i x ∙ y .before i (omega arith) ∙ sc .mesh i x;
+        before = λ i x d. b .before i x d ∙ y .before i (omega arith) ∙ sc .rest i x (omega arith);
+        behind = λ i x d. b .behind i x d ∙ y .before i (omega arith) ∙ sc .rest i (omega arith) d;
       };
     }

@@ -6,6 +6,7 @@ use Prim.Native.Nat.{ℕ, _+_, _<_, _≤_}
 use lib.ListN.{length, getD, take, drop}
 use lib.Ieee.{Float, binary64, fits}
 use Rattle.rings.specs.Rings.{Below}
+use Rattle.definition.specs.Lists.{filter}
 use Rattle.definition.specs.Floats.{_⊕_, _⊗_, _≺_}
 use Rattle.definition.specs.Numbers.{Quality, Turn, edge-high}
 use Rattle.definition.specs.Root.{sqrt}
@@ -15,10 +16,14 @@ use Rattle.definition.specs.Candidates.{walls, side-candidate}
 use Rattle.laws.specs.Lists.{Stored}
 use Rattle.cells.specs.Layout.{marks-at, refused-at, near-at, stack-at}
 use Rattle.live_regions.specs.Stack.{Lent}
-use Rattle.side_candidates.specs.Hand.{InHand}
+use Rattle.side_candidates.specs.Hand.{InHand, fenced}
 use Rattle.edge_candidates.specs.Wanted.{by-edge}
-use Rattle.edge_candidates.specs.Wishes.{Besides, Wished}
+use Rattle.edge_candidates.specs.Wishes.{Wished}
 use Rattle.edge_candidates.specs.declared.wishes.Wish.{Wish}
+use Rattle.candidates.specs.Spans.{In, Spans}
+use Rattle.candidates.specs.Words.{Told}
+use Rattle.candidates.specs.declared.aim.Known.{Known}
+use Rattle.candidates.specs.declared.spans.Span.{Span}
 
 -- what a search for the side nodes of a asks: the mesh in lent memory, nodes and a seed, and p words from `at` on between the candidates' areas
 pub record CanChoose (w : List ℕ) (q : List Float) (s p used n at a other seed : ℕ) (m : Mesh) : Type 0 where
@@ -76,10 +81,20 @@ pub record CanScan (w : List ℕ) (q : List Float) (s p k n at a other i : ℕ) 
   pub to : at + p ≤ i
   pub wish : Wished w q s i o m a other
 
+-- the region's triangles with a wall are in hand, and the words from `at` on tell of the nodes of a span that has all side nodes
+pub record CanPick (w : List ℕ) (q : List Float) (s p k at a other : ℕ) (o : Known) (g : Span) (m : Mesh) (region : List Live) : Type 0 where
+  pub hand : InHand w q s p k m (filter (fenced m) region)
+  pub end : a < length (m .points)
+  pub from : near-at s p ≤ at
+  pub to : at + p ≤ o .at
+  pub wish : Wished w q s (o .at) (o .wish) m a other
+  pub spans : Spans m a region g
+  pub told : (v : ℕ) → In g v → Told m a region v (getD w (at + v) 0)
+
 -- the r nodes cs stand from b on
-pub record ScannedTo (w w' : List ℕ) (p n b r : ℕ) (cs : List ℕ) : Type 0 where
+pub record ScannedTo (w w' : List ℕ) (s p n b r : ℕ) (cs : List ℕ) : Type 0 where
   pub len : r ≡ length cs
   pub few : r ≤ n
   pub stored : Stored w' b cs
   pub known : Below n cs
-  pub besides : Besides w w' b p
+  pub spare : Spare w w' s p b

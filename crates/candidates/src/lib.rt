@@ -6,6 +6,7 @@ mod spans;
 use crate::aim::Aim;
 use crate::aim::Known;
 use crate::marks::mark_nodes;
+use crate::spans::Span;
 use crate::spans::span_for;
 use cells::layout::stack_at;
 use edge_candidates::EDGE_HIGH;
@@ -20,6 +21,7 @@ use plane::vectors::Vec;
 use plane::vectors::from_to;
 use plane::vectors::norm;
 use rules::Quality;
+use side_candidates::inside::keep_walls;
 use side_candidates::sides::ahead;
 use side_candidates::sides::in_view;
 ghost use mathlib.Core.Path.{_≡_};
@@ -34,13 +36,13 @@ ghost use Rattle.definition.specs.Candidates.{live-region, candidates};
 ghost use Rattle.plane.specs.Vectors.{vec};
 ghost use Rattle.rules.specs.Settings.{quality-of};
 ghost use Rattle.live_regions.specs.Stack.{Lent, LiveTo};
-ghost use Rattle.side_candidates.specs.Hand.{InHand, Ends};
+ghost use Rattle.side_candidates.specs.Hand.{InHand, fenced, Ends};
 ghost use Rattle.cells.specs.Rep.{Rep, Pts};
 ghost use Rattle.edge_candidates.specs.Wanted.{turn, At, by-edge};
 ghost use Rattle.edge_candidates.specs.Wishes.{Wished};
 ghost use Rattle.candidates.specs.Spans.{Beside};
 ghost use Rattle.candidates.specs.Words.{Told};
-ghost use Rattle.candidates.specs.Choice.{CanChoose, ChosenTo, too-far, square, FarFrom, is-choice, CanScan, ScannedTo};
+ghost use Rattle.candidates.specs.Choice.{CanChoose, ChosenTo, too-far, square, FarFrom, is-choice, CanScan, CanPick, ScannedTo};
 
 // Side nodes are looked for within the set's high factor and this many targets more.
 pub const SIDE_MARGIN: f64 = 0.8;
@@ -114,7 +116,7 @@ fn by_edge(
     )
 }
 
-// v is a side node: an edge candidate, or a side candidate in the region of k triangles in hand, where its word `here` is odd. A node that is too far is none, which is found out first.
+// v is a side node: an edge candidate, or a side candidate in the region, where its word `here` is odd. A node that is too far is none, which is found out first. The k triangles of the region that have a wall are in hand.
 fn is_choice(
     w: &[u32],
     q: &[f64],
@@ -126,9 +128,9 @@ fn is_choice(
     v: usize,
     here: u32,
 ) -> bool
-    requires { ⌜ ((m : Mesh) × (region : List Live) × InHand (now w) (now q) s p k m region × Wished (now w) (now q) s (o .at) (o .wish) m (aim .end) (aim .other) × Ends m (aim .end) v × Told m (aim .end) region v here) ⌝ }
+    requires { ⌜ ((m : Mesh) × (region : List Live) × InHand (now w) (now q) s p k m (filter (fenced m) region) × Wished (now w) (now q) s (o .at) (o .wish) m (aim .end) (aim .other) × Ends m (aim .end) v × Told m (aim .end) region v here) ⌝ }
     requires { ⌜ FarFrom (quality-of (aim .quality)) (o .far) (aim .target) ⌝ }
-    ensures { λ r. ⌜ ((m : Mesh) (region : List Live) → InHand (now (w .entry)) (now (q .entry)) s p k m region → Wished (now (w .entry)) (now (q .entry)) s (o .at) (o .wish) m (aim .end) (aim .other) → Ends m (aim .end) v → Told m (aim .end) region v here → r ≡ is-choice (quality-of (aim .quality)) (turn (aim .left)) m (aim .end) (aim .other) (vec (aim .normal)) (aim .target) region v) ⌝ }
+    ensures { λ r. ⌜ ((m : Mesh) (region : List Live) → InHand (now (w .entry)) (now (q .entry)) s p k m (filter (fenced m) region) → Wished (now (w .entry)) (now (q .entry)) s (o .at) (o .wish) m (aim .end) (aim .other) → Ends m (aim .end) v → Told m (aim .end) region v here → r ≡ is-choice (quality-of (aim .quality)) (turn (aim .left)) m (aim .end) (aim .other) (vec (aim .normal)) (aim .target) region v) ⌝ }
 {
     if by_edge(w, q, s, p, aim, o, v, here) {
         return true;
@@ -146,7 +148,33 @@ fn is_choice(
     in_view(w, q, s, p, k, aim.end, aim.other, v)
 }
 
-// The side nodes, with the region of k triangles in hand and what is wanted listed from i on, ascending, come to b; how many they are. Only nodes of that region and nodes that have an edge with the end can be such: words from b on tell them, each until a side node may stand there.
+// The side nodes, all in the span g, ascending, come to b; how many they are. The k triangles of the region that have a wall are in hand, and words from b on tell of the nodes of the span, each until a side node may stand there.
+fn pick(
+    w: &mut [u32],
+    q: &[f64],
+    s: usize,
+    p: usize,
+    k: usize,
+    b: usize,
+    aim: Aim,
+    o: Known,
+    g: Span,
+) -> usize
+    requires { ⌜ ((m : Mesh) × (region : List Live) × CanPick (now w) (now q) s p k b (aim .end) (aim .other) o g m region) ⌝ }
+    requires { ⌜ FarFrom (quality-of (aim .quality)) (o .far) (aim .target) ⌝ }
+    ensures { λ r. ⌜ ((m : Mesh) (region : List Live) → CanPick (now (w .entry)) (now (q .entry)) s p k b (aim .end) (aim .other) o g m region → ScannedTo (now (w .entry)) (now (w .exit)) s p (length (m .points)) b r (filter (is-choice (quality-of (aim .quality)) (turn (aim .left)) m (aim .end) (aim .other) (vec (aim .normal)) (aim .target) region) (below (length (m .points))))) ⌝ }
+{
+    let mut r: usize = 0;
+    let mut v: usize = g.low;
+    while v <= g.high {
+        let yes = is_choice(w, q, s, p, k, aim, o, v, w[b + v]);
+        r = add(w, b, r, v, yes);
+        v += 1;
+    }
+    r
+}
+
+// The side nodes, with the region of k triangles in hand and what is wanted listed from i on, ascending, come to b; how many they are. Only nodes of that region and nodes that have an edge with the end can be such.
 fn scan(
     w: &mut [u32],
     q: &[f64],
@@ -160,23 +188,17 @@ fn scan(
     o: Wish,
 ) -> usize
     requires { ⌜ ((m : Mesh) × (region : List Live) × CanScan (now w) (now q) s p k n b (aim .end) (aim .other) i o m region) ⌝ }
-    ensures { λ r. ⌜ ((m : Mesh) (region : List Live) → CanScan (now (w .entry)) (now (q .entry)) s p k n b (aim .end) (aim .other) i o m region → ScannedTo (now (w .entry)) (now (w .exit)) p n b r (filter (is-choice (quality-of (aim .quality)) (turn (aim .left)) m (aim .end) (aim .other) (vec (aim .normal)) (aim .target) region) (below n))) ⌝ }
+    ensures { λ r. ⌜ ((m : Mesh) (region : List Live) → CanScan (now (w .entry)) (now (q .entry)) s p k n b (aim .end) (aim .other) i o m region → ScannedTo (now (w .entry)) (now (w .exit)) s p n b r (filter (is-choice (quality-of (aim .quality)) (turn (aim .left)) m (aim .end) (aim .other) (vec (aim .normal)) (aim .target) region) (below n))) ⌝ }
 {
     let g = span_for(w, s, p, k, aim.end);
     mark_nodes(w, s, p, k, b, aim.end, g);
+    let fenced = keep_walls(w, s, p, k);
     let known = Known {
         far: far_square(aim.quality, aim.target),
         at: i,
         wish: o,
     };
-    let mut r: usize = 0;
-    let mut v: usize = g.low;
-    while v <= g.high {
-        let yes = is_choice(w, q, s, p, k, aim, known, v, w[b + v]);
-        r = add(w, b, r, v, yes);
-        v += 1;
-    }
-    r
+    pick(w, q, s, p, fenced, b, aim, known, g)
 }
 
 // The live region around the node a that its side nodes are looked for in; how many triangles it has.

@@ -1,3 +1,4 @@
 pub mod Fences
 pub mod Scans
+pub mod Keeping
 pub mod Aheads

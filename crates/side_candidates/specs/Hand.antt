@@ -11,8 +11,10 @@ use Rattle.definition.specs.Lists.{any}
 use Rattle.definition.specs.Cells.{Live, Mesh, has-node}
 use Rattle.definition.specs.Candidates.{shared-by-tris, passes-by, walls, segment-inside}
 use Rattle.laws.specs.Lists.{Stored}
-use Rattle.cells.specs.Layout.{list-at}
+use Rattle.laws.specs.Frames.{Only}
+use Rattle.cells.specs.Layout.{list-at, refused-at}
 use Rattle.cells.specs.Rep.{Rep, Pts, slots}
+use Rattle.live_regions.specs.Walls.{wall-mark}
 use Rattle.live_regions.specs.Stack.{Inner, Noted}
 
 -- the slices stand for the mesh, and the list has the n triangles of the region, whose marks tell their walls
@@ -24,6 +26,15 @@ pub record InHand (w : List ℕ) (q : List Float) (s p n : ℕ) (m : Mesh) (regi
   pub stored : Stored w (list-at s p) (slots region)
   pub inner : Inner m region
   pub noted : Noted w s p m region
+
+-- a triangle with a wall: its mark is not 8
+unfoldable pub fenced : Mesh → Live → Bool
+fenced m x = not (eqb (wall-mark m x) 8)
+
+-- the list has the r triangles of the region now, and nothing but words of the list changed
+pub record KeptTo (w w' : List ℕ) (q : List Float) (s p r : ℕ) (m : Mesh) (region : List Live) : Type 0 where
+  pub hand : InHand w' q s p r m region
+  pub only : Only w w' (list-at s p) (refused-at s p)
 
 -- the ends of a segment are nodes of the mesh
 pub record Ends (m : Mesh) (a b : ℕ) : Type 0 where

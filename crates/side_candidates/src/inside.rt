@@ -1,18 +1,21 @@
 // The segment between two nodes stays inside the region in hand.
 use cells::find::node;
+use cells::layout::list_at;
+use cells::layout::marks_at;
 use plane::sides::segments_cross;
 use rings::wide;
 ghost use mathlib.Core.Path.{_≡_};
 ghost use mathlib.Core.List.{List};
 ghost use Prim.Native.Nat.{_*_, _<_};
 ghost use lib.ListN.{length};
-ghost use Rattle.definition.specs.Lists.{all};
+ghost use lib.Ieee.{Float};
+ghost use Rattle.definition.specs.Lists.{filter, all};
 ghost use Rattle.definition.specs.Cells.{Live, Mesh, tri, new-live, key, tri-edges};
 ghost use Rattle.definition.specs.Candidates.{passes-by, walls, segment-inside};
 ghost use Rattle.cells.specs.Rep.{Rep, Pts, TriIn};
 ghost use Rattle.cells.specs.Walk.{IsEdge};
 ghost use Rattle.live_regions.specs.Walls.{wall-mark};
-ghost use Rattle.side_candidates.specs.Hand.{InHand, Ends, open-edge};
+ghost use Rattle.side_candidates.specs.Hand.{InHand, fenced, KeptTo, Ends, open-edge};
 
 // The segment a b does not cross the edge from u to v, unless they share a node.
 fn passes_by(q: &[f64], p: usize, a: usize, b: usize, u: usize, v: usize) -> bool
@@ -96,4 +99,25 @@ pub fn segment_inside(
         k += 1;
     }
     true
+}
+
+// Of the region of k triangles in hand those with a wall are kept, in their order; how many they are. A segment is tried against no others.
+pub fn keep_walls(w: &mut [u32], s: usize, p: usize, k: usize) -> usize
+    requires { ⌜ ((q : List Float) × (m : Mesh) × (region : List Live) × InHand (now w) q s p k m region) ⌝ }
+    ensures { λ r. ⌜ ((q : List Float) (m : Mesh) (region : List Live) → InHand (now (w .entry)) q s p k m region → KeptTo (now (w .entry)) (now (w .exit)) q s p r m (filter (fenced m) region)) ⌝ }
+{
+    let at = list_at(s, p);
+    let marks = marks_at(s, p);
+    let mut r: usize = 0;
+    let mut i: usize = 0;
+    while i < k {
+        let c = w[at + i];
+        let f = w[marks + wide(c)];
+        i += 1;
+        if f != 8 {
+            w[at + r] = c;
+            r += 1;
+        }
+    }
+    r
 }

@@ -8,12 +8,12 @@ use rules::Quality;
 ghost use mathlib.Core.Path.{_≡_};
 ghost use mathlib.Core.Bool.{true};
 ghost use mathlib.Core.List.{List};
-ghost use Rattle.definition.specs.Lists.{any};
+ghost use Rattle.definition.specs.Lists.{filter, any};
 ghost use Rattle.definition.specs.Cells.{Live, Mesh, has-node};
 ghost use Rattle.definition.specs.Candidates.{ahead};
 ghost use Rattle.plane.specs.Vectors.{vec};
 ghost use Rattle.rules.specs.Settings.{quality-of};
-ghost use Rattle.side_candidates.specs.Hand.{InHand, Ends, in-view};
+ghost use Rattle.side_candidates.specs.Hand.{InHand, fenced, Ends, in-view};
 
 // A side node: its way along the normal in targets, its way across in ways along.
 pub const SIDE_ALONG: f64 = 0.25;
@@ -38,7 +38,7 @@ pub fn ahead(y: Quality, n: Vec, d: Vec, target: f64) -> bool
     !(far > y.side_high * target)
 }
 
-// The node v of the region in hand is another than the two ends, and the segment from a stays inside.
+// The node v of the region, of which the triangles with a wall are in hand, is another than the two ends, and the segment from a stays inside.
 pub fn in_view(
     w: &[u32],
     q: &[f64],
@@ -49,8 +49,8 @@ pub fn in_view(
     other: usize,
     v: usize,
 ) -> bool
-    requires { ⌜ ((m : Mesh) × (region : List Live) × InHand (now w) (now q) s p k m region × Ends m a v) ⌝ }
-    ensures { λ r. ⌜ ((m : Mesh) (region : List Live) → InHand (now (w .entry)) (now (q .entry)) s p k m region → Ends m a v → any (has-node v) region ≡ true → r ≡ in-view m a other region v) ⌝ }
+    requires { ⌜ ((m : Mesh) × (region : List Live) × InHand (now w) (now q) s p k m (filter (fenced m) region) × Ends m a v) ⌝ }
+    ensures { λ r. ⌜ ((m : Mesh) (region : List Live) → InHand (now (w .entry)) (now (q .entry)) s p k m (filter (fenced m) region) → Ends m a v → any (has-node v) region ≡ true → r ≡ in-view m a other region v) ⌝ }
 {
     if v == a {
         return false;
