@@ -24,7 +24,7 @@ use Rattle.live_regions.proofs.Scratches.{scratch-rep}
 use Rattle.side_candidates.specs.Hand.{InHand, fenced, KeptTo}
 use Rattle.edge_candidates.specs.Wishes.{Besides, AddedTo, CanList, Wished, WishedTo}
 use Rattle.edge_candidates.specs.declared.wishes.Wish.{Wish}
-use Rattle.edge_candidates.proofs.Givers.{besides-refl, besides-set}
+use Rattle.edge_candidates.proofs.Givers.{besides-refl, besides-set, besides-trans}
 use Rattle.edge_candidates.proofs.Nears.{wished-kept}
 use Rattle.candidates.specs.Choice.{CanChoose, Spare, ChosenTo, CanScan, CanPick, ScannedTo}
 use Rattle.candidates.specs.Spans.{Spans}
@@ -80,10 +80,6 @@ grow-none f v (suc d) h =
     ap (λ (j : ℕ). filter f (numbers 0 j)) e ∙ grow-miss f (v + d) (h (v + d) (omega arith) (omega arith)) ∙ grow-none f v d (λ u a b. h u a (omega arith))
 
 -- ---- the scan
-
-pub besides-trans : (w w1 w2 : List ℕ) (b p : ℕ) → Besides w w1 b p → Besides w1 w2 b p → Besides w w2 b p
-besides-trans w w1 w2 b p h k =
-    record { len = k .len ∙ h .len; before = λ i a. k .before i a ∙ h .before i a; behind = λ i a. k .behind i a ∙ h .behind i a }
 
 spare-of : (w w' : List ℕ) (s p b : ℕ) → near-at s p ≤ b → Besides w w' b p → Spare w w' s p b
 spare-of w w' s p b h z = record { len = z .len; mesh = λ i a. z .before i (omega arith); before = λ i a c. z .before i c; behind = λ i a c. z .behind i a }

@@ -21,10 +21,9 @@ use Rattle.side_candidates.specs.Hand.{InHand}
 use Rattle.side_candidates.proofs.Scans.{Scan, Spot, scan-start, spot-has}
 use Rattle.edge_candidates.specs.Wishes.{Besides}
 use Rattle.edge_candidates.proofs.Around.{Around, around-start, around-after, around-before, around-read, around-more, around-end, around-less}
-use Rattle.edge_candidates.proofs.Givers.{besides-refl, besides-set, rep-besides, read-kept, after-kept, before-kept}
+use Rattle.edge_candidates.proofs.Givers.{besides-refl, besides-set, rep-besides, read-kept, after-kept, before-kept, besides-trans}
 use Rattle.candidates.specs.Words.{Spare, CanMark, Cleared, Put, of-region, Risen, Raised, RaisedBy, Told, MarkedTo}
 use Rattle.candidates.specs.declared.spans.Span.{Span}
-use Rattle.candidates.proofs.Lists.{besides-trans}
 use Rattle.candidates.proofs.Growth.{bare}
 
 pub spare-kept : (w w' : List ℕ) (p b : ℕ) → length w' ≡ length w → Spare w p b → Spare w' p b

@@ -7,7 +7,7 @@ use cells::layout::BEFORE;
 use cells::layout::CORNERS;
 use cells::layout::list_at;
 use rings::next;
-use rings::wide;
+use words::wide;
 ghost use mathlib.Core.List.{List};
 ghost use Prim.Native.Nat.{_<_};
 ghost use lib.Dec.{eqb};

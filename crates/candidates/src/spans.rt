@@ -6,11 +6,13 @@ use cells::layout::BEFORE;
 use cells::layout::CORNERS;
 use cells::layout::list_at;
 use rings::next;
-use rings::wide;
+use words::greater;
+use words::lesser;
+use words::wide;
 ghost use mathlib.Core.Path.{_≡_};
 ghost use mathlib.Core.Bool.{true};
 ghost use mathlib.Core.List.{List};
-ghost use Prim.Native.Nat.{_<_, min, max};
+ghost use Prim.Native.Nat.{_<_};
 ghost use lib.ListN.{length};
 ghost use lib.Ieee.{Float};
 ghost use Rattle.definition.specs.Cells.{Live, Mesh};
@@ -22,26 +24,6 @@ ghost use Rattle.candidates.specs.Spans.{Widens, Grows, OfTri, OfRegion,
 pub struct Span {
     pub low: usize,
     pub high: usize,
-}
-
-// The lesser of two numbers.
-fn lesser(x: usize, y: usize) -> usize
-    ensures { λ r. ⌜ r ≡ min x y ⌝ }
-{
-    if x < y {
-        return x;
-    }
-    y
-}
-
-// The greater one.
-fn greater(x: usize, y: usize) -> usize
-    ensures { λ r. ⌜ r ≡ max x y ⌝ }
-{
-    if x < y {
-        return y;
-    }
-    x
 }
 
 // The span with v in it.

@@ -24,6 +24,10 @@ pub held-tri : (w : List ℕ) (s k n : ℕ) (x : Live) → Held w s k n x → eq
 unfolding live-tri
 held-tri w s k n x h = kind-tri w s (x .slot) (x .cell) (h .at)
 
+pub one-most : (b : Bool) → one-if b ≤ 1
+one-most true = omega arith
+one-most false = omega arith
+
 pub tri-more : (x : Live) (l : List Live) → length (filter live-tri (x ∷ l)) ≡ one-if (live-tri x) + length (filter live-tri l)
 tri-more x l = go (live-tri x) refl
   where

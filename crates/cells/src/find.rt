@@ -4,7 +4,7 @@ use crate::layout::CORNERS;
 use crate::layout::fronts_at;
 use crate::layout::notes_at;
 use rings::next;
-use rings::wide;
+use words::wide;
 ghost use mathlib.Core.Path.{_≡_};
 ghost use mathlib.Core.Bool.{true};
 ghost use mathlib.Core.List.{List, [], _∷_};

@@ -5,7 +5,7 @@ use cells::layout::CORNERS;
 use regions::lists::append;
 use regions::lists::mark;
 use rings::next;
-use rings::wide;
+use words::wide;
 ghost use mathlib.Core.Path.{_≡_};
 ghost use mathlib.Core.Bool.{_||_};
 ghost use mathlib.Core.List.{List};

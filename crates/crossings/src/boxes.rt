@@ -9,7 +9,7 @@ use cells::layout::notes_at;
 use plane::points::Spot;
 use plane::points::at;
 use rings::next;
-use rings::wide;
+use words::wide;
 ghost use mathlib.Core.Path.{_≡_};
 ghost use mathlib.Core.Bool.{true};
 ghost use Prim.Native.Nat.{_^_, _≤_, _<_};

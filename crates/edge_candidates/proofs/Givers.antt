@@ -16,6 +16,7 @@ use Rattle.cells.specs.Layout.{rings-at, mesh-end}
 use Rattle.cells.specs.Rep.{Rep, Cells, corners, slots}
 use Rattle.cells.specs.Walk.{one-if, after, before, node-after, node-before, CanRead, left}
 use Rattle.cells.proofs.Frames.{rep-under}
+use Rattle.cells.proofs.Fronts.{one-most}
 use Rattle.cells.proofs.Views as views
 use Rattle.cells.proofs.Walks.{start, pos-walk}
 use Rattle.cells.proofs.Slots.{slots-below}
@@ -43,13 +44,9 @@ besides-set w₀ w p b r v h k =
 pub besides-trans : (w w1 w2 : List ℕ) (b p : ℕ) → Besides w w1 b p → Besides w1 w2 b p → Besides w w2 b p
 besides-trans w w1 w2 b p f g = record { len = g .len ∙ f .len; before = λ i h. g .before i h ∙ f .before i h; behind = λ i h. g .behind i h ∙ f .behind i h }
 
-one-or-none : (y : Bool) → one-if y ≤ 1
-one-or-none true = omega arith
-one-or-none false = omega arith
-
 module _ (w w' : List ℕ) (q : List Float) (s a other b : ℕ) (m : Mesh) (u : Vec) (g : Found) (v : ℕ) (h : Found) (n : NodeTo w w' q s a other b m u g v h) where
   node-most : h .count ≤ g .count + 1
-  node-most = omega (arith, n .count, one-or-none (gives m a other u v))
+  node-most = omega (arith, n .count, one-most (gives m a other u v))
 
   node-place : (x : ℕ) → Place w b (g .count) x → Place w' b (h .count) x
   node-place x z = record { i = z .i; inside = omega (arith, n .count, z .inside); is = n .same (z .i) (z .inside) ∙ z .is }

@@ -1,17 +1,17 @@
 // Edge candidates at an end of a front edge: the edges near an ideal, which is a direction in which a side is wanted.
+mod doubles;
 pub mod wishes;
-mod words;
 
+use crate::doubles::get;
 use crate::wishes::Wish;
 use crate::wishes::ideal_toward;
-use crate::words::get;
 use cells::find::tri_around;
 use plane::vectors::Vec;
 use plane::vectors::dot;
 use plane::vectors::from_to;
 use plane::vectors::norm;
 use plane::vectors::over;
-use rings::wide;
+use words::wide;
 ghost use mathlib.Core.Path.{_≡_};
 ghost use mathlib.Core.Bool.{true, _||_};
 ghost use Prim.Native.Nat.{ℕ, _+_, _≤_};

@@ -1,6 +1,6 @@
 // What is wanted at an end of a front edge, worked out once for all candidates: the nodes whose front edges give an ideal are listed, and the ideals of the first of them are kept as they are found.
-use crate::words::is_number;
-use crate::words::put;
+use crate::doubles::is_number;
+use crate::doubles::put;
 use cells::find::is_front_around;
 use cells::find::node_after;
 use cells::find::node_before;

@@ -3,7 +3,7 @@ use cells::layout::front_u_at;
 use cells::layout::front_v_at;
 use cells::layout::order_at;
 use plane::vectors::length;
-use rings::wide;
+use words::wide;
 ghost use mathlib.Core.Path.{_≡_};
 ghost use Prim.Native.Nat.{_+_};
 ghost use lib.ListN as listn;

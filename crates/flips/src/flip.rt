@@ -9,6 +9,7 @@ use crossings::cross::off_edge;
 use joints::locked;
 use meshes::store::set_tri;
 use plane::sides::apart;
+use words::lesser;
 ghost use mathlib.Core.Path.{_≡_};
 ghost use Prim.Native.Nat.{_≤_};
 ghost use Rattle.definition.specs.Cells.{Mesh};
@@ -125,16 +126,6 @@ fn convex_pair(q: &[f64], u: usize, v: usize, x: usize, y: usize) -> bool
         return apart(q, x, y, u, v);
     }
     false
-}
-
-// The lesser of two nodes.
-fn lesser(x: usize, y: usize) -> usize
-    ensures { λ r. ⌜ (r ≤ x) × (r ≤ y) ⌝ }
-{
-    if x < y {
-        return x;
-    }
-    y
 }
 
 // A node below which a flip of the edge u-v makes no new edge, not above u: the least of u and of the diagonal's ends; 0 where there is no flip.

@@ -4,7 +4,7 @@ use cells::find::next_owner;
 use cells::find::node;
 use rings::link;
 use rings::unlink;
-use rings::wide;
+use words::wide;
 ghost use mathlib.Core.Path.{_≡_};
 ghost use mathlib.Core.Bool.{true};
 ghost use mathlib.Core.List.{List, [], _∷_, _++_};

@@ -8,7 +8,7 @@ use cells::layout::front_u_at;
 use cells::layout::front_used_at;
 use cells::layout::front_v_at;
 use cells::layout::starts_at;
-use rings::wide;
+use words::wide;
 ghost use mathlib.Core.List.{List};
 ghost use Prim.Native.Nat.{ℕ};
 ghost use Rattle.definition.specs.Plane.{Edge};

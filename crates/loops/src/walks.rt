@@ -5,7 +5,7 @@ use cells::layout::front_used_at;
 use cells::layout::front_v_at;
 use cells::layout::heads_at;
 use cells::layout::order_at;
-use rings::wide;
+use words::wide;
 ghost use mathlib.Core.Path.{_≡_};
 ghost use mathlib.Core.List.{List};
 ghost use Prim.Native.Nat.{ℕ, suc, _<_};

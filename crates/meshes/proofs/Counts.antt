@@ -13,7 +13,7 @@ use Rattle.definition.specs.Cells.{Cell, Live, Mesh, new-live, is-tri, live-tri
 use Rattle.cells.proofs.Slots.{slot-hit, slot-miss, slots-below}
 use Rattle.cells.specs.Rep.{slots, Has, here, there, Rep}
 use Rattle.cells.specs.Walk.{one-if}
-use Rattle.cells.proofs.Fronts.{tri-more}
+use Rattle.cells.proofs.Fronts.{one-most, tri-more}
 
 tris-append : (l k : List Live) → length (filter live-tri (l ++ k)) ≡ length (filter live-tri l) + length (filter live-tri k)
 unfolding filter
@@ -56,10 +56,6 @@ live-set m x t d h =
     omega (arith, tris-append (without (x .slot) (m .live)) (new-live (x .slot) t ∷ []), tris-one (x .slot) t, tris-without (m .live) x d h)
 
 -- ---- live triangles are at most the slots given out
-
-one-most : (b : Bool) → one-if b ≤ 1
-one-most true = omega arith
-one-most false = omega arith
 
 tris-few : (l : List Live) → length (filter live-tri l) ≤ length (slots l)
 unfolding filter

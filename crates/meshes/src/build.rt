@@ -7,7 +7,7 @@ use cells::layout::CORNERS;
 use cells::layout::even_at;
 use cells::layout::notes_at;
 use rings::open;
-use rings::wide;
+use words::wide;
 ghost use Rattle.cells.specs.Rep.{Room};
 ghost use Rattle.meshes.specs.Build.{CanBuild, Builds, Empties};
 

@@ -5,7 +5,7 @@ use cells::layout::CORNERS;
 use cells::layout::notes_at;
 use rings::link;
 use rings::unlink;
-use rings::wide;
+use words::wide;
 ghost use Prim.Native.Nat.{ℕ, _<_};
 ghost use Rattle.definition.specs.Plane.{Edge};
 ghost use Rattle.definition.specs.Cells.{Mesh, quad, push-cell, set-cell, remove-cell};

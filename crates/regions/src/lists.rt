@@ -2,7 +2,7 @@
 use cells::clear::clear_range;
 use cells::layout::list_at;
 use cells::layout::marks_at;
-use rings::wide;
+use words::wide;
 ghost use mathlib.Core.Path.{_≡_};
 ghost use Prim.Native.Nat.{_+_};
 ghost use lib.ListN.{getD, set};

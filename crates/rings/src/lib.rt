@@ -1,13 +1,7 @@
 // Circular lists of codes 0 .. n in a part of a slice: next[] of n codes stands at b, prev[] at b + n.
+use words::wide;
 ghost use Rattle.rings.specs.Rings.{nx, CanRead, CanOpen, CanLink, CanUnlink, OpenedFrom, LinkedTo, UnlinkedFrom};
 ghost use mathlib.Core.Path.{_≡_};
-
-// A number of the slice as an index.
-pub fn wide(x: u32) -> usize
-    ensures { λ r. ⌜ r ≡ x ⌝ }
-{
-    x as usize
-}
 
 // The code after c in its ring.
 pub fn next(w: &[u32], b: usize, n: usize, c: usize) -> usize

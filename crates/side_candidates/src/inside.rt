@@ -3,7 +3,7 @@ use cells::find::node;
 use cells::layout::list_at;
 use cells::layout::marks_at;
 use plane::sides::segments_cross;
-use rings::wide;
+use words::wide;
 ghost use mathlib.Core.Path.{_≡_};
 ghost use mathlib.Core.List.{List};
 ghost use Prim.Native.Nat.{_*_, _<_};

@@ -1,5 +1,6 @@
-// A word as an index, and a double with its bits.
+// A word as an index, the lesser and the greater of two numbers, and a double with its bits.
 ghost use mathlib.Core.Path.{_≡_};
+ghost use Prim.Native.Nat.{min, max};
 ghost use lib.Ieee.{binary64, toBits};
 ghost use Rattle.definition.specs.Floats.{f64};
 
@@ -13,6 +14,46 @@ pub fn wide(x: u32) -> usize
     ensures { λ r. ⌜ r ≡ x ⌝ }
 {
     x as usize
+}
+
+// The lesser of two numbers.
+pub fn lesser(x: usize, y: usize) -> usize
+    ensures { λ r. ⌜ r ≡ min x y ⌝ }
+{
+    if x < y {
+        return x;
+    }
+    y
+}
+
+// The greater one.
+pub fn greater(x: usize, y: usize) -> usize
+    ensures { λ r. ⌜ r ≡ max x y ⌝ }
+{
+    if x < y {
+        return y;
+    }
+    x
+}
+
+// The lesser of two words.
+pub fn lesser_word(x: u32, y: u32) -> u32
+    ensures { λ r. ⌜ r ≡ min x y ⌝ }
+{
+    if x < y {
+        return x;
+    }
+    y
+}
+
+// The greater one.
+pub fn greater_word(x: u32, y: u32) -> u32
+    ensures { λ r. ⌜ r ≡ max x y ⌝ }
+{
+    if x < y {
+        return y;
+    }
+    x
 }
 
 // A float's bits; a NaN has those of the logic's one pattern.

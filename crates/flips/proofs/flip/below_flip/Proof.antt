@@ -1,6 +1,7 @@
 -- The two triangles, their third nodes, and the least of these and u.
 use mathlib.Core.Path.{_≡_, ap, _∙_, subst}
 use Prim.Native.Nat.{ℕ}
+use native.Mathlib.Nat.{min-le-left, min-le-right}
 use native.Mathlib.Omega.{arith}
 use borrow.Author.Needs.{needs}
 use Rattle.definition.specs.Cells.{Tri, Mesh}
@@ -28,14 +29,11 @@ module _ (k : tie.After-known-told) (m : Mesh) (r : Rep (top k .args .w .now) (t
   twins : TwinsAt m (top k .args .u) (top k .args .v) (slot1 k) (slot2 k)
   twins = subst (λ x. IsTwins m (top k .args .u) (top k .args .v) x) (k .before .t .given .1) (k .before .before .before .two-tris .ensures m r)
 
-  apart : top k .args .u ≡ top k .args .v → ⊥
-  apart e = omega (arith, top k .pre .1 .up, e)
-
   one : Twin (top k .args .w .now) (top k .args .s) (top k .args .u) (top k .args .v) (slot1 k) m (twins .s)
-  one = let a = top k .args in twin1 (a .w .now) (a .s) (a .p) (a .u) (a .v) m r apart (slot1 k) (slot2 k) twins
+  one = let a = top k .args in twin1 (a .w .now) (a .s) (a .p) (a .u) (a .v) m r (λ e. omega (arith, top k .pre .1 .up, e)) (slot1 k) (slot2 k) twins
 
   two : Twin (top k .args .w .now) (top k .args .s) (top k .args .u) (top k .args .v) (slot2 k) m (twins .t)
-  two = let a = top k .args in twin2 (a .w .now) (a .s) (a .p) (a .u) (a .v) m r apart (slot1 k) (slot2 k) twins
+  two = let a = top k .args in twin2 (a .w .now) (a .s) (a .p) (a .u) (a .v) m r (λ e. omega (arith, top k .pre .1 .up, e)) (slot1 k) (slot2 k) twins
 
 returns : tie.Need-returns
 returns c =
@@ -66,13 +64,21 @@ returns-2 c =
     let f = g .before in
     let k = f .before in
     let t = top k in
-    let a = t .args in (
-      c .lesser2 .ensures .0,
+    let a = t .args in
+    let x = f .third .result in
+    let y = g .third2 .result in
+    let least = c .lesser2 .ensures in
+    let less = l .lesser .ensures in
+    let on-left = min-le-left (a .u) (l .lesser .result) in
+    let on-right = min-le-right (a .u) (l .lesser .result) in
+    let first = min-le-left x y in
+    let second = min-le-right x y in (
+      omega (arith, least, on-left),
       λ m r.
-          let x : f .third .result ≡ third (twins k m r .s) (a .u, a .v) = f .third .ensures ∙ ap (λ (z : Tri). third z (a .u, a .v)) (one k m r .read) in
-          let y : g .third2 .result ≡ third (twins k m r .t) (a .u, a .v) = g .third2 .ensures ∙ ap (λ (z : Tri). third z (a .u, a .v)) (two k m r .read) in
-          stays-below (a .w .now) (a .s) (a .p) m r (a .u) (a .v) (t .pre .1 .up) (slot1 k) (slot2 k) (f .third .result) (g .third2 .result) (c .lesser2 .result) (twins k m r) x y
-          (c .lesser2 .ensures .0) (omega (arith, c .lesser2 .ensures, l .lesser .ensures)) (omega (arith, c .lesser2 .ensures, l .lesser .ensures)),
+          let is-x : x ≡ third (twins k m r .s) (a .u, a .v) = f .third .ensures ∙ ap (λ (z : Tri). third z (a .u, a .v)) (one k m r .read) in
+          let is-y : y ≡ third (twins k m r .t) (a .u, a .v) = g .third2 .ensures ∙ ap (λ (z : Tri). third z (a .u, a .v)) (two k m r .read) in
+          stays-below (a .w .now) (a .s) (a .p) m r (a .u) (a .v) (t .pre .1 .up) (slot1 k) (slot2 k) x y (c .lesser2 .result) (twins k m r) is-x is-y
+          (omega (arith, least, on-left)) (omega (arith, least, on-right, less, first)) (omega (arith, least, on-right, less, second)),
     )
 
 pub below-flip-spec : {M : Type 1} → statement M

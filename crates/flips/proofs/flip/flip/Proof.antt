@@ -38,14 +38,11 @@ module _ (k : tie.After-known-told) (m : Mesh) (r : Rep (top k .args .w .now) (t
   twins : TwinsAt m (top k .args .u) (top k .args .v) (slot1 k) (slot2 k)
   twins = subst (λ x. IsTwins m (top k .args .u) (top k .args .v) x) (k .before .t .given .1) (k .before .before .before .two-tris .ensures m r)
 
-  apart : top k .args .u ≡ top k .args .v → ⊥
-  apart e = omega (arith, top k .pre .1 .up, e)
-
   one : Twin (top k .args .w .now) (top k .args .s) (top k .args .u) (top k .args .v) (slot1 k) m (twins .s)
-  one = let a = top k .args in twin1 (a .w .now) (a .s) (a .p) (a .u) (a .v) m r apart (slot1 k) (slot2 k) twins
+  one = let a = top k .args in twin1 (a .w .now) (a .s) (a .p) (a .u) (a .v) m r (λ e. omega (arith, top k .pre .1 .up, e)) (slot1 k) (slot2 k) twins
 
   two : Twin (top k .args .w .now) (top k .args .s) (top k .args .u) (top k .args .v) (slot2 k) m (twins .t)
-  two = let a = top k .args in twin2 (a .w .now) (a .s) (a .p) (a .u) (a .v) m r apart (slot1 k) (slot2 k) twins
+  two = let a = top k .args in twin2 (a .w .now) (a .s) (a .p) (a .u) (a .v) m r (λ e. omega (arith, top k .pre .1 .up, e)) (slot1 k) (slot2 k) twins
 
 -- the edge is not locked
 free : (k : tie.After-known-told) (m : Mesh) → Locks (top k .args .j .now) (m .locked) → is-locked m (key (top k .args .u) (top k .args .v)) ≡ false

@@ -1,8 +1,8 @@
 -- A NaN alone differs from itself.
 use mathlib.Core.Bool.{false≢true}
 use Rattle.edge_candidates.proofs.Bits.{a-number}
-use Rattle.edge_candidates.proofs.words.is_number.Statement.{statement}
-use Rattle.edge_candidates.proofs.words.is_number.Tie as tie
+use Rattle.edge_candidates.proofs.doubles.is_number.Statement.{statement}
+use Rattle.edge_candidates.proofs.doubles.is_number.Tie as tie
 
 returns-2 : tie.Need-returns-2
 returns-2 c = λ h. a-number (c .before .args .x) (c .if1 .left)

@@ -1,4 +1,5 @@
 // A double in two words, the lower half of its bits first.
+use words::bits_of;
 ghost use mathlib.Core.Path.{_≡_};
 ghost use mathlib.Core.Bool.{true, false, not};
 ghost use Prim.Native.Nat.{_+_, _^_, _<_, _≤_};
@@ -16,16 +17,6 @@ fn long(x: u32) -> u64
     ensures { λ r. ⌜ (r ≡ x) × (r < 2 ^ 32) ⌝ }
 {
     x as u64
-}
-
-// A float's bits; a NaN has those of the logic's one pattern.
-fn bits_of(x: f64) -> u64
-    ensures { λ r. ⌜ r ≡ toBits binary64 x ⌝ }
-{
-    if x != x {
-        return 0x7ff8000000000000;
-    }
-    f64::to_bits(x)
 }
 
 // The float of a bit pattern that is not a NaN's.

@@ -1,8 +1,8 @@
 use borrow.Author.Needs.{needs}
 use Rattle.edge_candidates.specs.Words.{float-at}
 use Rattle.edge_candidates.proofs.Bits.{no-nan-pair}
-use Rattle.edge_candidates.proofs.words.get.Statement.{statement}
-use Rattle.edge_candidates.proofs.words.get.Tie as tie
+use Rattle.edge_candidates.proofs.doubles.get.Statement.{statement}
+use Rattle.edge_candidates.proofs.doubles.get.Tie as tie
 
 float-of-requires : tie.Need-float-of-requires
 float-of-requires c κs =

@@ -4,8 +4,8 @@ use native.Mathlib.Omega.{arith}
 use lib.ListN.{length-set}
 use Rattle.edge_candidates.proofs.Bits.{put-to}
 use borrow.Author.Needs.{needs}
-use Rattle.edge_candidates.proofs.words.put.Statement.{statement}
-use Rattle.edge_candidates.proofs.words.put.Tie as tie
+use Rattle.edge_candidates.proofs.doubles.put.Statement.{statement}
+use Rattle.edge_candidates.proofs.doubles.put.Tie as tie
 
 returns : tie.Need-returns
 returns c =

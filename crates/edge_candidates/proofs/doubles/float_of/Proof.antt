@@ -1,8 +1,8 @@
 use borrow.Author.Needs.{needs}
 use lib.Ieee.{ofBits}
 use Rattle.definition.specs.Floats.{f64}
-use Rattle.edge_candidates.proofs.words.float_of.Statement.{statement}
-use Rattle.edge_candidates.proofs.words.float_of.Tie as tie
+use Rattle.edge_candidates.proofs.doubles.float_of.Statement.{statement}
+use Rattle.edge_candidates.proofs.doubles.float_of.Tie as tie
 
 returns : tie.Need-returns
 unfolding ofBits f64
