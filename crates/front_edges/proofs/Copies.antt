@@ -5,39 +5,24 @@ use mathlib.Core.List.{List, [], _∷_}
 use Prim.Native.Nat.{ℕ, _+_, _*_, _≤_, _<_}
 use native.Mathlib.Omega.{arith}
 use native.Mathlib.Decide.{decLe}
-use lib.ListN.{length, getD, set, length-set}
+use lib.ListN.{length, getD, set}
 use Rattle.rings.proofs.Lists.{Same, same, differ, decide}
 use Rattle.definition.specs.Cells.{Mesh, front-at}
-use Rattle.laws.specs.Frames.{on, off}
 use Rattle.cells.specs.Layout.{fronts-at, front-u-at, front-v-at}
 use Rattle.cells.specs.Notes.{ends, noted, Fronts}
 use Rattle.cells.proofs.Frames.{room-under, rep-under}
 use Rattle.meshes.proofs.Valid.{valid}
-use Rattle.front_edges.specs.Runs.{Ascending, pairs, Run, Beyond}
+use Rattle.front_edges.specs.Rows.{Ascending}
+use Rattle.front_edges.specs.Runs.{pairs, Run, Beyond}
 use Rattle.front_edges.specs.Noting.{CanCopy, CopyTo, CanRepeat, EdgesTo}
-use Rattle.front_edges.proofs.Puts.{beyond-refl, beyond-trans, beyond-under}
+use Rattle.front_edges.proofs.Puts.{beyond-refl, beyond-trans, beyond-under, put-done}
 use Rattle.front_edges.proofs.Noting.{pairs-length, fronts-are}
 
 -- ---- one edge
 
 pub copy-done : (w : List ℕ) (s p u j k : ℕ) → CanCopy w s p u j k
     → CopyTo w (set (set w (front-u-at s p + k) u) (front-v-at s p + k) (getD w (fronts-at s p + 2 * u + j) 0)) s p u j k
-copy-done w s p u j k can =
-    let v = getD w (fronts-at s p + 2 * u + j) 0 in
-    let w1 = set w (front-u-at s p + k) u in
-    let n : length w1 ≡ length w = simp length-set in
-    let f = can .room .fits in
-    let c = can .inside in
-    record {
-      first = off w1 (front-v-at s p + k) v (front-u-at s p + k) (omega arith) ∙ on w (front-u-at s p + k) u (omega arith);
-      second = on w1 (front-v-at s p + k) v (omega arith);
-      beyond = record {
-        len = simp length-set;
-        firsts = λ i h. off w1 (front-v-at s p + k) v i (omega arith) ∙ off w (front-u-at s p + k) u i (omega arith);
-        seconds = λ i h l. off w1 (front-v-at s p + k) v i (omega arith) ∙ off w (front-u-at s p + k) u i (omega arith);
-        behind = λ i h. off w1 (front-v-at s p + k) v i (omega arith) ∙ off w (front-u-at s p + k) u i (omega arith);
-      };
-    }
+copy-done w s p u j k can = put-done w s p u (getD w (fronts-at s p + 2 * u + j) 0) k (can .room) (can .inside)
 
 -- ---- all that are noted
 

@@ -2,19 +2,19 @@
 use mathlib.Core.Path.{_≡_, refl, ap, sym, _∙_, subst}
 use mathlib.Core.Logic.{_≢_, inl, inr}
 use mathlib.Core.Bool.{Bool, true, false, _&&_, _||_}
-use mathlib.Core.List.{List, []}
+use mathlib.Core.List.{List, [], _∷_, _++_}
 use Prim.Native.Nat.{ℕ, _+_, _*_, _/_, _≤_, _<_}
 use native.Mathlib.Omega.{arith}
 use native.Mathlib.Decide.{ℕ-discrete}
-use lib.Dec.{eqb, ltb}
-use lib.ListN.{length, getD}
+use lib.Dec.{eqb}
+use lib.ListN.{length, getD, length-append}
 use borrow.Author.Tests.{eqb-true, eq-eqb, ne-eqb}
 use Rattle.rings.specs.Rings.{nx}
-use Rattle.definition.specs.Lists.{filter, insert}
+use Rattle.definition.specs.Lists.{filter}
 use Rattle.definition.specs.Cells.{Tri, Cell, tri, Live, Mesh, key, live-tri, tri-has, has-side, owns}
 use Rattle.definition.specs.Flips.{third}
 use Rattle.laws.specs.Bools.{both, either}
-use Rattle.laws.specs.Lists.{In, insert-in}
+use Rattle.laws.specs.Lists.{In, in-either}
 use Rattle.laws.specs.Frames.{Under}
 use Rattle.account.specs.Found.{is-a-tri}
 use Rattle.account.specs.Triangles as triangles
@@ -27,10 +27,9 @@ use Rattle.cells.proofs.Fronts.{held-tri}
 use Rattle.cells.proofs.Frames.{rep-under, pos-under}
 use Rattle.cells.proofs.Walks.{There, there, seek-end, ended, start, pos-walk, can-read}
 use Rattle.meshes.proofs.Valid.{valid, tri-distinct, tri-below}
-use Rattle.front_edges.specs.Runs.{Run, Beyond, Good, CanTry, Tried, Met, CanWalk, Here, StepTo, NodeTo}
-use Rattle.front_edges.proofs.Inserts.{insert-length, insert-up}
-use Rattle.front_edges.proofs.Members.{all-ends, few-ends}
-use Rattle.front_edges.proofs.Puts.{beyond-refl, beyond-trans, beyond-under, Half, half}
+use Rattle.front_edges.specs.Runs.{Row, Beyond, Good, CanTry, Tried, Met, CanWalk, Here, StepTo, GatherTo}
+use Rattle.front_edges.proofs.Members.{few-ends}
+use Rattle.front_edges.proofs.Puts.{beyond-refl, beyond-trans, beyond-under, snoc-apart, Half, half}
 use Rattle.front_edges.proofs.Meets.{met-start, met-quad, met-tri, fresh-x, fresh-y, good-more}
 
 -- ---- a place in a ring stays where only the rest of the memory changes
@@ -49,19 +48,26 @@ module _ (w : List ℕ) (s p u from : ℕ) (m : Mesh) where
         rest = m .live;
         pos = start w s p u m (h .rep) (omega (arith, h .known, h .rep .points));
         vs = [];
-        run = record { len = omega arith; firsts = λ i a b. absurd (omega arith); seconds = tt; up = tt };
+        row = record { len = omega arith; firsts = λ i a b. absurd (omega arith); seconds = tt; apart = tt };
         met = met-start m u;
       }
 
-  pub here-end : (w₀ : List ℕ) (k c : ℕ) → Here w s p u from k c m → Beyond w₀ w s p from → 4 * s ≤ c → NodeTo w₀ w s p u from k m
+  pub here-end : (w₀ : List ℕ) (k c : ℕ) → Here w s p u from k c m → Beyond w₀ w s p from → 4 * s ≤ c → GatherTo w₀ w s p u from k m
   unfolding filter
   here-end w₀ k c h b cs =
       record {
         vs = h .vs;
-        run = h .run;
-        are = all-ends m (valid w s p m (h .can .rep)) u (h .can .known) (h .vs) (h .run .up) (h .met .good) (λ v g.
+        row = h .row;
+        inside = omega (
+          arith,
+          few-ends m (valid w s p m (h .can .rep)) u (h .can .known) (h .vs) (h .row .apart) (h .met .good),
+          h .row .len,
+          h .can .room,
+        );
+        good = h .met .good;
+        all = λ v g.
             let d : u ≢ v = λ z. omega (arith, g .up, z) in
-            h .met .all v g (ap (λ (l : List Live). length (filter live-tri l)) (ended w s p u v c (h .rest) (seek-end w s p u c (h .rest) (h .pos) cs v d) cs)));
+            h .met .all v g (ap (λ (l : List Live). length (filter live-tri l)) (ended w s p u v c (h .rest) (seek-end w s p u c (h .rest) (h .pos) cs v d) cs));
         beyond = b;
       }
 
@@ -78,13 +84,13 @@ module _ (w : List ℕ) (s p u from k c : ℕ) (m : Mesh) (h : Here w s p u from
   here-see = record { fits = omega (arith, h .pos .room .fits); inside = omega (arith, cs) }
 
   -- on to the next corner
-  on : (w' : List ℕ) (r : ℕ) (vs : List ℕ) → Beyond w w' s p from → Run w' s p u from r vs → Met m u (at .l) vs → StepTo w w' s p u from k c r m
-  on w' r vs b run met =
+  on : (w' : List ℕ) (r : ℕ) (vs : List ℕ) → Beyond w w' s p from → Row w' s p u from r vs → Met m u (at .l) vs → StepTo w w' s p u from k c r m
+  on w' r vs b row met =
       let k' = beyond-under w w' s p from b in
       let n : nx w' (rings-at s) c ≡ nx w (rings-at s) c = k' .low (rings-at s + c) (omega arith) in
       let pos : Pos w' s p u (nx w' (rings-at s) c) (at .l) = subst (λ (z : ℕ). Pos w' s p u z (at .l)) (sym n) (pos-under w w' s p k' u (nx w (rings-at s) c) (at .l) (at .then)) in
       record {
-        here = record { can = walk-under w w' s p k' u from m (h .can); rest = at .l; pos = pos; vs = vs; run = run; met = met };
+        here = record { can = walk-under w w' s p k' u from m (h .can); rest = at .l; pos = pos; vs = vs; row = row; met = met };
         beyond = b;
         fewer = rw (pos-walk w' s p u (nx w' (rings-at s) c) (at .l) pos, pos-walk w s p u c (h .rest) (h .pos)) (at .less);
       }
@@ -94,7 +100,7 @@ module _ (w : List ℕ) (s p u from k c : ℕ) (m : Mesh) (h : Here w s p u from
 
   pub quad-step : getD w (c / 4) 0 ≢ 3 → StepTo w w s p u from k c k m
   quad-step n =
-      on w k (h .vs) (beyond-refl w s p from) (h .run)
+      on w k (h .vs) (beyond-refl w s p from) (h .row)
       (met-quad m u (h .rest) (h .vs) (h .met) (at .e) (at .l) (at .own-is) (sym kind-is ∙ ne-eqb (getD w (c / 4) 0) 3 n))
 
   module _ (q : getD w (c / 4) 0 ≡ 3) (x y : ℕ) (ex : x ≡ node-after w s c) (ey : y ≡ node-before w s c) where
@@ -156,55 +162,52 @@ module _ (w : List ℕ) (s p u from k c : ℕ) (m : Mesh) (h : Here w s p u from
         ]
 
     -- room for one more
-    inside : (w' : List ℕ) (j v : ℕ) (vs : List ℕ) → Run w' s p u from j vs → ((z : ℕ) → In z vs → Good m u z) → (Good m u v → In v vs → ⊥) → Good m u v → j < 3 * s
-    inside w' j v vs run good fresh g =
+    inside : (w' : List ℕ) (j v : ℕ) (vs : List ℕ) → Row w' s p u from j vs → ((z : ℕ) → In z vs → Good m u z) → (Good m u v → In v vs → ⊥) → Good m u v → j < 3 * s
+    inside w' j v vs row good fresh g =
         omega (
           arith,
-          few-ends m (valid w s p m (h .can .rep)) u (h .can .known) (insert ltb v vs) (insert-up v vs (run .up) (fresh g))
-              (λ z i. more z i),
-          insert-length v vs,
-          run .len,
+          few-ends m (valid w s p m (h .can .rep)) u (h .can .known) (vs ++ v ∷ []) (snoc-apart v vs (row .apart) (fresh g)) more,
+          length-append vs (v ∷ []),
+          row .len,
           h .can .room,
         )
       where
-        more : (z : ℕ) → In z (insert ltb v vs) → Good m u z
-        more z i = elim (insert-in ltb z v vs i) [ inl e ↦ subst (λ (y : ℕ). Good m u y) (sym e) g | inr j ↦ good z j ]
+        more : (z : ℕ) → In z (vs ++ v ∷ []) → Good m u z
+        more z i = elim (in-either z vs (v ∷ []) i) [ inl j ↦ good z j | inr (inl e) ↦ subst (λ (y : ℕ). Good m u y) (sym e) g | inr (inr j) ↦ absurd j ]
 
     fresh : Good m u x → In x (h .vs) → ⊥
     fresh = fresh-x m u (h .rest) (h .vs) (h .met) (at .e) (at .l) (at .own-is) is-triangle x y side
 
-    pub can-x : CanTry w s p u x from k m
+    pub can-x : CanTry w s p u x k m
     can-x =
         record {
           rep = h .can .rep;
-          order = omega (arith, h .run .len);
           first = h .pos .node;
           second = x-known;
-          inside = inside w k x (h .vs) (h .run) (h .met .good) fresh;
+          inside = inside w k x (h .vs) (h .row) (h .met .good) fresh;
         }
 
-    module _ (w1 : List ℕ) (k1 : ℕ) (tried : Tried m w w1 s p u x from k k1) where
+    module _ (w1 : List ℕ) (k1 : ℕ) (tried : Tried m w w1 s p u x k k1) where
       one : Half w w1 s p u x from k1 m (h .vs)
-      one = half w w1 s p u x from k k1 m (h .vs) tried (h .run) fresh
+      one = half w w1 s p u x from k k1 m (h .vs) tried (h .row) fresh
 
       fresh' : Good m u y → In y (one .vs1) → ⊥
       fresh' = fresh-y m u (h .rest) (h .vs) (h .met) (at .e) (at .l) (at .own-is) is-triangle x y side (one .vs1) (one .tries) x-y
 
-      pub can-y : CanTry w1 s p u y from k1 m
+      pub can-y : CanTry w1 s p u y k1 m
       can-y =
           record {
             rep = rep-under w w1 s p (beyond-under w w1 s p from (one .beyond)) m (h .can .rep);
-            order = omega (arith, one .run .len);
             first = h .pos .node;
             second = y-known;
-            inside = inside w1 k1 y (one .vs1) (one .run)
+            inside = inside w1 k1 y (one .vs1) (one .row)
                 (good-more m u (h .rest) (h .vs) (h .met) (at .e) (at .l) (at .own-is) is-triangle x y side (one .vs1) (one .tries)) fresh';
           }
 
-      pub tri-step : (w2 : List ℕ) (k2 : ℕ) → Tried m w1 w2 s p u y from k1 k2 → StepTo w w2 s p u from k c k2 m
+      pub tri-step : (w2 : List ℕ) (k2 : ℕ) → Tried m w1 w2 s p u y k1 k2 → StepTo w w2 s p u from k c k2 m
       tri-step w2 k2 t =
-          let two = half w1 w2 s p u y from k1 k2 m (one .vs1) t (one .run) fresh' in
-          on w2 k2 (two .vs1) (beyond-trans w w1 w2 s p from from (omega arith) (one .beyond) (two .beyond)) (two .run)
+          let two = half w1 w2 s p u y from k1 k2 m (one .vs1) t (one .row) fresh' in
+          on w2 k2 (two .vs1) (beyond-trans w w1 w2 s p from from (omega arith) (one .beyond) (two .beyond)) (two .row)
           (met-tri m u (h .rest) (h .vs) (h .met) (at .e) (at .l) (at .own-is) is-triangle x y side (one .vs1) (two .vs1) (one .tries) (two .tries))
 
 -- ---- the loop

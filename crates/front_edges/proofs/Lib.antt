@@ -1,8 +1,11 @@
 pub mod Inserts
+pub mod Mixes
+pub mod Sortings
 pub mod Members
 pub mod Puts
 pub mod Meets
 pub mod Corners
+pub mod Gathers
 pub mod Notes
 pub mod Noting
 pub mod Copies

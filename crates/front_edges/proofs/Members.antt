@@ -21,7 +21,8 @@ use Rattle.account.specs.Ends.{tri-ends, tri-owns}
 use Rattle.account.specs.Valid.{Valid, tris-in, in-tris}
 use Rattle.account.specs.Listed.{front-differ}
 use Rattle.cells.proofs.Edges.{key-up, key-down}
-use Rattle.front_edges.specs.Runs.{Ascending, pairs, Good, tris-on}
+use Rattle.front_edges.specs.Rows.{Ascending, Distinct}
+use Rattle.front_edges.specs.Runs.{pairs, Good, tris-on}
 use Rattle.front_edges.proofs.Inserts.{ascending-same}
 
 -- ---- edges of a triangle
@@ -204,14 +205,10 @@ module _ (m : Mesh) (ok : Valid m) (u : ℕ) where
         let same : vs ≡ ends = ascending-same vs ends a ends-up (λ v i. ends-in v (f v i)) (λ v i. g v (ends-of v i)) in
         ap (λ (l : List ℕ). pairs u l) same ∙ are-pairs (front-at m u) (λ e i. at-of e i .0)
 
-    differ : (vs : List ℕ) → Ascending vs → Pairwise (λ a b. a ≢ b) vs
-    differ [] h = tt
-    differ (v ∷ vs) h = (all-from vs (λ x i e. let k = all-at (λ t. v < t) vs (h .0) x i in omega arith), differ vs (h .1))
-
     -- some of them are no more than the front edges of u
-    pub few-ends : (vs : List ℕ) → Ascending vs → ((v : ℕ) → In v vs → Good m u v) → length vs ≤ length (front-at m u)
+    pub few-ends : (vs : List ℕ) → Distinct vs → ((v : ℕ) → In v vs → Good m u v) → length vs ≤ length (front-at m u)
     unfolding ends
-    few-ends vs a f = omega (arith, no-more vs ends (differ vs a) (λ v i. ends-in v (f v i)), seconds-length (front-at m u))
+    few-ends vs d f = omega (arith, no-more vs ends d (λ v i. ends-in v (f v i)), seconds-length (front-at m u))
 
     before-up : (l : List Edge) → ((f : Edge) → In f l → f .0 ≡ u) → Ascending (seconds l) → Pairwise (λ e f. edge-before e f ≡ true) l
     before-up [] b h = tt

@@ -20,7 +20,8 @@ use Rattle.cells.specs.Layout.{notes-at, fronts-at, boxes-at, even-at, front-u-
 use Rattle.cells.specs.Notes.{note, ends, bound, Fronts, NoteAt}
 use Rattle.cells.proofs.Frames.{rep-under}
 use Rattle.meshes.proofs.Valid.{valid}
-use Rattle.front_edges.specs.Runs.{Ascending, pairs, Run, Good, NodeTo}
+use Rattle.front_edges.specs.Rows.{Ascending}
+use Rattle.front_edges.specs.Runs.{pairs, Run, Good, NodeTo}
 use Rattle.front_edges.specs.Noting.{CanMark, Marked, CanNote, NoteTo, CanSearch, EdgesTo}
 use Rattle.front_edges.proofs.Members.{at-of, at-in, all-ends}
 use Rattle.front_edges.proofs.Puts.{beyond-under}

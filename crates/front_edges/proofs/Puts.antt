@@ -1,19 +1,18 @@
 -- One edge more among those of a node.
-use mathlib.Core.Path.{_≡_, refl, sym, _∙_, subst}
-use mathlib.Core.Logic.{_⊎_, inl, inr}
-use mathlib.Core.List.{List}
-use Prim.Native.Nat.{ℕ, _+_, _≤_, _<_}
+use mathlib.Core.Path.{_≡_, refl, ap, sym, _∙_, subst}
+use mathlib.Core.Logic.{_≢_, _⊎_, inl, inr}
+use mathlib.Core.List.{List, [], _∷_, _++_}
+use Prim.Native.Nat.{ℕ, _+_, _*_, _≤_, _<_}
 use native.Mathlib.Omega.{arith}
-use lib.Dec.{ltb}
-use lib.ListN.{getD, set, length-set}
+use lib.ListN.{length, getD, set, length-set, length-append}
 use Rattle.rings.proofs.Lists.{Same, same, differ, decide}
-use Rattle.definition.specs.Lists.{insert}
 use Rattle.definition.specs.Cells.{Mesh}
-use Rattle.laws.specs.Lists.{In, insert-in, stored-kept}
+use Rattle.laws.specs.Lists.{In, all-from, all-at, in-left, in-right, in-either, stored-kept, stored-snoc}
 use Rattle.laws.specs.Frames.{on, off, Under}
 use Rattle.cells.specs.Layout.{mesh-end, front-u-at, front-v-at}
-use Rattle.front_edges.specs.Runs.{InsertTo, Run, Beyond, CanPut, PutTo, Good, Tried, passed, taken}
-use Rattle.front_edges.proofs.Inserts.{insert-length, insert-new, insert-old, insert-up}
+use Rattle.cells.specs.Rep.{Room}
+use Rattle.front_edges.specs.Rows.{Distinct}
+use Rattle.front_edges.specs.Runs.{Row, Beyond, PutTo, Good, Tried, passed, taken}
 
 -- ---- what stays
 
@@ -34,39 +33,51 @@ beyond-under w w' s p from b = record { len = b .len; low = λ i h. b .firsts i 
 
 -- ---- the edge comes in
 
-module _ (w w1 : List ℕ) (s p u v from k : ℕ) (can : CanPut w s p u v from k) (g : InsertTo w w1 (front-v-at s p + from) (front-v-at s p + k) v) where
-  put-beyond : Beyond w (set w1 (front-u-at s p + k) u) s p from
-  put-beyond =
-      let o = can .order in
-      let n = can .inside in
-      record {
-        len = simp length-set (g .only .len);
-        firsts = λ i h. off w1 (front-u-at s p + k) u i (omega arith) ∙ g .only .low i (omega arith);
-        seconds = λ i h j. off w1 (front-u-at s p + k) u i (omega arith) ∙ g .only .low i j;
-        behind = λ i h. off w1 (front-u-at s p + k) u i (omega arith) ∙ g .only .high i (omega arith);
-      }
+pub put-done : (w : List ℕ) (s p u v k : ℕ) → Room w s p → k < 3 * s → PutTo w (set (set w (front-u-at s p + k) u) (front-v-at s p + k) v) s p u v k
+put-done w s p u v k r c =
+    let w1 = set w (front-u-at s p + k) u in
+    let n : length w1 ≡ length w = simp length-set in
+    let f = r .fits in
+    record {
+      first = off w1 (front-v-at s p + k) v (front-u-at s p + k) (omega arith) ∙ on w (front-u-at s p + k) u (omega arith);
+      second = on w1 (front-v-at s p + k) v (omega arith);
+      beyond = record {
+        len = simp length-set;
+        firsts = λ i h. off w1 (front-v-at s p + k) v i (omega arith) ∙ off w (front-u-at s p + k) u i (omega arith);
+        seconds = λ i h l. off w1 (front-v-at s p + k) v i (omega arith) ∙ off w (front-u-at s p + k) u i (omega arith);
+        behind = λ i h. off w1 (front-v-at s p + k) v i (omega arith) ∙ off w (front-u-at s p + k) u i (omega arith);
+      };
+    }
 
-  put-run : (vs : List ℕ) → Run w s p u from k vs → (In v vs → ⊥) → Run (set w1 (front-u-at s p + k) u) s p u from (k + 1) (insert ltb v vs)
-  put-run vs r n =
-      let l = insert-length v vs in
-      let q = r .len in
+-- one more at the end of a list
+pub snoc-apart : (x : ℕ) (l : List ℕ) → Distinct l → (In x l → ⊥) → Distinct (l ++ x ∷ [])
+snoc-apart x [] d f = (tt, tt)
+snoc-apart x (y ∷ l) d f = (
+  all-from (l ++ x ∷ []) (λ z i. elim (in-either z l (x ∷ []) i) [
+    | inl j ↦ all-at (λ t. y ≢ t) l (d .0) z j
+    | inr (inl e) ↦ λ q. f (inl (sym (q ∙ e)))
+    | inr (inr j) ↦ absurd j
+  ]),
+  snoc-apart x l (d .1) (λ i. f (inr i)),
+)
+
+module _ (w w1 : List ℕ) (s p u v from k : ℕ) (g : PutTo w w1 s p u v k) (vs : List ℕ) (r : Row w s p u from k vs) where
+  row-more : (In v vs → ⊥) → Row w1 s p u from (k + 1) (vs ++ v ∷ [])
+  row-more f =
+      let n = r .len in
+      let z : front-v-at s p + from + length vs ≡ front-v-at s p + k = omega arith in
       record {
-        len = omega arith;
+        len = omega (arith, length-append vs (v ∷ []));
         firsts = λ i a b. go i a b (decide i k);
-        seconds = stored-kept w1 (set w1 (front-u-at s p + k) u) (front-v-at s p + from) (insert ltb v vs) (λ i a b. off w1 (front-u-at s p + k) u i (omega (arith, can .inside, a)))
-            (g .is vs (r .seconds) (r .up) (omega arith));
-        up = insert-up v vs (r .up) n;
+        seconds = stored-snoc w1 (front-v-at s p + from) v vs
+            (stored-kept w w1 (front-v-at s p + from) vs (λ i a b. g .beyond .seconds i (omega arith) (omega arith)) (r .seconds))
+            (ap (λ (i : ℕ). getD w1 i 0) z ∙ g .second);
+        apart = snoc-apart v vs (r .apart) f;
       }
     where
-      go : (i : ℕ) → from ≤ i → i < k + 1 → Same i k → getD (set w1 (front-u-at s p + k) u) (front-u-at s p + i) 0 ≡ u
-      go i a b (same e) = rw e (on w1 (front-u-at s p + k) u (omega (arith, can .room .fits, can .inside, g .only .len)))
-      go i a b (differ e) =
-          off w1 (front-u-at s p + k) u (front-u-at s p + i) (omega (arith, e))
-          ∙ g .only .low (front-u-at s p + i) (omega (arith, can .inside, b))
-          ∙ r .firsts i a (omega (arith, e, b))
-
-  pub put-done : PutTo w (set w1 (front-u-at s p + k) u) s p u v from k
-  put-done = record { beyond = put-beyond; run = put-run }
+      go : (i : ℕ) → from ≤ i → i < k + 1 → Same i k → getD w1 (front-u-at s p + i) 0 ≡ u
+      go i a b (same e) = ap (λ (j : ℕ). getD w1 (front-u-at s p + j) 0) e ∙ g .first
+      go i a b (differ e) = g .beyond .firsts (front-u-at s p + i) (omega (arith, e, b)) ∙ r .firsts i a (omega (arith, e, b))
 
 -- ---- the edge was tried
 
@@ -79,27 +90,27 @@ pub record Tries (m : Mesh) (u x : ℕ) (vs vs1 : List ℕ) : Type 0 where
 -- the edges after a try
 pub record Half (w w1 : List ℕ) (s p u x from k1 : ℕ) (m : Mesh) (vs : List ℕ) : Type 0 where
   pub vs1 : List ℕ
-  pub run : Run w1 s p u from k1 vs1
+  pub row : Row w1 s p u from k1 vs1
   pub tries : Tries m u x vs vs1
   pub beyond : Beyond w w1 s p from
 
-pub half : (w w1 : List ℕ) (s p u x from k k1 : ℕ) (m : Mesh) (vs : List ℕ) → Tried m w w1 s p u x from k k1 → Run w s p u from k vs → (Good m u x → In x vs → ⊥)
+pub half : (w w1 : List ℕ) (s p u x from k k1 : ℕ) (m : Mesh) (vs : List ℕ) → Tried m w w1 s p u x k k1 → Row w s p u from k vs → (Good m u x → In x vs → ⊥)
     → Half w w1 s p u x from k1 m vs
-half w w1 s p u x from k k1 m vs (passed q r n) run f =
+half w w1 s p u x from k k1 m vs (passed q r n) row f =
     record {
       vs1 = vs;
-      run = subst (λ (z : List ℕ). Run z s p u from k1 vs) (sym q) (subst (λ (j : ℕ). Run w s p u from j vs) (sym r) run);
+      row = subst (λ (z : List ℕ). Row z s p u from k1 vs) (sym q) (subst (λ (j : ℕ). Row w s p u from j vs) (sym r) row);
       tries = record { back = λ v i. inl i; kept = λ v i. i; new = λ g. absurd (n g) };
       beyond = subst (λ (z : List ℕ). Beyond w z s p from) (sym q) (beyond-refl w s p from);
     }
-half w w1 s p u x from k k1 m vs (taken r g d) run f =
+half w w1 s p u x from k k1 m vs (taken r g d) row f =
     record {
-      vs1 = insert ltb x vs;
-      run = subst (λ (j : ℕ). Run w1 s p u from j (insert ltb x vs)) (sym r) (d .run vs run (f g));
+      vs1 = vs ++ x ∷ [];
+      row = subst (λ (j : ℕ). Row w1 s p u from j (vs ++ x ∷ [])) (sym r) (row-more w w1 s p u x from k d vs row (f g));
       tries = record {
-        back = λ v i. elim (insert-in ltb v x vs i) [ inl e ↦ inr (e, g) | inr j ↦ inl j ];
-        kept = λ v i. insert-old x v vs i;
-        new = λ z. insert-new x vs;
+        back = λ v i. elim (in-either v vs (x ∷ []) i) [ inl j ↦ inl j | inr (inl e) ↦ inr (e, g) | inr (inr j) ↦ absurd j ];
+        kept = λ v i. in-left v vs (x ∷ []) i;
+        new = λ z. in-right x vs (x ∷ []) (inl refl);
       };
-      beyond = d .beyond;
+      beyond = beyond-trans w w w1 s p from k (omega (arith, row .len)) (beyond-refl w s p from) (d .beyond);
     }

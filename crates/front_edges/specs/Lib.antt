@@ -1,3 +1,4 @@
+pub mod Rows
 pub mod Runs
 pub mod Noting
 pub mod Front

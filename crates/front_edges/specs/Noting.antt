@@ -8,7 +8,7 @@ use Rattle.definition.specs.Cells.{Mesh, front-at}
 use Rattle.cells.specs.Layout.{notes-at, fronts-at, boxes-at, even-at, mesh-end, front-u-at, front-v-at, front-links-at}
 use Rattle.cells.specs.Rep.{Room, Rep}
 use Rattle.cells.specs.Notes.{note, noted}
-use Rattle.front_edges.specs.Runs.{pairs, Run, Beyond, CanWalk}
+use Rattle.front_edges.specs.Runs.{pairs, Run, PutTo, CanWalk}
 
 -- ---- a note is written
 
@@ -69,10 +69,8 @@ pub record CanCopy (w : List ℕ) (s p u j k : ℕ) : Type 0 where
   pub inside : k < 3 * s
 
 -- noted edge j of u stands in place k
-pub record CopyTo (w w' : List ℕ) (s p u j k : ℕ) : Type 0 where
-  pub first : getD w' (front-u-at s p + k) 0 ≡ u
-  pub second : getD w' (front-v-at s p + k) 0 ≡ getD w (fronts-at s p + 2 * u + j) 0
-  pub beyond : Beyond w w' s p k
+abbrev pub CopyTo : List ℕ → List ℕ → ℕ → ℕ → ℕ → ℕ → ℕ → Type 0
+CopyTo w w' s p u j k = PutTo w w' s p u (getD w (fronts-at s p + 2 * u + j) 0) k
 
 -- what the copy of the noted edges of u asks: x is the front part of the note, and there is one
 pub record CanRepeat (w : List ℕ) (s p u from x : ℕ) (m : Mesh) : Type 0 where

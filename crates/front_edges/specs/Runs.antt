@@ -4,40 +4,17 @@ use mathlib.Core.Bool.{true}
 use mathlib.Core.Logic.{_≢_}
 use mathlib.Core.List.{List, [], _∷_}
 use Prim.Native.Nat.{ℕ, _+_, _*_, _<_, _≤_}
-use lib.Dec.{ltb}
 use lib.ListN.{length, getD}
 use Rattle.rings.specs.Rings.{nx}
-use Rattle.definition.specs.Lists.{filter, insert}
+use Rattle.definition.specs.Lists.{filter}
 use Rattle.definition.specs.Plane.{Edge}
 use Rattle.definition.specs.Cells.{Live, Mesh, key, live-tri, is-front, front-at}
-use Rattle.definition.specs.Account.{Pairwise, _∈_}
+use Rattle.definition.specs.Account.{_∈_}
 use Rattle.laws.specs.Lists.{Stored}
-use Rattle.laws.specs.Frames.{Only}
 use Rattle.cells.specs.Layout.{rings-at, front-u-at, front-v-at, front-links-at}
 use Rattle.cells.specs.Rep.{Room, Rep}
 use Rattle.cells.specs.Walk.{own, Pos, left}
-
--- ---- numbers in a row
-
--- each is below every later one
-abbrev pub Ascending : List ℕ → Type 0
-Ascending l = Pairwise (λ a b. a < b) l
-
--- what an insertion asks
-pub record CanInsert (w : List ℕ) (from to : ℕ) : Type 0 where
-  pub order : from ≤ to
-  pub fits : to < length w
-
--- the place r for v among the numbers from `from` to `to`: the one before it is less
-pub record PlaceFor (w : List ℕ) (from to v r : ℕ) : Type 0 where
-  pub above : from ≤ r
-  pub within : r ≤ to
-  pub last : (i : ℕ) → from ≤ i → i + 1 ≡ r → getD w i 0 < v
-
--- v came in among the ascending numbers from `from` to `to`
-pub record InsertTo (w w' : List ℕ) (from to v : ℕ) : Type 0 where
-  pub only : Only w w' from (to + 1)
-  pub is : (l : List ℕ) → Stored w from l → Ascending l → from + length l ≡ to → Stored w' from (insert ltb v l)
+use Rattle.front_edges.specs.Rows.{Ascending, Distinct}
 
 -- ---- the edges of one node
 
@@ -53,6 +30,13 @@ pub record Run (w : List ℕ) (s p u from k : ℕ) (vs : List ℕ) : Type 0 wher
   pub seconds : Stored w (front-v-at s p + from) vs
   pub up : Ascending vs
 
+-- the same in any order: the nodes vs differ
+pub record Row (w : List ℕ) (s p u from k : ℕ) (vs : List ℕ) : Type 0 where
+  pub len : from + length vs ≡ k
+  pub firsts : (i : ℕ) → from ≤ i → i < k → getD w (front-u-at s p + i) 0 ≡ u
+  pub seconds : Stored w (front-v-at s p + from) vs
+  pub apart : Distinct vs
+
 -- nothing changed but edges in the places from `from` on
 pub record Beyond (w w' : List ℕ) (s p from : ℕ) : Type 0 where
   pub len : length w' ≡ length w
@@ -61,17 +45,17 @@ pub record Beyond (w w' : List ℕ) (s p from : ℕ) : Type 0 where
   pub behind : (i : ℕ) → front-links-at s p ≤ i → getD w' i 0 ≡ getD w i 0
 
 -- what one edge more asks
-pub record CanPut (w : List ℕ) (s p u v from k : ℕ) : Type 0 where
+pub record CanPut (w : List ℕ) (s p u v k : ℕ) : Type 0 where
   pub room : Room w s p
-  pub order : from ≤ k
   pub inside : k < 3 * s
   pub first : u < p
   pub second : v < p
 
--- the edge u-v came in
-pub record PutTo (w w' : List ℕ) (s p u v from k : ℕ) : Type 0 where
-  pub beyond : Beyond w w' s p from
-  pub run : (vs : List ℕ) → Run w s p u from k vs → (v ∈ vs → ⊥) → Run w' s p u from (k + 1) (insert ltb v vs)
+-- the edge u-v stands in place k
+pub record PutTo (w w' : List ℕ) (s p u v k : ℕ) : Type 0 where
+  pub first : getD w' (front-u-at s p + k) 0 ≡ u
+  pub second : getD w' (front-v-at s p + k) 0 ≡ v
+  pub beyond : Beyond w w' s p k
 
 -- ---- front edges
 
@@ -81,17 +65,16 @@ pub record Good (m : Mesh) (u v : ℕ) : Type 0 where
   pub front : is-front m (key u v) ≡ true
 
 -- what a try of the edge u-v asks
-pub record CanTry (w : List ℕ) (s p u v from k : ℕ) (m : Mesh) : Type 0 where
+pub record CanTry (w : List ℕ) (s p u v k : ℕ) (m : Mesh) : Type 0 where
   pub rep : Rep w s p m
-  pub order : from ≤ k
   pub first : u < p
   pub second : v < p
   pub inside : Good m u v → k < 3 * s
 
--- the edge came in where it is on the front and u is its smaller node
-pub data Tried (m : Mesh) (w w' : List ℕ) (s p u v from k r : ℕ) : Type 0 where
-  passed : w' ≡ w → r ≡ k → (Good m u v → ⊥) → Tried m w w' s p u v from k r
-  taken : r ≡ k + 1 → Good m u v → PutTo w w' s p u v from k → Tried m w w' s p u v from k r
+-- the edge stands in place k where it is on the front and u is its smaller node
+pub data Tried (m : Mesh) (w w' : List ℕ) (s p u v k r : ℕ) : Type 0 where
+  passed : w' ≡ w → r ≡ k → (Good m u v → ⊥) → Tried m w w' s p u v k r
+  taken : r ≡ k + 1 → Good m u v → PutTo w w' s p u v k → Tried m w w' s p u v k r
 
 -- ---- the ring of a node
 
@@ -118,7 +101,7 @@ pub record Here (w : List ℕ) (s p u from k c : ℕ) (m : Mesh) : Type 0 where
   pub rest : List Live
   pub pos : Pos w s p u c rest
   pub vs : List ℕ
-  pub run : Run w s p u from k vs
+  pub row : Row w s p u from k vs
   pub met : Met m u rest vs
 
 -- one corner on
@@ -126,6 +109,15 @@ pub record StepTo (w w' : List ℕ) (s p u from k c r : ℕ) (m : Mesh) : Type 0
   pub here : Here w' s p u from r (nx w' (rings-at s) c) m
   pub beyond : Beyond w w' s p from
   pub fewer : left w' s p (nx w' (rings-at s) c) < left w s p c
+
+-- the front edges of u stand in the places from `from` to r, in any order
+pub record GatherTo (w w' : List ℕ) (s p u from r : ℕ) (m : Mesh) : Type 0 where
+  pub vs : List ℕ
+  pub row : Row w' s p u from r vs
+  pub inside : r ≤ 3 * s
+  pub good : (v : ℕ) → v ∈ vs → Good m u v
+  pub all : (v : ℕ) → Good m u v → v ∈ vs
+  pub beyond : Beyond w w' s p from
 
 -- the front edges of u stand in the places from `from` to r
 pub record NodeTo (w w' : List ℕ) (s p u from r : ℕ) (m : Mesh) : Type 0 where

@@ -1,116 +1,37 @@
--- The corners met so far have the edges that stand in the places from `from` to k.
+-- The edges gathered, then sorted by their second nodes.
+use mathlib.Core.Path.{subst}
+use Prim.Native.Nat.{ℕ, _+_}
 use native.Mathlib.Omega.{arith}
-use Rattle.definition.specs.Cells.{Mesh}
-use Rattle.cells.specs.Walk.{left}
-use Rattle.front_edges.specs.Runs.{CanWalk}
-use Rattle.front_edges.proofs.Corners.{Walking, walking-more, here-start, here-end}
-use Rattle.front_edges.proofs.Puts.{beyond-refl}
+use borrow.Author.Needs.{needs}
+use Rattle.front_edges.specs.Rows.{SortTo}
+use Rattle.front_edges.proofs.Gathers.{can-sort, sorted}
 use Rattle.front_edges.proofs.front_at.Statement.{statement}
 use Rattle.front_edges.proofs.front_at.Tie as tie
 
-abbrev Inv-loop : tie.InvT-loop
-Inv-loop w₀ s p u from k₀ c₀ w k c = (m : Mesh) → CanWalk w₀ s p u from m → Walking w₀ w s p u from k c m
+add-sort-row-2 : tie.Need-add-sort-row-2
+add-sort-row-2 c =
+    let g = c .before .before .before .before in
+    let t = g .before .before .before in
+    let h = t .pre .1 in
+    omega (arith, c .before .front-v-at .ensures, g .gather .ensures (t .pre .0) h .inside, h .rep .room .small)
 
-abbrev μ-loop : tie.MeasureT-loop
-μ-loop w₀ s p u from k₀ c₀ w k c = left w s p c
-
-mul-next : tie.Need-mul-next Inv-loop μ-loop
-mul-next c = let t = c .before .before in omega (arith, t .pre .1 .rep .room .small, t .pre .1 .rep .points, t .pre .1 .known)
-
-mul-next-2 : tie.Need-mul-next-2 Inv-loop μ-loop
-mul-next-2 c = let t = c .before .before in omega (arith, t .pre .1 .rep .room .small, t .pre .1 .rep .points, t .pre .1 .known)
-
-add-next : tie.Need-add-next Inv-loop μ-loop
-add-next c = let t = c .before .before in omega (arith, t .pre .1 .rep .room .small, t .pre .1 .rep .points, t .pre .1 .known)
-
-mul-next-3 : tie.Need-mul-next-3 Inv-loop μ-loop
-mul-next-3 c = let t = c .before .before in omega (arith, t .pre .1 .rep .room .small, t .pre .1 .rep .points, t .pre .1 .known)
-
-add-next-2 : tie.Need-add-next-2 Inv-loop μ-loop
-add-next-2 c = let t = c .before .before in omega (arith, t .pre .1 .rep .room .small, t .pre .1 .rep .points, t .pre .1 .known)
-
-next-requires : tie.Need-next-requires Inv-loop μ-loop
-next-requires c κs = let t = c .before .before in record { fits = omega (arith, t .pre .1 .rep .room .fits); code = omega (arith, t .pre .1 .rep .points, t .pre .1 .known) }
-
-loop-holds : tie.Need-loop-holds Inv-loop μ-loop
-loop-holds c = λ m h.
-    let t = c .before .before .before in
+sort-row-requires : tie.Need-sort-row-requires
+sort-row-requires c κs =
+    let g = c .before .before .before .before in
+    let t = g .before .before .before in
     let a = t .args in
-    rw (c .next .ensures) (record { here = here-start (a .w .now) (a .s) (a .p) (a .u) (a .from) m h; beyond = beyond-refl (a .w .now) (a .s) (a .p) (a .from) })
+    rw (c .before .front-v-at .ensures)
+    (can-sort (a .w .now) (g .gather .last .0) (a .s) (a .p) (a .u) (a .from) (g .gather .result) (t .pre .0) (t .pre .1) (g .gather .ensures (t .pre .0) (t .pre .1)))
 
-mul-loop : tie.Need-mul-loop Inv-loop μ-loop
-mul-loop c = let t = c .before .before .before .before in omega (arith, t .pre .1 .rep .room .small, t .pre .1 .rep .points, t .pre .1 .known)
-
-try-corner-requires : tie.Need-try-corner-requires Inv-loop μ-loop
-try-corner-requires c κs =
-    let l = c .before .before in
-    let t = l .before .before .before .before in
-    ((t .pre .0, l .loop .inv (t .pre .0) (t .pre .1) .here), c .before .loop-test .taken)
-
-mul-next-4 : tie.Need-mul-next-4 Inv-loop μ-loop
-mul-next-4 c = let t = c .before .before .before .before .before .before .before .before .before .before in omega (arith, t .pre .1 .rep .room .small, t .pre .1 .rep .points, t .pre .1 .known)
-
-mul-next-5 : tie.Need-mul-next-5 Inv-loop μ-loop
-mul-next-5 c = let t = c .before .before .before .before .before .before .before .before .before .before in omega (arith, t .pre .1 .rep .room .small, t .pre .1 .rep .points, t .pre .1 .known)
-
-add-next-3 : tie.Need-add-next-3 Inv-loop μ-loop
-add-next-3 c = let t = c .before .before .before .before .before .before .before .before .before .before in omega (arith, t .pre .1 .rep .room .small, t .pre .1 .rep .points, t .pre .1 .known)
-
-next-requires-2 : tie.Need-next-requires-2 Inv-loop μ-loop
-next-requires-2 c κs =
-    let o = c .before .before .before in
-    let i = o .before .before in
-    let l = i .before in
-    let t = l .before .before .before .before in
-    let g = o .try-corner .ensures (t .pre .0) (l .loop .inv (t .pre .0) (t .pre .1) .here) in
-    record { fits = omega (arith, g .here .can .rep .room .fits); code = omega (arith, i .loop-test .taken) }
-
-loop-less : tie.Need-loop-less Inv-loop μ-loop
-loop-less c =
-    let o = c .before .before .before .before in
-    let l = o .before .before .before in
-    let t = l .before .before .before .before in
-    rw (c .next2 .ensures) (o .try-corner .ensures (t .pre .0) (l .loop .inv (t .pre .0) (t .pre .1) .here) .fewer)
-
-loop-again : tie.Need-loop-again Inv-loop μ-loop
-loop-again c = λ m h.
-    let o = c .before .before .before .before in
-    let l = o .before .before .before in
-    let t = l .before .before .before .before in
-    let a = t .args in
-    rw (c .next2 .ensures)
-    (walking-more (a .w .now) (l .loop .w) (o .try-corner .last .0) (a .s) (a .p) (a .u) (a .from) (l .loop .k) (l .loop .c) (o .try-corner .result) m (l .loop .inv m h)
-    (o .try-corner .ensures m (l .loop .inv m h .here)))
-
-same-length : tie.Need-same-length Inv-loop μ-loop
-same-length c = let l = c .before in let t = l .before .before .before .before in l .loop .inv (t .pre .0) (t .pre .1) .beyond .len
-
-returns : tie.Need-returns Inv-loop μ-loop
+returns : tie.Need-returns
 returns c = λ m h.
-    let l = c .before in
-    let a = l .before .before .before .before .args in
-    here-end (l .loop .w) (a .s) (a .p) (a .u) (a .from) m (a .w .now) (l .loop .k) (l .loop .c) (l .loop .inv m h .here) (l .loop .inv m h .beyond) (c .loop-test .left)
+    let r = c .before .before in
+    let v = r .before .before in
+    let g = v .before .before .before in
+    let a = g .before .before .before .args in
+    sorted (a .w .now) (g .gather .last .0) (a .s) (a .p) (a .u) (a .from) (g .gather .result) m h (g .gather .ensures m h) (r .sort-row .last .0)
+    (subst (λ (z : ℕ). SortTo (g .gather .last .0) (r .sort-row .last .0) (z + a .from) (z + g .gather .result)) (v .front-v-at .ensures) (r .sort-row .ensures))
 
 pub front-at-spec : {M : Type 1} → statement M
 front-at-spec =
-    tie.close
-    (tie.spec
-    Inv-loop
-    μ-loop
-    mul-next
-    mul-next-2
-    add-next
-    mul-next-3
-    add-next-2
-    next-requires
-    loop-holds
-    mul-loop
-    try-corner-requires
-    mul-next-4
-    mul-next-5
-    add-next-3
-    next-requires-2
-    loop-less
-    loop-again
-    same-length
-    returns)
+    tie.close (tie.spec (λ c κs. search needs) (λ c κs. search needs) (λ c. search needs) add-sort-row-2 sort-row-requires (λ c. search needs) returns)

@@ -36,7 +36,6 @@ put-edge-requires c κs =
     let h = t .pre .1 in
     record {
       room = h .rep .room;
-      order = h .order;
       inside = h .inside (record { up = omega (arith, o .if1 .left); front = front-swap (t .pre .0) (t .args .u) (t .args .v) ∙ sym (f .is-front-around .ensures (t .pre .0) (h .rep)) ∙ not-false (f .is-front-around .result) (e .if2 .left) });
       first = h .first;
       second = h .second;
