@@ -76,10 +76,8 @@ fn far_square(y: Quality, target: f64) -> f64
         dy: 0.0,
     };
     let z = square(d);
-    if z > 0.0 {
-        if too_far(y, norm(d), target) {
-            return z;
-        }
+    if too_far(y, norm(d), target) {
+        return z;
     }
     1.0 / 0.0
 }

@@ -6,3 +6,4 @@ pub mod Tallies
 pub mod Walking
 pub mod Steps
 pub mod Notes
+pub mod Squares

@@ -1,3 +1,4 @@
 pub mod Walls
 pub mod Stack
 pub mod Visit
+pub mod Squares

@@ -3,7 +3,7 @@
 -- `Isqrt`: the whole root. `Rounded`: how `round` rounds a whole root with what is left over. `Fields`: the value of a bit pattern and the pattern of a value.
 -- `Parts`: a double taken apart. `Shift`: how far a significand is shifted. `Root`: the bits of `sqrt x`. `Floor`: the bits of `floor x`.
 -- `Fourfold`: squares, sums and roots of doubled numbers. `Halves`: a length from twice the length.
--- `Order`: the order of doubles, which `round` keeps. `Keys`: a bucket key grows with its coordinate.
+-- `Order`: the order of doubles, which `round` keeps. `RootOrder`: the square root keeps it too. `Keys`: a bucket key grows with its coordinate.
 pub mod Nearest
 pub mod Parts
 pub mod Rounded
@@ -16,4 +16,5 @@ pub mod Floored
 pub mod Fourfold
 pub mod Halves
 pub mod Order
+pub mod RootOrder
 pub mod Keys

@@ -14,7 +14,7 @@ near-node-requires c κs =
     let pts = t .pre .0 .2 in
     let k = t .pre .0 .3 in
     let d = corners-of (a .w .now) (a .s) (a .p) (a .i) m rep k in
-    within (a .q .now) (a .p) m pts (c .node .result) (k .t .n0) (c .node .ensures ∙ d .read .n0) (d .k0)
+    (within (a .q .now) (a .p) m pts (c .node .result) (k .t .n0) (c .node .ensures ∙ d .read .n0) (d .k0), t .pre .1 .1)
 
 returns : tie.Need-returns
 returns c =
@@ -39,7 +39,7 @@ near-node-requires-2 c κs =
     let pts = t .pre .0 .2 in
     let k = t .pre .0 .3 in
     let d = corners-of (a .w .now) (a .s) (a .p) (a .i) m rep k in
-    within (a .q .now) (a .p) m pts (c .node2 .result) (k .t .n1) (c .node2 .ensures ∙ d .read .n1) (d .k1)
+    (within (a .q .now) (a .p) m pts (c .node2 .result) (k .t .n1) (c .node2 .ensures ∙ d .read .n1) (d .k1), t .pre .1 .1)
 
 returns-2 : tie.Need-returns-2
 returns-2 c =
@@ -71,7 +71,7 @@ near-node-requires-3 c κs =
     let pts = t .pre .0 .2 in
     let k = t .pre .0 .3 in
     let d = corners-of (a .w .now) (a .s) (a .p) (a .i) m rep k in
-    within (a .q .now) (a .p) m pts (c .node3 .result) (k .t .n2) (c .node3 .ensures ∙ d .read .n2) (d .k2)
+    (within (a .q .now) (a .p) m pts (c .node3 .result) (k .t .n2) (c .node3 .ensures ∙ d .read .n2) (d .k2), t .pre .1 .1)
 
 returns-3 : tie.Need-returns-3
 returns-3 c =

@@ -12,26 +12,27 @@ use Rattle.live_regions.specs.Stack.{Lent}
 use Rattle.live_regions.specs.Visit.{out-after, stack-after}
 use Rattle.live_regions.proofs.Scratches.{scratch-refl, scratch-trans, scratch-rep}
 use Rattle.live_regions.proofs.Steps.{Living, living-start, living-pop, living-few, living-on, living-end, scratch-back, live-trans}
+use borrow.Author.Needs.{needs}
 use Rattle.live_regions.proofs.live.live_region.Statement.{statement}
 use Rattle.live_regions.proofs.live.live_region.Tie as tie
 
 abbrev Inv-loop : tie.InvT-loop
-Inv-loop w₀ q s p used seed x y r n₀ k₀ j₀ w n k j =
+Inv-loop w₀ q s p used seed x y r t n₀ k₀ j₀ w n k j =
     (length w ≡ length w₀) × (k ≤ s) × ((all-end s p ≤ length w₀) × (4 * s + p ≤ 2 ^ 32)) × ((m : Mesh) → Lent w₀ q s p used m → Living w₀ w s p n k j m (flat x y) r (live-region m seed (flat x y) r))
 
 abbrev μ-loop : tie.MeasureT-loop
-μ-loop w₀ q s p used seed x y r n₀ k₀ j₀ w n k j = s - k
+μ-loop w₀ q s p used seed x y r t n₀ k₀ j₀ w n k j = s - k
 
 empty-requires : tie.Need-empty-requires Inv-loop μ-loop
 empty-requires c κs =
-    let t = c .before .before .before in
+    let t = c .before .before .before .before in
     let l0 = t .pre .0 .1 in
     ((t .pre .0 .0, l0 .rep, l0 .given), omega (arith, l0 .rep .room .fits, t .pre .1))
 
 seed-one-requires : tie.Need-seed-one-requires Inv-loop μ-loop
 seed-one-requires c κs =
     let em = c .before .before .before in
-    let t = em .before .before .before .before in
+    let t = em .before .before .before .before .before in
     let a = t .args in
     let w = a .w .now in
     let w1 = em .empty .last .0 in
@@ -44,7 +45,7 @@ top-requires : tie.Need-top-requires Inv-loop μ-loop
 top-requires c κs =
     let so = c .before .before .before in
     let em = so .before .before .before .before in
-    let t = em .before .before .before .before in
+    let t = em .before .before .before .before .before in
     let a = t .args in
     let w = a .w .now in
     let w1 = em .empty .last .0 in
@@ -60,7 +61,7 @@ loop-holds : tie.Need-loop-holds Inv-loop μ-loop
 loop-holds c =
     let so = c .before .before .before .before in
     let em = so .before .before .before .before in
-    let t = em .before .before .before .before in
+    let t = em .before .before .before .before .before in
     let a = t .args in
     let w = a .w .now in
     let w1 = em .empty .last .0 in
@@ -89,7 +90,7 @@ step-requires c κs =
     let x = l .loop in
     let so = l .before .before .before .before .before in
     let em = so .before .before .before .before in
-    let t = em .before .before .before .before in
+    let t = em .before .before .before .before .before in
     let a = t .args in
     let w = a .w .now in
     let w1 = em .empty .last .0 in
@@ -103,7 +104,7 @@ step-requires c κs =
     let le : Lent w2 (a .q .now) (a .s) (a .p) (a .used) m = record { rep = scratch-rep w w2 (a .s) (a .p) m sc (l0 .rep); pts = l0 .pts; given = l0 .given } in
     let g = x .inv .3 m le in
     let o = living-pop w2 (x .w) (a .s) (a .p) (x .n) (x .k) (x .j) m (flat (a .x) (a .y)) (a .r) (live-region m (a .seed) (flat (a .x) (a .y)) (a .r)) g hh in
-    (m, o .out, o .seen, o .st, o .y, le .pts, o .from)
+    (em .before .before .telling .ensures, (m, o .out, o .seen, o .st, o .y, le .pts, o .from))
 
 add-k : tie.Need-add-k Inv-loop μ-loop
 add-k c =
@@ -121,7 +122,7 @@ top-requires-2 c κs =
     let x = l .loop in
     let so = l .before .before .before .before .before in
     let em = so .before .before .before .before in
-    let t = em .before .before .before .before in
+    let t = em .before .before .before .before .before in
     let a = t .args in
     let w = a .w .now in
     let w1 = em .empty .last .0 in
@@ -147,7 +148,7 @@ loop-less c =
     let x = l .loop in
     let so = l .before .before .before .before .before in
     let em = so .before .before .before .before in
-    let t = em .before .before .before .before in
+    let t = em .before .before .before .before .before in
     let a = t .args in
     let w = a .w .now in
     let w1 = em .empty .last .0 in
@@ -171,7 +172,7 @@ loop-again c =
     let x = l .loop in
     let so = l .before .before .before .before .before in
     let em = so .before .before .before .before in
-    let t = em .before .before .before .before in
+    let t = em .before .before .before .before .before in
     let a = t .args in
     let w = a .w .now in
     let w1 = em .empty .last .0 in
@@ -210,7 +211,7 @@ returns c =
     let x = l .loop in
     let so = l .before .before .before .before .before in
     let em = so .before .before .before .before in
-    let t = em .before .before .before .before in
+    let t = em .before .before .before .before .before in
     let a = t .args in
     let w = a .w .now in
     let w1 = em .empty .last .0 in
@@ -228,6 +229,7 @@ pub live-region-spec : {M : Type 1} → statement M
 live-region-spec =
     tie.close
     (tie.spec Inv-loop μ-loop
+    (λ c κs. search needs)
     empty-requires
     seed-one-requires
     top-requires
