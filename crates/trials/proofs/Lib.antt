@@ -3,3 +3,4 @@ pub mod Order
 pub mod Steps
 pub mod Rating
 pub mod Rounds
+pub mod Falling

@@ -1,12 +1,15 @@
 -- The trials that the code keeps in two arrays, as a list of the definition's.
 use mathlib.Core.Path.{_≡_, ap, _∙_}
-use mathlib.Core.Bool.{Bool}
+use mathlib.Core.Bool.{Bool, true, not}
 use mathlib.Core.List.{List, [], _∷_, _++_}
-use Prim.Native.Nat.{ℕ, _+_, _*_, _≤_, _<_}
+use Prim.Native.Nat.{ℕ, _+_, _-_, _*_, _≤_, _<_}
 use native.Mathlib.Omega.{arith}
+use lib.Dec.{T}
 use lib.ListN.{length, take, drop, getD}
-use lib.Ieee.{Float, nan}
+use lib.Ieee.{Float, nan, isNan}
+use Rattle.definition.specs.Account.{All}
 use Rattle.definition.specs.Cells.{Quad, new-quad}
+use Rattle.definition.specs.Floats.{_≺_, _≼_}
 use Rattle.definition.specs.Lists.{insert, table, below}
 use Rattle.definition.specs.Trials as trials
 use Rattle.definition.specs.Trials.{trial-before}
@@ -71,3 +74,24 @@ pub record Place (x : trials.Trial) (l : List trials.Trial) (count p : ℕ) : Ty
 unfoldable pub onto : {A : Type 0} → (A → A → Bool) → List A → List A → List A
 onto before [] l = l
 onto before (x ∷ xs) l = insert before x (onto before xs l)
+
+-- ---- in the order of the scores
+
+-- the score is no NaN
+abbrev pub Number : trials.Trial → Type 0
+Number t = T (not (isNan (t .score)))
+
+-- y's score is at most x's
+abbrev pub NoBetter : trials.Trial → trials.Trial → Type 0
+NoBetter x y = (y .score ≼ x .score) ≡ true
+
+-- the scores are numbers and do not rise
+abbrev pub Falling : List trials.Trial → Type 0
+Falling [] = Unit {0}
+Falling (x ∷ l) = Number x × All (NoBetter x) l × Falling l
+
+-- so many as are wanted are kept, and x is below the last one's score
+pub record Outdone (scores : List Float) (count pairs : ℕ) (x : Float) : Type 0 where
+  pub full : count ≡ pairs
+  pub some : 0 < count
+  pub below-last : (x ≺ getD scores (count - 1) nan) ≡ true

@@ -1,7 +1,7 @@
 -- The nodes of the trials, for those who go on with them: a, b and two side nodes, all apart.
 use mathlib.Core.Path.{_≡_, refl, ap, sym, subst, _∙_}
-use mathlib.Core.Bool.{Bool, true, false, _||_, cond}
-use mathlib.Core.List.{List, [], _∷_, _++_}
+use mathlib.Core.Bool.{false, _||_}
+use mathlib.Core.List.{List, [], _∷_}
 use Prim.Native.Nat.{ℕ, zero, suc, _≤_, _<_}
 use native.Mathlib.Nat.{le-of-suc-le-suc, not-suc-le-zero}
 use native.Mathlib.Omega.{arith}
@@ -9,12 +9,15 @@ use borrow.Author.Tests.{eqb-false}
 use lib.Dec.{eqb}
 use lib.ListN.{length, take, getD}
 use lib.Ieee.{Float}
+use Rattle.definition.specs.Account.{All}
 use Rattle.definition.specs.Cells.{Mesh, new-quad}
-use Rattle.definition.specs.Lists.{insert, sort, flat-map, any, contains}
+use Rattle.definition.specs.Lists.{flat-map, any, contains}
 use Rattle.definition.specs.Metrics.{passes, score}
 use Rattle.definition.specs.Numbers.{Quality}
 use Rattle.definition.specs.Trials.{Trial, rated, metrics-of, trial, trial-before, trials}
-use Rattle.laws.specs.Bools.{none-left, none-right}
+use Rattle.laws.specs.Bools.{cond-ok, none-left, none-right}
+use Rattle.laws.specs.Lists.{all-append}
+use Rattle.laws.specs.Sorts.{all-sort}
 use Rattle.trials.specs.Kept.{Keeps, Stands, length-listed, listed-at, quad-at, room, row}
 use Rattle.trials.specs.Ranked.{Named, part, part-below}
 
@@ -52,47 +55,20 @@ pub record Sound (n a b : ℕ) (t : Trial) : Type 0 where
 -- ---- what holds of each trial holds of each that is kept
 
 module _ (P : Trial → Type 0) where
-  abbrev All : List Trial → Type 0
-  All [] = Unit {0}
-  All (x ∷ xs) = P x × All xs
-
-  either : (b : Bool) (s t : List Trial) → All s → All t → All (cond b s t)
-  either true s t h k = h
-  either false s t h k = k
-
-  -- none where the test passes
-  unless : (b : Bool) (s : List Trial) → (b ≡ false → All s) → All (cond b [] s)
-  unless true s h = tt
-  unless false s h = h refl
-
-  all-insert : (x : Trial) (l : List Trial) → P x → All l → All (insert trial-before x l)
-  unfolding insert
-  all-insert x [] p h = (p, tt)
-  all-insert x (y ∷ ys) p h = either (trial-before y x) _ _ (h .0, all-insert x ys p (h .1)) (p, h)
-
-  all-sort : (l : List Trial) → All l → All (sort trial-before l)
-  unfolding sort
-  all-sort [] h = tt
-  all-sort (x ∷ xs) h = all-insert x (sort trial-before xs) (h .0) (all-sort xs (h .1))
-
-  all-take : (n : ℕ) (l : List Trial) → All l → All (take n l)
+  pub all-take : (n : ℕ) (l : List Trial) → All P l → All P (take n l)
   all-take zero l h = tt
   all-take (suc n) [] h = tt
   all-take (suc n) (x ∷ xs) h = (h .0, all-take n xs (h .1))
 
-  all-append : (s t : List Trial) → All s → All t → All (s ++ t)
-  all-append [] t h k = k
-  all-append (x ∷ xs) t h k = (h .0, all-append xs t (h .1) k)
-
-  all-flat-map : (f : ℕ → List Trial) (l : List ℕ) → ((i : ℕ) → i < length l → All (f (getD l i 0))) → All (flat-map f l)
+  pub all-flat-map : (f : ℕ → List Trial) (l : List ℕ) → ((i : ℕ) → i < length l → All P (f (getD l i 0))) → All P (flat-map f l)
   unfolding flat-map
   all-flat-map f [] h = tt
-  all-flat-map f (x ∷ xs) h = all-append (f x) (flat-map f xs) (h 0 (omega arith)) (all-flat-map f xs (λ i u. h (suc i) (omega arith)))
+  all-flat-map f (x ∷ xs) h = all-append P (f x) (flat-map f xs) (h 0 (omega arith)) (all-flat-map f xs (λ i u. h (suc i) (omega arith)))
 
-  all-at : (l : List Trial) (i : ℕ) (x : Trial) → i < length l → Stands l i x → All l → P x
-  all-at [] i x h s k = absurd (not-suc-le-zero h)
-  all-at (y ∷ ys) zero x h s k = subst P (s .at y) (k .0)
-  all-at (y ∷ ys) (suc i) x h s k = all-at ys i x (le-of-suc-le-suc h) (record { at = s .at }) (k .1)
+  all-stands : (l : List Trial) (i : ℕ) (x : Trial) → i < length l → Stands l i x → All P l → P x
+  all-stands [] i x h s k = absurd (not-suc-le-zero h)
+  all-stands (y ∷ ys) zero x h s k = subst P (s .at y) (k .0)
+  all-stands (y ∷ ys) (suc i) x h s k = all-stands ys i x (le-of-suc-le-suc h) (record { at = s .at }) (k .1)
 
 -- ---- one pair
 
@@ -120,7 +96,8 @@ pair-sound : (y : Quality) (m : Mesh) (n a b c d : ℕ) → c < n → d < n → 
 unfolding trial rated
 pair-sound y m n a b c d hc hd =
     let k = metrics-of m (new-quad a b d c) in
-    unless (Sound n a b) _ _ (λ e. either (Sound n a b) (passes y k) (record { score = score k; nodes = new-quad a b d c } ∷ []) [] (made-sound n a b c d (score k) hc hd e, tt) tt)
+    let P : List Trial → Type 0 = All (Sound n a b) in
+    cond-ok P _ [] _ (λ _. tt) (λ e. cond-ok P (passes y k) (record { score = score k; nodes = new-quad a b d c } ∷ []) [] (λ _. (made-sound n a b c d (score k) hc hd e, tt)) (λ _. tt))
 
 -- ---- all pairs
 
@@ -137,4 +114,4 @@ sound y m n w q near-at nears far-at fars a b k i x h s =
     let d-below = part-below w far-at fars n (k .far) (k .far-below) in
     let each = all-flat-map P (λ c. flat-map (λ d. trial y m a b c d) ds) cs (λ i u.
     all-flat-map P (λ d. trial y m a b _ d) ds (λ j v. pair-sound y m n a b _ _ (c-below i u) (d-below j v))) in
-    all-at P _ i x h s (all-take P (y .pairs) _ (all-sort P _ each))
+    all-stands P _ i x h s (all-take P (y .pairs) _ (all-sort trial-before P _ each))

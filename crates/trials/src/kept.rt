@@ -1,12 +1,13 @@
 // The best trials so far, in order, in two lent arrays: the scores, and four nodes for each.
 use rules::MOST_PAIRS;
 ghost use mathlib.Core.Path.{_≡_};
+ghost use mathlib.Core.Bool.{true};
 ghost use Prim.Native.Nat.{_*_, _≤_, _<_};
 ghost use lib.ListN.{length, take, set};
 ghost use Rattle.definition.specs.Cells.{quad-nodes};
 ghost use Rattle.definition.specs.Lists.{insert};
 ghost use Rattle.definition.specs.Trials.{trial-before, numbers-before};
-ghost use Rattle.trials.specs.Kept.{Keeps, Place, all, listed, put, quad-of, room, row, trial-of};
+ghost use Rattle.trials.specs.Kept.{Keeps, Outdone, Place, all, listed, put, quad-of, room, row, trial-of};
 
 // How many the arrays have room for.
 pub const ROOM: usize = MOST_PAIRS;
@@ -123,6 +124,20 @@ fn put(
     }
     store(scores, nodes, count, carried);
     count + 1
+}
+
+// So many as are wanted are kept, and x is below the last one's score.
+pub fn outdone(scores: &[f64; ROOM], count: usize, pairs: usize, x: f64) -> bool
+    requires { ⌜ (count ≤ pairs) × (pairs ≤ room) ⌝ }
+    ensures { λ r. ⌜ (r ≡ true → Outdone (now (scores .entry)) count pairs x) ⌝ }
+{
+    if count < pairs {
+        return false;
+    }
+    if count == 0 {
+        return false;
+    }
+    x < scores[count - 1]
 }
 
 // t in its place, one beyond the pairs dropped; how many are kept then.

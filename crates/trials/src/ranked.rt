@@ -10,12 +10,13 @@ ghost use Rattle.definition.specs.Lists.{contains, flat-map};
 ghost use Rattle.definition.specs.Trials.{rated, trial-before, trials};
 ghost use Rattle.plane.specs.Points.{Within};
 ghost use Rattle.rules.specs.Settings.{quality-of};
-ghost use Rattle.trials.specs.Kept.{Keeps, listed, onto, room};
+ghost use Rattle.trials.specs.Kept.{Falling, Keeps, listed, onto, room};
 ghost use Rattle.trials.specs.Ranked.{Far, HalfAt, Named, metrics-at, part, trial-at};
 use crate::kept::NODES;
 use crate::kept::ROOM;
 use crate::kept::Trial;
 use crate::kept::insert;
+use crate::kept::outdone;
 use plane::metrics::Metrics;
 use plane::metrics::passes;
 use plane::metrics::quad_metrics_by;
@@ -51,7 +52,7 @@ fn meets(a: usize, b: usize, c: usize, d: usize) -> bool
     d == c
 }
 
-// With the quad a b d c, if its metrics pass.
+// With the quad a b d c, if its metrics pass. Its score is at most its scaled Jacobian, so one that is outdone by that is not scored.
 fn rate(
     scores: &mut [f64; ROOM],
     nodes: &mut [usize; NODES],
@@ -61,12 +62,15 @@ fn rate(
     h: Half,
     d: usize,
 ) -> usize
-    requires { ⌜ (count ≤ y .pairs) × (y .pairs ≤ room) ⌝ }
+    requires { ⌜ (count ≤ y .pairs) × (y .pairs ≤ room) × Falling (listed (now scores) (now nodes) count) ⌝ }
     requires { ⌜ HalfAt (now q) h × Within (now q) d ⌝ }
     ensures { λ k. ⌜ Keeps (now (scores .exit)) (now (nodes .exit)) (y .pairs) k (take (y .pairs) (onto trial-before (rated (quality-of y) (new-quad (h .a) (h .b) d (h .c)) (metrics-at (now (q .entry)) (h .a) (h .b) d (h .c))) (listed (now (scores .entry)) (now (nodes .entry)) count))) ⌝ }
 {
     let m = quad_metrics_by(q, h.a, h.b, d, h.c, h.ab, h.ca);
-    if let Metrics::Absent = m {
+    let Metrics::Measured(sj, _) = m else {
+        return count;
+    };
+    if outdone(scores, count, y.pairs, sj) {
         return count;
     }
     if !passes(m, y.least_jacobian, y.largest_cosine) {
@@ -92,7 +96,7 @@ fn with_pair(
     h: Half,
     d: usize,
 ) -> usize
-    requires { ⌜ (count ≤ y .pairs) × (y .pairs ≤ room) ⌝ }
+    requires { ⌜ (count ≤ y .pairs) × (y .pairs ≤ room) × Falling (listed (now scores) (now nodes) count) ⌝ }
     requires { ⌜ HalfAt (now q) h × Within (now q) d ⌝ }
     ensures { λ k. ⌜ Keeps (now (scores .exit)) (now (nodes .exit)) (y .pairs) k (take (y .pairs) (onto trial-before (trial-at (quality-of y) (now (q .entry)) (h .a) (h .b) (h .c) d) (listed (now (scores .entry)) (now (nodes .entry)) count))) ⌝ }
 {
@@ -114,7 +118,7 @@ fn with_node(
     fars: usize,
     h: Half,
 ) -> usize
-    requires { ⌜ (count ≤ y .pairs) × (y .pairs ≤ room) ⌝ }
+    requires { ⌜ (count ≤ y .pairs) × (y .pairs ≤ room) × Falling (listed (now scores) (now nodes) count) ⌝ }
     requires { ⌜ Far (now w) (now q) «far_at» fars × HalfAt (now q) h ⌝ }
     ensures { λ k. ⌜ Keeps (now (scores .exit)) (now (nodes .exit)) (y .pairs) k (take (y .pairs) (onto trial-before (flat-map (trial-at (quality-of y) (now (q .entry)) (h .a) (h .b) (h .c)) (part (now (w .entry)) «far_at» fars)) (listed (now (scores .entry)) (now (nodes .entry)) count))) ⌝ }
 {

@@ -9,6 +9,7 @@ use Rattle.definition.specs.Lists.{flat-map}
 use Rattle.plane.specs.Points.{Within}
 use Rattle.rules.specs.Settings.{quality-of}
 use Rattle.trials.specs.Ranked.{part, trial-at, length-part, part-at}
+use Rattle.trials.proofs.Falling.{all-numbers, falling-kept, trial-numbers}
 use Rattle.trials.proofs.Rating.{kept-none}
 use Rattle.trials.proofs.Rounds.{Gone, gone-none, gone-more, gone-all, best-of}
 use Rattle.trials.proofs.ranked.best.Statement.{statement}
@@ -51,8 +52,10 @@ with-node-requires : tie.Need-with-node-requires Inv-loop μ-loop
 with-node-requires c κs =
     let l = c .before .before .before .before in
     let a = l .before .before .before .before .before in
-    let k = a .pre .1 .1 in (
-      (l .before .loop .inv .so-far .few, a .pre .0),
+    let k = a .pre .1 .1 in
+    let so-far = l .before .loop .inv .so-far in
+    let falls = falling-kept _ _ _ _ _ _ (all-numbers _ _ (λ c. all-numbers _ _ (trial-numbers _ _ _ _ c))) tt so-far in (
+      (so-far .few, a .pre .0, falls),
       (
         record { stands = k .far; within = λ j u. omega (arith, k .points, k .far-below j u) },
         record {

@@ -7,6 +7,7 @@ use borrow.Author.Needs.{needs}
 use Rattle.rules.specs.Settings.{quality-of}
 use Rattle.trials.specs.Kept.{listed, onto}
 use Rattle.trials.specs.Ranked.{part, trial-at, length-part, part-at}
+use Rattle.trials.proofs.Falling.{all-numbers, falling-kept, trial-numbers}
 use Rattle.trials.proofs.Rating.{kept-same}
 use Rattle.trials.proofs.Rounds.{Gone, gone-none, gone-more, gone-all}
 use Rattle.trials.proofs.ranked.with_node.Statement.{statement}
@@ -31,7 +32,9 @@ with-pair-requires c κs =
     let k = l .before .before .before .before in
     let h : l .before .loop .j - 1 < k .args .fars = omega (arith, l .before .loop .inv .within, l .loop-test .taken) in
     let p = k .pre .1 in
-    ((l .before .loop .inv .so-far .few, k .pre .0 .1), (p .1, p .0 .within _ h))
+    let so-far = l .before .loop .inv .so-far in
+    let falls = falling-kept _ _ _ _ _ _ (all-numbers _ _ (trial-numbers _ _ _ _ _)) (k .pre .0 .2) so-far in
+    ((so-far .few, k .pre .0 .1, falls), (p .1, p .0 .within _ h))
 
 loop-again : tie.Need-loop-again Inv-loop μ-loop
 loop-again c =
