@@ -90,10 +90,12 @@ pub fn segment_inside(
     requires { ⌜ ((m : Mesh) × (region : List Live) × InHand (now w) (now q) s p n m region × Ends m a b) ⌝ }
     ensures { λ r. ⌜ ((m : Mesh) (region : List Live) → InHand (now (w .entry)) (now (q .entry)) s p n m region → Ends m a b → r ≡ segment-inside m a b (walls m region)) ⌝ }
 {
+    let at = list_at(s, p);
+    let marks = marks_at(s, p);
     let mut k: usize = 0;
     while k < n {
-        let i = wide(w[21 * s + 3 * p + k]);
-        if !open_cell(w, q, s, p, a, b, i, w[20 * s + 3 * p + i]) {
+        let i = wide(w[at + k]);
+        if !open_cell(w, q, s, p, a, b, i, w[marks + i]) {
             return false;
         }
         k += 1;
