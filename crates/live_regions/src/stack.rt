@@ -2,6 +2,9 @@
 use cells::find::first_owner;
 use cells::find::next_owner;
 use cells::find::node;
+use cells::layout::list_at;
+use cells::layout::marks_at;
+use cells::layout::stack_at;
 use rings::link;
 use rings::unlink;
 use words::wide;
@@ -24,9 +27,10 @@ fn clear_marks(w: &mut [u32], s: usize, p: usize, n: usize)
     requires { ⌜ CanClear (now w) s p n ⌝ }
     ensures { λ r. ⌜ Unmarked (now (w .entry)) (now (w .exit)) s p n ⌝ }
 {
+    let marks = marks_at(s, p);
     let mut i = 0;
     while i < n {
-        w[20 * s + 3 * p + i] = 0;
+        w[marks + i] = 0;
         i += 1;
     }
 }
@@ -38,8 +42,9 @@ pub fn empty(w: &mut [u32], s: usize, p: usize, n: usize)
     ensures { λ r. ⌜ ((m : Mesh) → Rep (now (w .entry)) s p m → n ≡ m .used → PushTo (now (w .entry)) (now (w .exit)) s p m [] [] []) ⌝ }
 {
     clear_marks(w, s, p, n);
-    w[58 * s + 8 * p + s] = s as u32;
-    w[58 * s + 8 * p + (s + 1) + s] = s as u32;
+    let stack = stack_at(s, p);
+    w[stack + s] = s as u32;
+    w[stack + (s + 1) + s] = s as u32;
 }
 
 // The cell in slot j comes to the top of the stack, unless it was seen or is no triangle; one that is on the stack moves there.
@@ -47,10 +52,12 @@ pub fn push_one(w: &mut [u32], s: usize, p: usize, j: usize)
     requires { ⌜ ((m : Mesh) × (out : List Live) × (seen : List Live) × (st : List Live) × (e : Live) × Met (now w) s p j m out seen st e) ⌝ }
     ensures { λ r. ⌜ ((m : Mesh) (out seen st : List Live) (e : Live) → Met (now (w .entry)) s p j m out seen st e → PushTo (now (w .entry)) (now (w .exit)) s p m out seen (on-top seen st e)) ⌝ }
 {
-    let m = w[20 * s + 3 * p + j];
+    let marks = marks_at(s, p);
+    let stack = stack_at(s, p);
+    let m = w[marks + j];
     if m >= 16 {
-        unlink(w, 58 * s + 8 * p, s + 1, j);
-        link(w, 58 * s + 8 * p, s + 1, j, s);
+        unlink(w, stack, s + 1, j);
+        link(w, stack, s + 1, j, s);
         return;
     }
     if m >= 2 {
@@ -59,8 +66,8 @@ pub fn push_one(w: &mut [u32], s: usize, p: usize, j: usize)
     if w[j] != 3 {
         return;
     }
-    w[20 * s + 3 * p + j] = 16;
-    link(w, 58 * s + 8 * p, s + 1, j, s);
+    w[marks + j] = 16;
+    link(w, stack, s + 1, j, s);
 }
 
 // The tally k of an edge's owners with one more, in slot j: their number while all are triangles and at most two, 3 otherwise.
@@ -122,14 +129,15 @@ fn note_edge(w: &mut [u32], s: usize, p: usize, j: usize, u: usize, v: usize)
     requires { ⌜ j < s ⌝ }
     ensures { λ r. ⌜ ((m : Mesh) (out seen st : List Live) → CanNote (now (w .entry)) s p j u v m out seen st → PushTo (now (w .entry)) (now (w .exit)) s p m out seen st) ⌝ }
 {
-    let n = w[20 * s + 3 * p + j];
+    let marks = marks_at(s, p);
+    let n = w[marks + j];
     if n < 16 {
         return;
     }
     let x = node(w, s, j, 0);
     let y = node(w, s, j, 1);
     let z = node(w, s, j, 2);
-    w[20 * s + 3 * p + j] = with_edge(n, x, y, z, u, v);
+    w[marks + j] = with_edge(n, x, y, z, u, v);
 }
 
 // Of two triangles a and b, which own u-v, the one that is not i need not push the owners.
@@ -217,9 +225,11 @@ pub fn take(w: &mut [u32], s: usize, p: usize, i: usize) -> u32
     requires { ⌜ ((m : Mesh) × (out : List Live) × (seen : List Live) × (st : List Live) × (x : Live) × OnTop (now w) s p i m out seen st x) ⌝ }
     ensures { λ r. ⌜ ((m : Mesh) (out seen st : List Live) (x : Live) → OnTop (now (w .entry)) s p i m out seen st x → TakeTo (now (w .entry)) (now (w .exit)) s p i r m out seen st x) ⌝ }
 {
-    let n = w[20 * s + 3 * p + i];
-    unlink(w, 58 * s + 8 * p, s + 1, i);
-    w[20 * s + 3 * p + i] = 2;
+    let marks = marks_at(s, p);
+    let stack = stack_at(s, p);
+    let n = w[marks + i];
+    unlink(w, stack, s + 1, i);
+    w[marks + i] = 2;
     n
 }
 
@@ -228,6 +238,8 @@ pub fn list_one(w: &mut [u32], s: usize, p: usize, n: usize, i: usize, f: u32)
     requires { ⌜ ((m : Mesh) × (out : List Live) × (seen : List Live) × (st : List Live) × (x : Live) × CanList (now w) s p n i f m out seen st x) ⌝ }
     ensures { λ r. ⌜ ((m : Mesh) (out seen st : List Live) (x : Live) → CanList (now (w .entry)) s p n i f m out seen st x → PushTo (now (w .entry)) (now (w .exit)) s p m (out ++ x ∷ []) seen st) ⌝ }
 {
-    w[21 * s + 3 * p + n] = i as u32;
-    w[20 * s + 3 * p + i] = f;
+    let list = list_at(s, p);
+    let marks = marks_at(s, p);
+    w[list + n] = i as u32;
+    w[marks + i] = f;
 }

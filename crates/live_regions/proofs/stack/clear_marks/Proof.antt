@@ -1,6 +1,8 @@
 -- The loop's invariant: the first i marks are 0, and nothing else changed.
-use Prim.Native.Nat.{_-_}
+use mathlib.Core.Path.{sym, subst}
+use Prim.Native.Nat.{ℕ, _-_, _+_}
 use native.Mathlib.Omega.{arith}
+use lib.ListN.{set}
 use Rattle.live_regions.proofs.Scratches.{scratch-refl}
 use Rattle.live_regions.proofs.Takes.{Clearing, clearing-more}
 use borrow.Author.Needs.{needs}
@@ -8,34 +10,42 @@ use Rattle.live_regions.proofs.stack.clear_marks.Statement.{statement}
 use Rattle.live_regions.proofs.stack.clear_marks.Tie as tie
 
 abbrev Inv-loop : tie.InvT-loop
-Inv-loop w₀ s p n i₀ w i = Clearing w₀ w s p n i
+Inv-loop w₀ s p n marks i₀ w i = Clearing w₀ w s p n i
 
 abbrev μ-loop : tie.MeasureT-loop
-μ-loop w₀ s p n i₀ w i = n - i
+μ-loop w₀ s p n marks i₀ w i = n - i
+
+marks-at-requires : tie.Need-marks-at-requires Inv-loop μ-loop
+marks-at-requires c κs =
+    let t = c .before in
+    record { slots = omega (arith, t .pre .small); points = omega (arith, t .pre .small) }
 
 loop-holds : tie.Need-loop-holds Inv-loop μ-loop
 loop-holds c =
-    let a = c .args in
-    record { within = omega arith; few = c .pre .few; zero = λ k h. absurd (omega (arith, h)); scratch = scratch-refl (a .w .now) (a .s) (a .p) }
+    let t = c .before .before in
+    let a = t .args in
+    record { within = omega arith; few = t .pre .few; zero = λ k h. absurd (omega (arith, h)); scratch = scratch-refl (a .w .now) (a .s) (a .p) }
 
-add-w-2 : tie.Need-add-w-2 Inv-loop μ-loop
-add-w-2 c =
-    omega (arith, c .loop-test .taken, c .before .loop .inv .few, c .before .before .pre .small)
+add-w : tie.Need-add-w Inv-loop μ-loop
+add-w c =
+    omega (arith, c .before .before .marks-at .ensures, c .loop-test .taken, c .before .loop .inv .few, c .before .before .before .before .pre .small)
 
-mul-w-3 : tie.Need-mul-w-3 Inv-loop μ-loop
-mul-w-3 c =
-    omega (arith, c .loop-test .taken, c .before .loop .inv .few, c .before .before .pre .small)
+mul-w : tie.Need-mul-w Inv-loop μ-loop
+mul-w c =
+    omega (arith, c .before .before .marks-at .ensures, c .loop-test .taken, c .before .loop .inv .few, c .before .before .before .before .pre .small)
 
 slice-write-w : tie.Need-slice-write-w Inv-loop μ-loop
 slice-write-w c =
-    omega (arith, c .loop-test .taken, c .before .loop .inv .few, c .before .before .pre .fits, c .before .loop .inv .scratch .len)
+    omega (arith, c .before .before .marks-at .ensures, c .loop-test .taken, c .before .loop .inv .few, c .before .before .before .before .pre .fits, c .before .loop .inv .scratch .len)
 
 loop-again : tie.Need-loop-again Inv-loop μ-loop
 loop-again c =
-    let t = c .before .before in
+    let k = c .before .before in
+    let t = k .before .before in
     let a = t .args in
     let x = c .before .loop in
-    clearing-more (a .w .now) (x .w) (a .s) (a .p) (a .n) (x .i) (t .pre .fits) (c .loop-test .taken) (x .inv)
+    subst (λ (z : ℕ). Clearing (a .w .now) (set (x .w) (z + x .i) 0) (a .s) (a .p) (a .n) (x .i + 1)) (sym (k .marks-at .ensures))
+    (clearing-more (a .w .now) (x .w) (a .s) (a .p) (a .n) (x .i) (t .pre .fits) (c .loop-test .taken) (x .inv))
 
 same-length : tie.Need-same-length Inv-loop μ-loop
 same-length c =
@@ -48,7 +58,4 @@ returns c =
 
 pub clear-marks-spec : {M : Type 1} → statement M
 clear-marks-spec =
-    tie.close
-    (tie.spec
-    Inv-loop μ-loop loop-holds (λ c. search needs) (λ c. search needs) (λ c. search needs) add-w-2 mul-w-3 slice-write-w (λ c. search needs)
-    (λ c. search needs) loop-again same-length returns)
+    tie.close (tie.spec Inv-loop μ-loop marks-at-requires loop-holds add-w mul-w slice-write-w (λ c. search needs) (λ c. search needs) loop-again same-length returns)

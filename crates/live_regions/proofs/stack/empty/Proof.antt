@@ -1,5 +1,9 @@
+use mathlib.Core.Path.{sym, subst}
+use mathlib.Core.List.{[]}
+use Prim.Native.Nat.{ℕ, _+_}
 use native.Mathlib.Omega.{arith}
-use lib.ListN.{length-set}
+use lib.ListN.{set, length-set}
+use Rattle.live_regions.specs.Stack.{PushTo}
 use Rattle.live_regions.proofs.Takes.{emptied}
 use borrow.Author.Needs.{needs}
 use Rattle.live_regions.proofs.stack.empty.Statement.{statement}
@@ -12,21 +16,23 @@ clear-marks-requires c κs =
 
 slice-write-w-2 : tie.Need-slice-write-w-2
 slice-write-w-2 c =
-    let k = c .before .before in
+    let k = c .before .before .before in
     let t = k .before .before .before in
-    simp length-set (omega (arith, t .pre .1, k .clear-marks .ensures .scratch .len))
+    simp length-set (omega (arith, c .stack-at .ensures, t .pre .1, k .clear-marks .ensures .scratch .len))
 
 returns : tie.Need-returns
 returns c =
-    let k = c .before .before in
+    let k = c .before .before .before in
     let t = k .before .before .before in
     let a = t .args in
-    λ m r e. emptied (a .w .now) (k .clear-marks .last .0) (a .s) (a .p) (a .n) m (t .pre .1) r e (k .clear-marks .ensures)
+    let w1 = k .clear-marks .last .0 in
+    λ m r e.
+    subst (λ (z : ℕ). PushTo (a .w .now) (set (set w1 (z + a .s) (a .s)) (z + (a .s + 1) + a .s) (a .s)) (a .s) (a .p) m [] [] []) (sym (c .stack-at .ensures))
+    (emptied (a .w .now) w1 (a .s) (a .p) (a .n) m (t .pre .1) r e (k .clear-marks .ensures))
 
 pub empty-spec : {M : Type 1} → statement M
 empty-spec =
     tie.close
     (tie.spec
-    clear-marks-requires (λ c. search needs) (λ c. search needs) (λ c. search needs) (λ c. search needs) (λ c. search needs) (λ c. search needs)
-    (λ c. search needs) (λ c. search needs) (λ c. search needs) (λ c. search needs) (λ c. search needs) (λ c. search needs) (λ c. search needs)
-    (λ c. search needs) (λ c. search needs) slice-write-w-2 (λ c. search needs) returns)
+    clear-marks-requires (λ c κs. search needs) (λ c. search needs) (λ c. search needs) (λ c. search needs) (λ c. search needs) (λ c. search needs)
+    (λ c. search needs) (λ c. search needs) (λ c. search needs) (λ c. search needs) slice-write-w-2 (λ c. search needs) returns)
