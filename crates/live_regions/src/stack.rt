@@ -16,7 +16,7 @@ ghost use lib.Dec.{eqb};
 ghost use Rattle.definition.specs.Cells.{Live, Mesh, tri, new-live, key};
 ghost use Rattle.definition.specs.Candidates.{on-top};
 ghost use Rattle.cells.specs.Rep.{Rep, TriIn};
-ghost use Rattle.cells.specs.Layout.{all-end};
+ghost use Rattle.cells.specs.Layout.{Sizes, all-end};
 ghost use Rattle.cells.specs.Walk.{IsEdge};
 ghost use lib.ListN.{length, getD};
 ghost use Rattle.live_regions.specs.Stack.{Hold, Met, PushTo, CanPush, CanPass, CanNote, Pair, Adds, EdgeTo, CanPushAll, AroundTo, OnTop, TakeTo, CanList, CanClear, Unmarked, top-or};
@@ -215,9 +215,11 @@ pub fn push_around(w: &mut [u32], s: usize, p: usize, i: usize, n: u32) -> u32
 // The slot on top of the stack; s: there is none.
 pub fn top(w: &[u32], s: usize, p: usize) -> usize
     requires { ⌜ all-end s p ≤ length (now w) ⌝ }
+    requires { ⌜ Sizes s p ⌝ }
     ensures { λ r. ⌜ ((m : Mesh) (out seen st : List Live) → Hold (now (w .entry)) s p m out seen st → r ≡ top-or s st) ⌝ }
 {
-    wide(w[58 * s + 8 * p + (s + 1) + s])
+    let b = stack_at(s, p);
+    wide(w[b + (s + 1) + s])
 }
 
 // The slot i on top of the stack is taken: it is seen now. The mark that it had.

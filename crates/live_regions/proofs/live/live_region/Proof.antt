@@ -7,6 +7,7 @@ use lib.ListN.{length}
 use Rattle.definition.specs.Plane.{flat}
 use Rattle.definition.specs.Cells.{Mesh, cell-of}
 use Rattle.definition.specs.Candidates.{in-reach, seed-stack, live-region}
+use Rattle.cells.proofs.Slots.{sizes}
 use Rattle.cells.specs.Layout.{all-end}
 use Rattle.live_regions.specs.Stack.{Lent}
 use Rattle.live_regions.specs.Visit.{out-after, stack-after}
@@ -55,7 +56,7 @@ top-requires c κs =
     let w2 = so .seed-one .last .0 in
     let f0 = so .seed-one .ensures m0 (g0 .hold) in
     let sc = scratch-trans w w1 w2 (a .s) (a .p) (g0 .scratch) (f0 .scratch) in
-    f0 .hold .fits
+    (f0 .hold .fits, sizes w2 (a .s) (a .p) (f0 .hold .rep .room))
 
 loop-holds : tie.Need-loop-holds Inv-loop μ-loop
 loop-holds c =
@@ -137,7 +138,7 @@ top-requires-2 c κs =
     let g = x .inv .3 m le in
     let o = living-pop w2 (x .w) (a .s) (a .p) (x .n) (x .k) (x .j) m (flat (a .x) (a .y)) (a .r) (live-region m (a .seed) (flat (a .x) (a .y)) (a .r)) g hh in
     let f = sp .step .ensures m (o .out) (o .seen) (o .st) (o .y) (le .pts) (o .from) in
-    f .to .hold .fits
+    (f .to .hold .fits, sizes (sp .step .last .0) (a .s) (a .p) (f .to .hold .rep .room))
 
 loop-less : tie.Need-loop-less Inv-loop μ-loop
 loop-less c =
