@@ -108,17 +108,20 @@ fn few_near(w: &[u32], b: usize, i: usize, k: usize, e: Vec) -> bool
     false
 }
 
-// One of the k ideals that stand from b on is near e; four are asked at once.
+// One of the k ideals that stand from b on is near e; four are asked at once, and four more before the loop goes on.
 fn all_near(w: &[u32], b: usize, k: usize, e: Vec) -> bool
     requires { ⌜ CanGet (now w) b k ⌝ }
     ensures { λ r. ⌜ Tested (kept-test (now (w .entry)) b (vec e)) 0 k r ⌝ }
 {
     let mut i: usize = 0;
-    while k - i >= 4 {
+    while k - i >= 8 {
         if four_near(w, b + 4 * i, e) {
             return true;
         }
-        i += 4;
+        if four_near(w, b + 4 * (i + 4), e) {
+            return true;
+        }
+        i += 8;
     }
     few_near(w, b, i, k, e)
 }

@@ -1,7 +1,7 @@
 -- The loop's invariant: the ideals before place i are not near. The measure is how many are left.
 use mathlib.Core.Path.{_≡_, sym, _∙_}
 use mathlib.Core.Bool.{false}
-use Prim.Native.Nat.{ℕ, _-_, _<_, _≤_}
+use Prim.Native.Nat.{ℕ, _+_, _-_, _<_, _≤_}
 use native.Mathlib.Omega.{arith}
 use Rattle.plane.specs.Vectors.{vec}
 use Rattle.edge_candidates.specs.Wishes.{kept-test}
@@ -35,16 +35,38 @@ returns c =
     tested-by (kept-test (a .w .now) (a .b) (vec (a .e))) 0 (a .k)
     (four-hit (a .w .now) (a .b) (l .loop .i) (vec (a .e)) (a .k) (omega (arith, i .loop-test .taken)) (sym (fn .four-near .ensures) ∙ c .if1 .taken))
 
-loop-again : tie.Need-loop-again Inv-loop μ-loop
-loop-again c =
-    let fn = c .before in
-    let i = fn .before in
+four-near-requires-2 : tie.Need-four-near-requires-2 Inv-loop μ-loop
+four-near-requires-2 c κs =
+    let i = c .before .before in
     let l = i .before in
-    let a = l .before .before .args in
-    (omega (arith, i .loop-test .taken), four-miss (a .w .now) (a .b) (l .loop .i) (vec (a .e)) (sym (fn .four-near .ensures) ∙ c .if1 .left) (l .loop .inv .1))
+    let t = l .before .before in
+    let a = t .args in
+    can-get-four (a .w .now) (a .b) (a .k) (l .loop .i + 4) (t .pre) (omega (arith, i .loop-test .taken))
 
 returns-2 : tie.Need-returns-2 Inv-loop μ-loop
 returns-2 c =
+    let fn = c .before in
+    let i = fn .before .before .before in
+    let l = i .before in
+    let a = l .before .before .args in
+    tested-by (kept-test (a .w .now) (a .b) (vec (a .e))) 0 (a .k)
+    (four-hit (a .w .now) (a .b) (l .loop .i + 4) (vec (a .e)) (a .k) (omega (arith, i .loop-test .taken)) (sym (fn .four-near2 .ensures) ∙ c .if2 .taken))
+
+loop-again : tie.Need-loop-again Inv-loop μ-loop
+loop-again c =
+    let fn = c .before in
+    let first = fn .before in
+    let i = first .before .before in
+    let l = i .before in
+    let a = l .before .before .args in (
+      omega (arith, i .loop-test .taken),
+      λ j z h.
+          four-miss (a .w .now) (a .b) (l .loop .i + 4) (vec (a .e)) (sym (fn .four-near2 .ensures) ∙ c .if2 .left)
+          (four-miss (a .w .now) (a .b) (l .loop .i) (vec (a .e)) (sym (first .before .four-near .ensures) ∙ first .if1 .left) (l .loop .inv .1)) j z (omega (arith, h)),
+    )
+
+returns-3 : tie.Need-returns-3 Inv-loop μ-loop
+returns-3 c =
     let l = c .before .before in
     let a = l .before .before .args in
     tested-on (kept-test (a .w .now) (a .b) (vec (a .e))) (l .loop .i) (a .k) (c .few-near .result) (l .loop .inv .1) (c .few-near .ensures)
@@ -53,5 +75,5 @@ pub all-near-spec : {M : Type 1} → statement M
 all-near-spec =
     tie.close
     (tie.spec
-    Inv-loop μ-loop loop-holds (λ c. search needs) (λ c. omega arith) (λ c. omega arith) four-near-requires returns (λ c. omega arith)
-    (λ c. omega arith) loop-again (λ c κs. search needs) returns-2)
+    Inv-loop μ-loop loop-holds (λ c. search needs) (λ c. omega arith) (λ c. omega arith) four-near-requires returns (λ c. omega arith) (λ c. omega arith) (λ c. omega arith)
+    four-near-requires-2 returns-2 (λ c. omega arith) (λ c. omega arith) loop-again (λ c κs. search needs) returns-3)
