@@ -1,9 +1,9 @@
 -- Words of nodes: put, raised, and what they tell then.
-use mathlib.Core.Path.{_≡_, refl, ap, sym, _∙_}
+use mathlib.Core.Path.{_≡_, refl, ap, sym, _∙_, subst}
 use mathlib.Core.Logic.{_≢_}
 use mathlib.Core.Bool.{Bool, true, false, not, cond, _||_, or-false, false≢true}
 use mathlib.Core.List.{List, [], _∷_}
-use Prim.Native.Nat.{ℕ, _+_, _*_, _%_, _≤_, _<_}
+use Prim.Native.Nat.{ℕ, _+_, _-_, _*_, _%_, _≤_, _<_}
 use native.Mathlib.Omega.{arith}
 use lib.Dec.{eqb}
 use lib.ListN.{length, getD, set}
@@ -13,7 +13,7 @@ use Rattle.rings.specs.Rings.{nx}
 use Rattle.rings.proofs.Lists.{Same, same, differ, decide}
 use Rattle.definition.specs.Lists.{any}
 use Rattle.definition.specs.Cells.{Tri, Live, Mesh, has-node, tri-has, has-edge}
-use Rattle.laws.specs.Frames.{on, off}
+use Rattle.laws.specs.Frames.{on, off, Only}
 use Rattle.cells.specs.Layout.{rings-at, list-at, near-at}
 use Rattle.cells.specs.Rep.{Rep}
 use Rattle.cells.specs.Walk.{node-after, node-before, CanRead, left}
@@ -34,23 +34,15 @@ can-kept w w' s p b e h = record { spare = spare-kept w w' p b e (h .spare); fro
 
 -- ---- cleared
 
--- those from low to v are 0
-pub record Clearing (w₀ w : List ℕ) (p b low v : ℕ) : Type 0 where
-  pub zero : (u : ℕ) → low ≤ u → u < v → getD w (b + u) 0 ≡ 0
-  pub besides : Besides w₀ w b p
-
-pub clearing-start : (w : List ℕ) (p b v : ℕ) → Clearing w w p b v v
-clearing-start w p b v = record { zero = λ u a c. absurd (omega arith); besides = besides-refl w b p }
-
-pub clearing-more : (w₀ w : List ℕ) (p b low v : ℕ) → v < p → b + p ≤ length w → Clearing w₀ w p b low v → Clearing w₀ (set w (b + v) 0) p b low (v + 1)
-clearing-more w₀ w p b low v h l k = record { zero = λ u a c. go u a c (decide u v); besides = besides-set w₀ w p b v 0 h (k .besides) }
-  where
-    go : (u : ℕ) → low ≤ u → u < v + 1 → Same u v → getD (set w (b + v) 0) (b + u) 0 ≡ 0
-    go u a c (same e) = rw e (on w (b + v) 0 (omega arith))
-    go u a c (differ d) = off w (b + v) 0 (b + u) (λ e. d (omega arith)) ∙ k .zero u a (omega arith)
-
-pub clearing-end : (w₀ w : List ℕ) (p b : ℕ) (g : Span) (v : ℕ) → g .high < v → Clearing w₀ w p b (g .low) v → Cleared w₀ w p b g
-clearing-end w₀ w p b g v h k = record { zero = λ u i. k .zero u (i .from) (omega (arith, i .to)); besides = k .besides }
+pub cleared-range : (w w' : List ℕ) (p b : ℕ) (g : Span) → g .low ≤ g .high → g .high < p → Only w w' (b + g .low) (b + g .low + (g .high - g .low + 1))
+    → ((k : ℕ) → k < g .high - g .low + 1 → getD w' (b + g .low + k) 0 ≡ 0) → Cleared w w' p b g
+cleared-range w w' p b g h l o z =
+    record {
+      zero = λ u i.
+          let d : b + g .low + (u - g .low) ≡ b + u = omega (arith, i .from) in
+          subst (λ (x : ℕ). getD w' x 0 ≡ 0) d (z (u - g .low) (omega (arith, i .from, i .to)));
+      besides = record { len = o .len; before = λ i a. o .low i (omega arith); behind = λ i a. o .high i (omega (arith, a, l, h)) };
+    }
 
 -- ---- put
 

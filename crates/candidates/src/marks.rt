@@ -1,5 +1,6 @@
 // What is known of the nodes of a span before they are scanned, a word each where the side nodes will stand: it is odd for a node of the region in hand, and 2 or more for a node that has an edge with the end.
 use crate::spans::Span;
+use cells::clear::clear_range;
 use cells::find::node;
 use cells::find::node_after;
 use cells::find::node_before;
@@ -24,12 +25,10 @@ fn clear_span(w: &mut [u32], p: usize, b: usize, g: Span)
     requires { ⌜ g .high < p ⌝ }
     ensures { λ r. ⌜ Cleared (now (w .entry)) (now (w .exit)) p b g ⌝ }
 {
-    let end = g.high + 1;
-    let mut v: usize = g.low;
-    while v < end {
-        w[b + v] = 0;
-        v += 1;
+    if g.high < g.low {
+        return;
     }
+    clear_range(w, b + g.low, g.high - g.low + 1);
 }
 
 // The word of v is 1.

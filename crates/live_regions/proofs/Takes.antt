@@ -177,26 +177,6 @@ listed-one w s p n i f m out seen st x h = record { hold = hold; scratch = sc }
 
 -- ---- the beginning
 
--- i marks are cleared
-pub record Clearing (w₀ w : List ℕ) (s p n i : ℕ) : Type 0 where
-  pub within : i ≤ n
-  pub few : n ≤ s
-  pub zero : (k : ℕ) → k < i → getD w (20 * s + 3 * p + k) 0 ≡ 0
-  pub scratch : Scratch w₀ w s p
-
-pub clearing-more : (w₀ w : List ℕ) (s p n i : ℕ) → all-end s p ≤ length w₀ → i < n → Clearing w₀ w s p n i → Clearing w₀ (set w (20 * s + 3 * p + i) 0) s p n (i + 1)
-clearing-more w₀ w s p n i f h c =
-    record {
-      within = omega arith;
-      few = c .few;
-      zero = λ k l. go k l (decide k i);
-      scratch = scratch-trans w₀ w (set w (20 * s + 3 * p + i) 0) s p (c .scratch) (scratch-mark w s p i 0 (omega (arith, c .few)));
-    }
-  where
-    go : (k : ℕ) → k < i + 1 → Same k i → getD (set w (20 * s + 3 * p + i) 0) (20 * s + 3 * p + k) 0 ≡ 0
-    go k l (same e) = rw e (on w (20 * s + 3 * p + i) 0 (omega (arith, c .scratch .len, c .few)))
-    go k l (differ e) = off w (20 * s + 3 * p + i) 0 (20 * s + 3 * p + k) (λ z. e (omega arith)) ∙ c .zero k (omega arith)
-
 pub emptied : (w w1 : List ℕ) (s p n : ℕ) (m : Mesh) → all-end s p ≤ length w → Rep w s p m → n ≡ m .used → Unmarked w w1 s p n
     → PushTo w (set (set w1 (58 * s + 8 * p + s) s) (58 * s + 8 * p + (s + 1) + s) s) s p m [] [] []
 unfolding any new-live

@@ -1,4 +1,5 @@
 // The stack of a live region as a ring of slots, with a mark for each slot and the list of the cells in reach.
+use cells::clear::clear_range;
 use cells::find::first_owner;
 use cells::find::next_owner;
 use cells::find::node;
@@ -27,12 +28,7 @@ fn clear_marks(w: &mut [u32], s: usize, p: usize, n: usize)
     requires { ⌜ CanClear (now w) s p n ⌝ }
     ensures { λ r. ⌜ Unmarked (now (w .entry)) (now (w .exit)) s p n ⌝ }
 {
-    let marks = marks_at(s, p);
-    let mut i = 0;
-    while i < n {
-        w[marks + i] = 0;
-        i += 1;
-    }
+    clear_range(w, marks_at(s, p), n);
 }
 
 // Nothing is listed, marked or on the stack.

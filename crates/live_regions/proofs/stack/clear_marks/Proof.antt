@@ -1,61 +1,29 @@
--- The loop's invariant: the first i marks are 0, and nothing else changed.
-use mathlib.Core.Path.{sym, subst}
-use Prim.Native.Nat.{ℕ, _-_, _+_}
+use mathlib.Core.Path.{_≡_, subst}
+use mathlib.Core.List.{List}
+use Prim.Native.Nat.{ℕ, _+_, _<_, _≤_}
 use native.Mathlib.Omega.{arith}
-use lib.ListN.{set}
-use Rattle.live_regions.proofs.Scratches.{scratch-refl}
-use Rattle.live_regions.proofs.Takes.{Clearing, clearing-more}
+use lib.ListN.{getD}
+use Rattle.laws.specs.Frames.{Only}
+use Rattle.cells.specs.Layout.{marks-at}
+use Rattle.live_regions.specs.Stack.{Unmarked}
 use borrow.Author.Needs.{needs}
 use Rattle.live_regions.proofs.stack.clear_marks.Statement.{statement}
 use Rattle.live_regions.proofs.stack.clear_marks.Tie as tie
 
-abbrev Inv-loop : tie.InvT-loop
-Inv-loop w₀ s p n marks i₀ w i = Clearing w₀ w s p n i
+unmarked : (w w' : List ℕ) (s p n b : ℕ) → b ≡ marks-at s p → n ≤ s → Only w w' b (b + n) → ((k : ℕ) → k < n → getD w' (b + k) 0 ≡ 0) → Unmarked w w' s p n
+unmarked w w' s p n b e h o z =
+    record {
+      zero = λ i l. subst (λ (x : ℕ). getD w' (x + i) 0 ≡ 0) e (z i l);
+      scratch = record { len = o .len; mesh = λ i l. o .low i (omega (arith, e, l)); rest = λ i l k. o .high i (omega (arith, e, h, l)) };
+    }
 
-abbrev μ-loop : tie.MeasureT-loop
-μ-loop w₀ s p n marks i₀ w i = n - i
-
-marks-at-requires : tie.Need-marks-at-requires Inv-loop μ-loop
-marks-at-requires c κs =
-    let t = c .before in
-    record { slots = omega (arith, t .pre .small); points = omega (arith, t .pre .small) }
-
-loop-holds : tie.Need-loop-holds Inv-loop μ-loop
-loop-holds c =
-    let t = c .before .before in
-    let a = t .args in
-    record { within = omega arith; few = t .pre .few; zero = λ k h. absurd (omega (arith, h)); scratch = scratch-refl (a .w .now) (a .s) (a .p) }
-
-add-w : tie.Need-add-w Inv-loop μ-loop
-add-w c =
-    omega (arith, c .before .before .marks-at .ensures, c .loop-test .taken, c .before .loop .inv .few, c .before .before .before .before .pre .small)
-
-mul-w : tie.Need-mul-w Inv-loop μ-loop
-mul-w c =
-    omega (arith, c .before .before .marks-at .ensures, c .loop-test .taken, c .before .loop .inv .few, c .before .before .before .before .pre .small)
-
-slice-write-w : tie.Need-slice-write-w Inv-loop μ-loop
-slice-write-w c =
-    omega (arith, c .before .before .marks-at .ensures, c .loop-test .taken, c .before .loop .inv .few, c .before .before .before .before .pre .fits, c .before .loop .inv .scratch .len)
-
-loop-again : tie.Need-loop-again Inv-loop μ-loop
-loop-again c =
-    let k = c .before .before in
-    let t = k .before .before in
-    let a = t .args in
-    let x = c .before .loop in
-    subst (λ (z : ℕ). Clearing (a .w .now) (set (x .w) (z + x .i) 0) (a .s) (a .p) (a .n) (x .i + 1)) (sym (k .marks-at .ensures))
-    (clearing-more (a .w .now) (x .w) (a .s) (a .p) (a .n) (x .i) (t .pre .fits) (c .loop-test .taken) (x .inv))
-
-same-length : tie.Need-same-length Inv-loop μ-loop
-same-length c =
-    c .before .loop .inv .scratch .len
-
-returns : tie.Need-returns Inv-loop μ-loop
+returns : tie.Need-returns
 returns c =
-    let x = c .before .loop in
-    record { zero = λ k h. x .inv .zero k (omega (arith, h, c .loop-test .left)); scratch = x .inv .scratch }
+    let r = c .before .before in
+    let m = r .before in
+    let t = c .before .before .before .before .before .before in
+    let a = t .args in
+    unmarked (a .w .now) (r .clear-range .last .0) (a .s) (a .p) (a .n) (m .marks-at .result) (m .marks-at .ensures) (t .pre .few) (r .clear-range .ensures .0) (r .clear-range .ensures .1)
 
 pub clear-marks-spec : {M : Type 1} → statement M
-clear-marks-spec =
-    tie.close (tie.spec Inv-loop μ-loop marks-at-requires loop-holds add-w mul-w slice-write-w (λ c. search needs) (λ c. search needs) loop-again same-length returns)
+clear-marks-spec = tie.close (tie.spec (λ c κs. search needs) (λ c κs. search needs) (λ c. search needs) returns)
