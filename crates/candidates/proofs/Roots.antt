@@ -2,21 +2,15 @@
 use mathlib.Core.Path.{_≡_, refl, sym}
 use mathlib.Core.Bool.{Bool, true, false, _&&_, false≢true}
 use lib.Ieee.{Float, nan, inf, fin, binary64, fits, lt, ofBits, div}
-use lib.Ieee.Fits.{add-fits}
-use Rattle.definition.specs.Floats.{_≺_, _⊕_, _⊗_, f64}
+use Rattle.definition.specs.Floats.{_≺_, _⊗_, f64}
 use Rattle.definition.specs.Numbers.{Quality, edge-high}
-use Rattle.definition.specs.Plane.{Vec, norm}
 use Rattle.definition.specs.Root.{sqrt}
-use Rattle.laws.specs.Bools.{of-T, and-left, and-right}
+use Rattle.laws.specs.Bools.{and-left, and-right}
 use Rattle.rounding.specs.RootOrder.{root-beyond}
-use Rattle.candidates.specs.Choice.{too-far, square, FarFrom}
+use Rattle.candidates.specs.Choice.{too-far, FarFrom}
 
 both : (a b : Bool) → a ≡ true → b ≡ true → (a && b) ≡ true
 both a b p q = rw (p, q)
-
-pub norm-root : (d : Vec) → norm d ≡ sqrt (square d)
-unfolding norm
-norm-root d = refl
 
 pub far-from : (y : Quality) (x target : Float) → fits binary64 x ≡ true → true ≡ too-far y (sqrt x) target → FarFrom y x target
 far-from y x target f h =
@@ -39,7 +33,3 @@ far-endless y target = record { beyond = λ z g l. go z l }
 pub endless : div binary64 (f64 0x3ff0000000000000) (f64 0) ≡ inf false
 unfolding f64 ofBits div
 endless = refl
-
-pub square-fits : (d : Vec) → fits binary64 (square d) ≡ true
-unfolding _⊕_
-square-fits d = of-T (fits binary64 (square d)) (add-fits binary64 (d .dx ⊗ d .dx) (d .dy ⊗ d .dy))

@@ -4,7 +4,8 @@ use Rattle.definition.specs.Floats.{f64}
 use Rattle.definition.specs.Root.{sqrt}
 use Rattle.rules.specs.Settings.{quality-of}
 use Rattle.candidates.specs.Choice.{too-far, square, FarFrom}
-use Rattle.candidates.proofs.Roots.{norm-root, far-from, far-endless, endless, square-fits}
+use Rattle.live_regions.proofs.Squares.{norm-root, square-fits}
+use Rattle.candidates.proofs.Roots.{far-from, far-endless, endless}
 use borrow.Author.Needs.{needs}
 use Rattle.candidates.proofs.far_square.Statement.{statement}
 use Rattle.candidates.proofs.far_square.Tie as tie

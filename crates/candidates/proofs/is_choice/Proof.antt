@@ -12,7 +12,7 @@ use Rattle.edge_candidates.specs.Wanted.{turn}
 use Rattle.edge_candidates.proofs.Halves.{toward-read}
 use Rattle.candidates.specs.Choice.{too-far}
 use Rattle.candidates.proofs.Tests.{choice-far, choice-edge, choice-behind, choice-side}
-use Rattle.candidates.proofs.Roots.{norm-root, square-fits}
+use Rattle.live_regions.proofs.Squares.{norm-root, square-fits}
 use Rattle.candidates.proofs.Growth.{choice-outer}
 use Rattle.candidates.proofs.Words.{told-out, told-in}
 use borrow.Author.Needs.{needs}

@@ -83,9 +83,6 @@ slot-inside c =
     let t = start c in
     spot c (t .pre .0) (t .pre .1) (t .pre .2) (t .pre .3) .inside
 
-mark-fits : (c : tie.After-wide Inv-loop μ-loop) → (at-loop c .before .marks-at .result + c .wide .result) * 4 < 2 ^ 63
-mark-fits c = omega (arith, at-loop c .before .marks-at .ensures, slot-inside c, start c .pre .2 .rep .room .small)
-
 mark-inside : tie.Need-shared-slice-read-open-cell Inv-loop μ-loop
 mark-inside c =
     let d = c .before in
@@ -141,4 +138,4 @@ segment-inside-spec =
     tie.close
     (tie.spec
     Inv-loop μ-loop list-at-requires marks-at-requires loop-holds (λ c. omega (arith, place-fits c)) (λ c. omega (arith, place-fits c)) place-inside (λ c κs. search needs)
-    (λ c. omega (arith, mark-fits c)) (λ c. omega (arith, mark-fits c)) mark-inside open-cell-requires returns (λ c. search needs) loop-less loop-again returns-2)
+    (λ c. omega (arith, at-loop c .before .marks-at .ensures, slot-inside c, start c .pre .2 .rep .room .small)) (λ c. omega (arith, at-loop c .before .marks-at .ensures, slot-inside c, start c .pre .2 .rep .room .small)) mark-inside open-cell-requires returns (λ c. search needs) loop-less loop-again returns-2)
