@@ -163,7 +163,7 @@ enum sedgepick_answer {
  * stop           stop rule: 0 or 1.
  * answer         15 numbers (SEDGEPICK_ANSWER), written only where 0 is returned; after a refusal all counts and lengths are zero, and the slice is as it was.
  *
- * Entries past a list's length are as they were. 1 to 7 and 13 to 16 touch no slice but a job's numbers. 8, 9 and 11 leave the points added, the quads written and the entries of the
+ * Entries past a list's length are as they were. 1 to 7 and 13 to 15 touch no slice but a job's numbers, 16 none at all. 8, 9 and 11 leave the points added, the quads written and the entries of the
  * trace made before them, clear both work slices and touch nothing else; with more capacity, more slots or a longer trace the same call goes further.
  */
 size_t sedgepick_run_front(
@@ -289,9 +289,9 @@ enum sedgepick_job_place {
  * are the first ones of that run. What a later mesh contains changes no earlier one.
  *
  * job  5 numbers (SEDGEPICK_JOB). The first four are the state, and are written as the state for the next mesh, the fifth as the attempts charged: also where the
- *      mesh is refused. 16 is tested before all else, leaves the four as they were and writes 0 charged. Fewer than 5 numbers are refused as 4 before that. An
- *      answer of fewer than 15 is 4 in its place, behind 16, 1, 2, 3 and 14. Where one of the two slices is too short nothing is written, whatever is
- *      returned, and the job does not go on.
+ *      mesh is refused. Three refusals write nothing at all, and the job does not go on. Fewer than 5 numbers are 4, before all else. A bad state is 16,
+ *      before every other number; the fifth number stays as it was too. An answer of fewer than 15 numbers is 4 then, whatever the mesh is.
+ *      SEDGEPICK_JOB_DONE tells whether the state moved.
  */
 size_t sedgepick_job(
     double *points, size_t points_len,
