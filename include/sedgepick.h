@@ -1,7 +1,8 @@
 /* Sedgepick: quads from the triangles of a plane mesh, by an advancing front; and an order in which an archive can keep meshes.
  *
- * The functions are proved. They end on every input; a finished mesh is the one that a short definition fixes, bit for bit, and each of its quads is, in
- * exact arithmetic, convex, counterclockwise and without a corner under 24.99 degrees; the order is total on the meshes that it accepts. They allocate
+ * The functions are proved. They end on every input. A finished mesh is the one that a short definition fixes, bit for bit, and each of its quads is, in
+ * exact arithmetic, convex and counterclockwise. With the standard quality set no quad has a corner under 24.99 degrees; with any other set, the exact
+ * cosine of each corner is at most the set's largest cosine plus 1e-9. The order is total on the meshes that it accepts. The functions allocate
  * nothing, keep nothing between calls, and may be called from several threads at once on memory of their own.
  *
  * Link target/staticlib/liblibrary.a (x86-64, written by `rt staticlib library`), or libsedgepick, which tools/install makes of it; sedgepick_mesh.h has a
@@ -127,7 +128,7 @@ enum sedgepick_answer {
     SEDGEPICK_PLACEMENT,           /* attempts refused: no side nodes; an edge without length; an edge that flips took off the front */
     SEDGEPICK_INVALID_QUAD,        /* no pair of side nodes with a good quad */
     SEDGEPICK_RECOVERY,            /* a side that flips could not bring into the mesh */
-    SEDGEPICK_REGION,              /* the triangles inside the quad do not fill it */
+    SEDGEPICK_REGION,              /* the triangles inside the quad do not fill it, or a joint is inside it */
     SEDGEPICK_ODD_REGION,          /* they do, and without them some component would be odd */
     SEDGEPICK_MISMATCH_INSERTIONS, /* points added */
     SEDGEPICK_LIMIT,               /* 1 when a limit on attempts or triangles ended the run; that on attempts is 200 for each given triangle and 10,000, in a job not more than the

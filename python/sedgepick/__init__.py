@@ -1,7 +1,8 @@
 """Quads from the triangles of a plane mesh, by an advancing front.
 
-The mesher is proved: a finished mesh is the one that a short definition fixes, bit for bit, and each of its quads is, in exact arithmetic, convex,
-counterclockwise and without a corner under 24.99 degrees. This package lends it memory.
+The mesher is proved: a finished mesh is the one that a short definition fixes, bit for bit, and each of its quads is, in exact arithmetic, convex
+and counterclockwise. With the standard quality set no quad has a corner under 24.99 degrees; with any other set, the exact cosine of each corner is at most
+the set's largest cosine plus 1e-9. This package lends it memory.
 
     >>> import sedgepick
     >>> mesh = sedgepick.run_front([(0, 0), (1, 0), (1, 1), (0, 1)], [(0, 1, 2), (0, 2, 3)], size=1.0, stop=0)
@@ -28,7 +29,7 @@ What an edge would give, were it the first that a run tries, can be asked before
     >>> sedgepick.preview(*square, edge=(1, 0), size=1.0)
     Preview(quad=Quad(nodes=(0, 1, 2, 3), edge=(0, 1), round=1, replaced=2), refused=None, insertions=0, flips=0)
     >>> print(sedgepick.preview(*square, edge=(1, 0), size=1.0, joints=[(0, 2)]))
-    refused, region: the triangles inside the quad do not fill it; no insertion, no flip
+    refused, region: the triangles inside the quad do not fill it, or a joint is inside it; no insertion, no flip
     >>> [str(shown) for shown in sedgepick.preview_front(*square, size=1.0).values()][0]
     'quad 0 1 2 3 in place of 2 triangles; no insertion, no flip'
 
