@@ -58,6 +58,7 @@ pub mod Rounds
 pub mod Walks
 pub mod Attempts
 pub mod Trials
+pub mod InTurn
 pub mod Smaller
 pub mod Jobs
 pub mod Previews
