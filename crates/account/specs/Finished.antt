@@ -117,6 +117,14 @@ module _ (a : Asked) (l : Lent) (passed : find (λ c. c .1) (conditions a l) ≡
       let h = or-none (short-slice || ltb (a .capacity) (a .given)) (ltb (a .slots) (a .count)) long-enough in
       (or-none short-slice (ltb (a .capacity) (a .given)) (h .0) .1, h .1)
 
+  -- the slice of points has the stated capacity
+  pub points-long : 3 * a .capacity ≤ length (l .points)
+  unfolding too-short short-slice
+  points-long =
+      let h = or-none (short-slice || ltb (a .capacity) (a .given)) (ltb (a .slots) (a .count)) long-enough .0 in
+      let k = or-none short-slice (ltb (a .capacity) (a .given)) h .0 in
+      ltb-false (length (l .points)) (3 * a .capacity) (or-none _ _ (or-none _ _ (or-none _ _ (or-none _ _ (or-none _ _ (or-none _ _ (or-none _ _ k .0) .0) .0) .0) .0) .0) .0)
+
   -- the given points and triangles fit what was lent
   pub given-fit : a .given ≤ a .capacity
   given-fit = ltb-false (a .capacity) (a .given) (fits .0)

@@ -5,29 +5,26 @@ use mathlib.Core.Bool.{Bool, true, false, cond}
 use mathlib.Core.Logic.{_⊎_, inl, inr}
 use mathlib.Core.List.{List, [], _∷_, _++_, append-nil, map}
 use Prim.{Unit, tt, absurd}
-use Prim.Native.Nat.{ℕ, zero, suc, _+_, _<_}
+use Prim.Native.Nat.{ℕ, _+_, _<_}
 use native.Mathlib.Omega.{arith}
 use lib.ListN.{length, length-append}
 use Rattle.definition.specs.Lists.{flat-map}
 use Rattle.definition.specs.Numbers.{Settings}
 use Rattle.definition.specs.Counts.{Counts, tally, _⊞_, no-counts, emptied, one-attempt, Spent, nothing-spent, spending, at-limit, Refusal, Placement, Shape, Recovery, Region, OddRegion, refused-by, Want}
 use Rattle.definition.specs.Plane.{Node, Edge}
-use Rattle.definition.specs.Cells.{Tri, Quad, Mesh, is-front, front, triangles}
-use Rattle.definition.specs.Loops.{front-loops}
+use Rattle.definition.specs.Cells.{Tri, Quad, Mesh, is-front, triangles}
 use Rattle.definition.specs.Attempt.{Attempt, placed, refused, ended, try-quad}
-use Rattle.definition.specs.Front.{State, Progress, stuck, progressed, limited, stopped, counting, after, make-attempt, past-limit, attempt, try-edges, open-edges, try-loops, round, front-loop, Result, ran, wanting, new-mesh, start, result, outcome, run-front}
+use Rattle.definition.specs.Front.{State, Progress, stuck, progressed, limited, stopped, counting, after, make-attempt, past-limit, attempt, front-loop, Result, ran, wanting, new-mesh, start, result, outcome, run-front}
 use Rattle.definition.specs.Call.{Asked, Lent, Lengths, finished, given-points, given-tris, given-locks, first-points, first-quads, first-tris, settings-within, call-within}
 use Rattle.definition.specs.Account.{sum}
 use Rattle.laws.specs.Bools.{which, cond-ok}
-use Rattle.laws.specs.Lists.{In, flat-map-append}
+use Rattle.laws.specs.Lists.{flat-map-append}
 use Rattle.account.specs.Valid.{Valid}
 use Rattle.account.specs.Start.{Proper, start-valid}
 use Rattle.account.specs.Weights.{total-append}
 use Rattle.account.specs.Pairs.{pairs-of}
 use Rattle.account.specs.Trials.{Trials-exact, trials-exact}
-use Rattle.account.specs.Fronts.{front-in}
-use Rattle.account.specs.Run.{Rule, Progress-ok, Ordered, loops-ordered, open-front, attempt-ok}
-use Rattle.account.specs.Walks.{Goes, Ends, edges-case, loops-case, rounds-case}
+use Rattle.account.specs.ValidWalks.{Leads, Closes, Steps, rounds-close}
 use Rattle.account.specs.Slices.{read-points, read-quads, read-triangles}
 use Rattle.account.specs.Finished.{behind, given-proper}
 
@@ -147,42 +144,10 @@ added-spent : (c : Counts) (n : Spent) → ((c ⊞ one-attempt ⊞ spending n) .
 unfolding _⊞_ tally one-attempt spending
 added-spent c n = (omega arith, omega arith, omega arith)
 
--- every mesh on the way is valid
-valid-rule : (s : Settings) → Rule s (λ st es. Unit {0}) (λ st es n m. Unit {0}) (λ st. Unit {0})
-valid-rule s = record {
-  opens = λ st es ok h f. tt;
-  begins = λ st es h. tt;
-  flips = λ st es n m m′ e ok h i f. tt;
-  splits = λ st es n m x t p ok h w. tt;
-  refuses = λ st e es why n m h ok w. tt;
-  places = λ st e es n m q h w. tt;
-  ends = λ st e es n m h ok w. tt;
-  limits = λ st es h. tt;
-  empties = λ st h. tt;
-}
-
 module _ (s : Settings) (given : ℕ) (m₀ : Mesh) where
   -- between attempts, and where a limit or want of lent memory ended the run
   abbrev S : State → Type 0
   S st = In-turn s m₀ (st .counts) (st .mesh) (st .quads)
-
-  abbrev G : State → Type 0
-  G st = Valid (st .mesh) × S st
-
-  both-go : (p : Progress) → Goes (λ st. Valid (st .mesh)) (λ st. Valid (st .mesh)) p → Goes S S p → Goes G G p
-  both-go (stuck st) a b = (a, b)
-  both-go (progressed st) a b = (a, b)
-  both-go (limited st) a b = (a, b)
-  both-go (stopped w st) a b = (a, b)
-
-  stays-valid : (st : State) (e : Edge) → e .0 < e .1 → Valid (st .mesh) → Goes (λ st. Valid (st .mesh)) (λ st. Valid (st .mesh)) (attempt s given st e)
-  stays-valid st e o h = by (attempt s given st e) (attempt-ok s _ _ _ (valid-rule s) given st e [] o (h, tt))
-    where
-      by : (p : Progress) → Progress-ok (λ st es. Unit {0}) (λ st. Unit {0}) [] p → Goes (λ st. Valid (st .mesh)) (λ st. Valid (st .mesh)) p
-      by (stuck st) k = k .0
-      by (progressed st) k = k .0
-      by (limited st) k = k .0
-      by (stopped w st) k = k .0
 
   -- the attempt of an edge on a valid mesh is exact
   exact-on : (m : Mesh) (e : Edge) → Valid m → e .0 < e .1 → Exact-on s m e
@@ -193,7 +158,7 @@ module _ (s : Settings) (given : ℕ) (m₀ : Mesh) where
   ]
 
   after-goes : (st : State) (e : Edge) (x : Attempt) → made-on s (st .mesh) e ≡ x → Exact-on s (st .mesh) e → In-turn s m₀ (st .counts) (st .mesh) (st .quads)
-      → Goes S S (after (counting st one-attempt) e x)
+      → Leads S S (λ w. S) (after (counting st one-attempt) e x)
   unfolding after counting left-by trials-by quad-by
   after-goes st e (placed n m q) f k h =
       let a = added-spent (st .counts) n in
@@ -205,53 +170,31 @@ module _ (s : Settings) (given : ℕ) (m₀ : Mesh) where
       let a = added-spent (st .counts) n in
       rw (f, append-nil (st .quads)) at (one-more s m₀ (st .counts) (st .counts ⊞ one-attempt ⊞ spending n) (st .mesh) (st .quads) e h k (a .0) (a .1) (rw f (a .2)))
 
-  attempt-turns : (st : State) (e : Edge) → e .0 < e .1 → G st → Goes S S (attempt s given st e)
+  attempt-turns : (st : State) (e : Edge) → e .0 < e .1 → Valid (st .mesh) → S st → Leads S S (λ w. S) (attempt s given st e)
   unfolding attempt make-attempt counting made-on _⊞_ tally one-attempt at-limit
-  attempt-turns st e o h =
-      cond-ok (Goes S S) (past-limit s given (counting st one-attempt)) _ _
-      (λ z. no-more s m₀ (st .counts) (st .counts ⊞ one-attempt ⊞ at-limit) (st .mesh) (st .quads) (h .1) (omega arith) (omega arith))
-      (λ z. after-goes st e (made-on s (st .mesh) e) refl (exact-on (st .mesh) e (h .0) o) (h .1))
+  attempt-turns st e o ok h =
+      cond-ok (Leads S S (λ w. S)) (past-limit s given (counting st one-attempt)) _ _
+      (λ z. no-more s m₀ (st .counts) (st .counts ⊞ one-attempt ⊞ at-limit) (st .mesh) (st .quads) h (omega arith) (omega arith))
+      (λ z. after-goes st e (made-on s (st .mesh) e) refl (exact-on (st .mesh) e ok o) h)
 
-  attempt-goes : (st : State) (e : Edge) → e .0 < e .1 → G st → Goes G G (attempt s given st e)
-  attempt-goes st e o h = both-go (attempt s given st e) (stays-valid st e o (h .0)) (attempt-turns st e o h)
+  turns : Steps s given S S (λ w. S)
+  unfolding counting _⊞_ tally emptied
+  turns = record { attempts = attempt-turns; empties = λ st h. no-more s m₀ (st .counts) _ (st .mesh) (st .quads) h (omega arith) (omega arith) }
 
-  edges-go : (st : State) (es : List Edge) → Ordered es → G st → Goes G G (try-edges s given st es)
-  unfolding try-edges
-  edges-go st [] o h = h
-  edges-go st (e ∷ es) o h = edges-case s given G G st e es (attempt s given st e) refl (attempt-goes st e (o e (inl refl)) h) (λ st′ h′. edges-go st′ es (λ f i. o f (inr i)) h′)
-
-  loops-go : (st : State) (ls : List (List Edge)) → ((l : List Edge) → In l ls → Ordered l) → G st → Goes G G (try-loops s given st ls)
-  unfolding try-loops
-  loops-go st [] o h = h
-  loops-go st (l ∷ ls) o h =
-      loops-case s given G G st l ls (try-edges s given st (open-edges st l)) refl (edges-go st (open-edges st l) (λ e i. open-front st l (o l (inl refl)) e i .order) h)
-      (λ st′ h′. loops-go st′ ls (λ k i. o k (inr i)) h′)
-
-  round-goes : (st : State) (es : List Edge) → Ordered es → G st → Goes G G (round s given st es)
-  unfolding round counting _⊞_ tally emptied
-  round-goes st [] o h = (h .0, no-more s m₀ (st .counts) _ (st .mesh) (st .quads) (h .1) (omega arith) (omega arith))
-  round-goes st (e ∷ es) o h = loops-go st (front-loops (st .mesh .points) (e ∷ es)) (λ l. loops-ordered (st .mesh .points) (e ∷ es) l o) h
-
-  rounds-go : (n : ℕ) (st : State) → G st → Ends G G (front-loop n s given st)
-  unfolding front-loop
-  rounds-go zero st h = inl h
-  rounds-go (suc n) st h =
-      rounds-case s given G G n st (round s given st (front (st .mesh))) refl (round-goes st (front (st .mesh)) (λ e i. front-in (st .mesh) e (h .0) i .0) h) (λ st′ h′. rounds-go n st′ h′)
-
-  ran-so : (r : Result) (p : Progress) → Ends G G p → outcome p ≡ ran r → (st : State) × (r ≡ result st) × S st
+  ran-so : (r : Result) (p : Progress) → Closes S S (λ w. S) p → outcome p ≡ ran r → (st : State) × (r ≡ result st) × S st
   unfolding outcome
-  ran-so r (stuck st) h e = (st, cc, elim h [ inl g ↦ g .1 | inr g ↦ g .1 ])
-  ran-so r (progressed st) h e = (st, cc, h .1)
-  ran-so r (limited st) h e = (st, cc, h .1)
+  ran-so r (stuck st) h e = (st, cc, elim h [ inl g ↦ g | inr g ↦ g ])
+  ran-so r (progressed st) h e = (st, cc, h)
+  ran-so r (limited st) h e = (st, cc, h)
   ran-so r (stopped w st) h e = absurd (let z : _≡_ {A = ℕ} 0 1 = cc in omega arith)
 
   -- a run that want of lent memory ended
-  stopped-so : (w : Want) (ps : List Node) (qs : List Quad) (ws : List ℕ) (p : Progress) → Ends G G p → outcome p ≡ wanting w ps qs ws → (st : State) × (ps ≡ st .mesh .points) × (qs ≡ st .quads) × S st
+  stopped-so : (w : Want) (ps : List Node) (qs : List Quad) (ws : List ℕ) (p : Progress) → Closes S S (λ w. S) p → outcome p ≡ wanting w ps qs ws → (st : State) × (ps ≡ st .mesh .points) × (qs ≡ st .quads) × S st
   unfolding outcome
   stopped-so w ps qs ws (stuck st) h e = absurd (let z : _≡_ {A = ℕ} 0 1 = cc in omega arith)
   stopped-so w ps qs ws (progressed st) h e = absurd (let z : _≡_ {A = ℕ} 0 1 = cc in omega arith)
   stopped-so w ps qs ws (limited st) h e = absurd (let z : _≡_ {A = ℕ} 0 1 = cc in omega arith)
-  stopped-so w ps qs ws (stopped v st) h e = (st, cc, cc, h .1)
+  stopped-so w ps qs ws (stopped v st) h e = (st, cc, cc, h)
 
 -- ---- the theorems
 
@@ -264,12 +207,12 @@ pub record Ran-in-turn (s : Settings) (m : Mesh) (c : Counts) (points : List Nod
   pub triangles-are : triangles end ≡ left
 
 module _ (s : Settings) (lk : Edge → Bool) (ts : List Tri) (ps : List Node) (proper : Proper ps ts) where
-  turns-of-rounds : Ends (G s (length ts) (new-mesh s lk ts ps)) (G s (length ts) (new-mesh s lk ts ps)) (front-loop (s .attempts + 2) s (length ts) (start s lk ts ps))
+  turns-of-rounds : Closes (S s (length ts) (new-mesh s lk ts ps)) (S s (length ts) (new-mesh s lk ts ps)) (λ w. S s (length ts) (new-mesh s lk ts ps)) (front-loop (s .attempts + 2) s (length ts) (start s lk ts ps))
   unfolding start no-counts tally in-turn left-in-turn sum flat-map
   turns-of-rounds =
       let m = new-mesh s lk ts ps in
       let first : In-turn s m no-counts m [] = record { on = []; number = refl; exact = tt; trials = refl; mesh = refl; quads-are = refl } in
-      rounds-go s (length ts) m (s .attempts + 2) (start s lk ts ps) (start-valid s lk ts ps proper, first)
+      rounds-close s (length ts) (S s (length ts) m) (S s (length ts) m) (λ w. S s (length ts) m) (turns s (length ts) m) (s .attempts + 2) (start s lk ts ps) (start-valid s lk ts ps proper) first
 
   pub run-in-turn : (r : Result) → run-front s lk ts ps ≡ ran r → Ran-in-turn s (new-mesh s lk ts ps) (r .counts) (r .points) (r .quads) (r .triangles)
   unfolding run-front result

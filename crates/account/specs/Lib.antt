@@ -21,6 +21,7 @@ pub mod Locks
 pub mod Fronts
 pub mod Run
 pub mod Start
+pub mod ValidWalks
 -- what a run keeps
 pub mod Counting
 pub mod Parity
@@ -42,6 +43,7 @@ pub mod Joints
 pub mod Weights
 pub mod Areas
 pub mod Gridded
+pub mod GridEnds
 pub mod Profile
 -- edges that were refused
 pub mod Roles
