@@ -30,6 +30,7 @@ pub mod Quads
 pub mod Geometry
 pub mod Locked
 pub mod FlipEdges
+pub mod NeverFlipped
 pub mod Births
 pub mod Placed
 pub mod SameRound
