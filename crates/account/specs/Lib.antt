@@ -65,6 +65,7 @@ pub mod InTurn
 pub mod Smaller
 pub mod Jobs
 pub mod Previews
+pub mod PreviewRoom
 pub mod Listed
 pub mod LiveTris
 pub mod Meshes
