@@ -2,35 +2,33 @@
 -- nothing else wants a point.
 use mathlib.Core.Path.{_≡_, refl, sym, ap, _∙_, subst}
 use mathlib.Core.Bool.{Bool, true, false, not, _&&_, _||_, cond}
-use mathlib.Core.Logic.{_≢_, _⊎_, inl, inr}
+use mathlib.Core.Logic.{_≢_, inl, inr}
 use mathlib.Core.List.{List, [], _∷_}
 use mathlib.Core.Option.{Option, none, some}
 use Prim.{⊥, absurd, Unit, tt}
-use Prim.Native.Nat.{ℕ, _+_, _*_, _≤_, _<_}
+use Prim.Native.Nat.{ℕ, _+_}
 use native.Mathlib.Omega.{arith}
 use lib.Dec.{eqb, ltb}
 use lib.ListN.{length}
 use borrow.Author.Tests.{not-true, eqb-false}
 use Rattle.definition.specs.Lists.{find, all, flat-map}
 use Rattle.definition.specs.Floats.{_≼_}
-use Rattle.definition.specs.Numbers.{Settings, Turn, first-turn, second-turn, tiny-length}
-use Rattle.definition.specs.Counts.{Refusal, Placement, Recovery, Spent, nothing-spent, trying, one-attempt, emptied, Want, of-points, of-slots, of-trace, number}
+use Rattle.definition.specs.Numbers.{Settings, first-turn, tiny-length}
+use Rattle.definition.specs.Counts.{Refusal, Placement, Recovery, Spent, nothing-spent, trying, one-attempt, Want, of-points, of-slots, of-trace, number}
 use Rattle.definition.specs.Plane.{Node, Edge, norm, from-to}
 use Rattle.definition.specs.Cells.{Tri, Quad, Cell, tri, quad, Live, Mesh, node-at, tri-owner, is-front}
 use Rattle.definition.specs.Trace.{in-room}
-use Rattle.definition.specs.Flips.{Recovered}
 use Rattle.definition.specs.Candidates.{candidates}
 use Rattle.definition.specs.Components.{removing-leaves-odd-component}
 use Rattle.definition.specs.Region.{region}
 use Rattle.definition.specs.Trials.{Trial, trials}
 use Rattle.definition.specs.Attempt.{Tried, made, failed, orphaned, lacking, recover-all, replace, try-region, try-recovered, open-sides, try-pair, Attempt, placed, refused, ended, try-pairs, try-trials, Stance, Sides, found, missing, overfull, sides-from, side-nodes, try-both, try-first, stance, try-along, lies-left, try-seed, try-owner, try-quad}
-use Rattle.definition.specs.Front.{State, Progress, stuck, progressed, limited, stopped, counting, after, make-attempt, past-limit, attempt, front-loop, Outcome, ran, wanting, new-mesh, start, outcome, run-front}
-use Rattle.definition.specs.Call.{Asked, Lent, refusal, given-points, given-tris, given-locks, first-points, coordinates, onto, most-slots, settings-within, conditions, outside, grid-node, written, untouched, after-run, call-within}
+use Rattle.definition.specs.Front.{State, Progress, stuck, progressed, limited, stopped, counting, after, make-attempt, past-limit, attempt, Outcome, ran, wanting, new-mesh, start, outcome, run-front}
+use Rattle.definition.specs.Call.{Asked, Lent, refusal, given-points, given-tris, given-locks, first-points, coordinates, onto, most-slots, settings-within, conditions, outside, written, untouched, after-run, call-within}
 use Rattle.definition.specs.Account.{All}
-use Rattle.laws.specs.Bools.{which, cond-ok}
+use Rattle.laws.specs.Bools.{cond-ok}
 use Rattle.laws.specs.Lists.{In, find-in, all-in, all-from, known}
 use Rattle.laws.specs.Slices.{points-onto}
-use Rattle.account.specs.Valid.{Valid}
 use Rattle.account.specs.Start.{Proper, start-valid}
 use Rattle.account.specs.Run.{Progress-ok, attempt-ok}
 use Rattle.account.specs.ValidWalks.{Leads, Closes, Steps, rounds-close}

@@ -75,3 +75,4 @@ pub mod Reach
 pub mod Redo
 pub mod Played
 pub mod Replays
+pub mod Stages

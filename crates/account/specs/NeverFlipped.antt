@@ -19,7 +19,7 @@ use Rattle.definition.specs.Call.{Asked, Lent, given-points, given-tris, given-
 use Rattle.definition.specs.Account.{All}
 use Rattle.laws.specs.Lists.{all-append}
 use Rattle.account.specs.Flips.{flip-free, flip-made}
-use Rattle.account.specs.Locks.{flip-locked, split-locked, replaced-locked}
+use Rattle.account.specs.Locks.{flip-locked}
 use Rattle.account.specs.Start.{Proper, start-valid}
 use Rattle.account.specs.Run.{Rule, Progress-ok, front-loop-ok}
 use Rattle.account.specs.Finished.{given-proper}

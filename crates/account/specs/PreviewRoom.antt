@@ -1,25 +1,24 @@
 -- Paper 6: with room for two points and five slots beyond the given ones no preview that its inputs do not refuse is refused: 8 and 9 do not come up, nor 11, since no trace is lent.
-use mathlib.Core.Path.{_≡_, refl, sym, ap, _∙_}
-use mathlib.Core.Bool.{true, false, not, _&&_, _||_, cond}
+use mathlib.Core.Path.{_≡_, refl, ap, _∙_}
+use mathlib.Core.Bool.{true, false, not, _&&_, _||_}
 use mathlib.Core.Logic.{_≢_, inl, inr}
 use mathlib.Core.List.{List, [], _∷_}
 use mathlib.Core.Option.{Option, none, some}
 use Prim.{⊥, absurd, Unit, tt}
 use Prim.Native.Nat.{ℕ, zero, suc, _+_, _*_, _≤_}
 use native.Mathlib.Omega.{arith}
-use lib.Dec.{eqb, leb, ltb}
+use lib.Dec.{eqb}
 use lib.ListN.{length}
 use lib.Ieee.{Float}
 use borrow.Author.Tests.{lt-leb, le-ltb}
 use Rattle.definition.specs.Lists.{find}
 use Rattle.definition.specs.Floats.{_⊗_, _≼_}
 use Rattle.definition.specs.Numbers.{Settings, Turn, first-turn, second-turn, insert-shares, node-spacing, tiny-length}
-use Rattle.definition.specs.Counts.{Refusal, Placement, Recovery, Spent, nothing-spent, trying, of-points, of-slots, of-trace}
+use Rattle.definition.specs.Counts.{Refusal, Recovery, Spent, nothing-spent, trying}
 use Rattle.definition.specs.Plane.{Node, Vec, Edge, norm, from-to}
 use Rattle.definition.specs.Cells.{Tri, Quad, Cell, tri, quad, Live, Mesh, key, born, node-at, cell-of, tri-owner, is-front, this-round, has-edge, with-live, noting, set-cell, push-cell, remove-cells}
 use Rattle.definition.specs.Trace.{words-in, traced, in-room}
-use Rattle.definition.specs.Flips.{set-tris, flip, first-crossing, flip-first, Recovered, recover-in, recover}
-use Rattle.definition.specs.Candidates.{candidates}
+use Rattle.definition.specs.Flips.{set-tris, flip, first-crossing, flip-first, recover-in, recover}
 use Rattle.definition.specs.Insertion.{Inserted, nowhere, inserted, full, point-clear, slot-clear, holder, with-point, split-triangle, split, split-clear, insert-near, along, insert-by, insert-along}
 use Rattle.definition.specs.Components.{removing-leaves-odd-component}
 use Rattle.definition.specs.Region.{region}
@@ -27,11 +26,10 @@ use Rattle.definition.specs.Trials.{Trial, trials}
 use Rattle.definition.specs.Attempt.{Tried, made, failed, orphaned, lacking, flipping, recover-all, replaced, replace, try-region, try-recovered, open-sides, try-pair, Attempt, placed, refused, ended, try-pairs, try-trials, Stance, Sides, found, missing, overfull, sides-by, sides-from, side-nodes, try-both, try-first, stance, try-along, lies-left, try-seed, try-owner, try-quad}
 use Rattle.definition.specs.Front.{new-mesh}
 use Rattle.definition.specs.Call.{Asked, Lent, given-points, given-tris, given-locks, conditions, settings-within, settings}
-use Rattle.definition.specs.Preview.{Shown, off-front, shown-quad, shown-kind, shown-refusal, cost, shown, show-edge, preview}
+use Rattle.definition.specs.Preview.{Shown, off-front, shown-quad, shown-kind, shown-refusal, shown, show-edge, preview}
 use Rattle.laws.specs.Bools.{which, cond-ok}
 use Rattle.laws.specs.Lists.{known}
 use Rattle.account.specs.Flips.{flip-made, flip-points, flip-used}
-use Rattle.account.specs.QuadKeeps.{replaced-points, replaced-used}
 use Rattle.account.specs.Steps.{split-count, recover-all-ok}
 use Rattle.account.specs.Rooms.{split-used}
 use Rattle.account.specs.Finished.{points-number, tris-number}
