@@ -76,3 +76,5 @@ pub mod Redo
 pub mod Played
 pub mod Replays
 pub mod Stages
+-- a run without its trace
+pub mod Quiet
