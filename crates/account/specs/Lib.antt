@@ -78,3 +78,6 @@ pub mod Replays
 pub mod Stages
 -- a run without its trace
 pub mod Quiet
+pub mod Untraced
+pub mod Traceless
+pub mod NoTrace

@@ -1,6 +1,6 @@
 -- A mesh without its trace: all that a run reads of a mesh is as it was.
 use mathlib.Core.Path.{_≡_, refl, ap, _∙_}
-use mathlib.Core.Bool.{Bool, true, false, not, _&&_, _||_, cond}
+use mathlib.Core.Bool.{Bool, true, not, _&&_, _||_, cond}
 use mathlib.Core.Logic.{inl, inr}
 use mathlib.Core.List.{List, [], _∷_, _++_, foldl}
 use mathlib.Core.Option.{Option, none, some}
@@ -11,15 +11,14 @@ use Rattle.definition.specs.Lists.{all, filter, find, below}
 use Rattle.definition.specs.Floats.{_⊕_, _⊖_, _⊗_, _≺_, _≼_, abs, greater, 0·0, 1·0}
 use Rattle.definition.specs.Numbers.{Settings, Quality, Turn, area-slack, insert-reach, side-margin, tiny-length}
 use Rattle.definition.specs.Plane.{Node, Edge, Vec, norm, over, quad-area}
-use Rattle.definition.specs.Cells.{Tri, Quad, Cell, tri, quad, Live, Mesh, edges, nodes, node-at, owners, tri-owners, tri-owner, is-front, has-edge, is-locked, live-tris, this-round, all-edges, cells-at, cell-of, in-slot-order, quad-edges, triangles, front, front-at, with-live, noting, set-cell, push-cell, remove-cells}
+use Rattle.definition.specs.Cells.{Tri, Quad, Cell, tri, quad, Live, Mesh, node-at, owners, tri-owners, tri-owner, is-front, has-edge, is-locked, all-edges, cells-at, cell-of, in-slot-order, quad-edges, triangles, front, front-at}
 use Rattle.definition.specs.Trace.{words-in, traced, in-room}
-use Rattle.definition.specs.Flips.{third, apart, convex-pair, set-tris, flipped, bucket-key, overlaps, is-crossing, first-crossing}
+use Rattle.definition.specs.Flips.{bucket-key, overlaps, is-crossing, first-crossing}
 use Rattle.definition.specs.Candidates.{in-reach, neighbours, on-top, live-region-from, seed-stack, live-region, shared-by-tris, walls, passes-by, segment-inside, side-candidate, toward, ideal-by, ideals, edge-candidate, candidates}
-use Rattle.definition.specs.Insertion.{holds, point-clear, slot-clear, holder, with-point, split-triangle}
-use Rattle.definition.specs.Components.{removing-leaves-odd-component}
+use Rattle.definition.specs.Insertion.{holds, point-clear, slot-clear, holder}
 use Rattle.definition.specs.Region.{across, reach-all, flood, area-of, region-area, cell-inside, area-agrees, fills, may-go, spares-locked, if-filled, region-from, region}
-use Rattle.definition.specs.Trials.{Trial, metrics-of, trial, trials}
-use Rattle.definition.specs.Attempt.{replaced, Stance, stance, lies-left}
+use Rattle.definition.specs.Trials.{metrics-of, trial, trials}
+use Rattle.definition.specs.Attempt.{stance, lies-left}
 use Rattle.laws.specs.Bools.{which}
 use Rattle.laws.specs.Lists.{known}
 
