@@ -8,10 +8,9 @@ use mathlib.Core.Option.{Option, none, some}
 use Prim.{⊥, absurd, Unit, tt}
 use Prim.Native.Nat.{ℕ, _+_}
 use native.Mathlib.Omega.{arith}
-use lib.Dec.{eqb, ltb}
+use lib.Dec.{ltb}
 use lib.ListN.{length}
-use borrow.Author.Tests.{not-true, eqb-false}
-use Rattle.definition.specs.Lists.{find, all, flat-map}
+use Rattle.definition.specs.Lists.{find, flat-map}
 use Rattle.definition.specs.Floats.{_≼_}
 use Rattle.definition.specs.Numbers.{Settings, first-turn, tiny-length}
 use Rattle.definition.specs.Counts.{Refusal, Placement, Recovery, Spent, nothing-spent, trying, one-attempt, Want, of-points, of-slots, of-trace, number}
@@ -27,13 +26,13 @@ use Rattle.definition.specs.Front.{State, Progress, stuck, progressed, limited,
 use Rattle.definition.specs.Call.{Asked, Lent, refusal, given-points, given-tris, given-locks, first-points, coordinates, onto, most-slots, settings-within, conditions, outside, written, untouched, after-run, call-within}
 use Rattle.definition.specs.Account.{All}
 use Rattle.laws.specs.Bools.{cond-ok}
-use Rattle.laws.specs.Lists.{In, find-in, all-in, all-from, known}
+use Rattle.laws.specs.Lists.{In, all-from, known}
 use Rattle.laws.specs.Slices.{points-onto}
 use Rattle.account.specs.Start.{Proper, start-valid}
 use Rattle.account.specs.Run.{Progress-ok, attempt-ok}
 use Rattle.account.specs.ValidWalks.{Leads, Closes, Steps, rounds-close}
 use Rattle.account.specs.Gridded.{Unsized, stance-on-target, nothing-tried, points-rule, nothing-inserted}
-use Rattle.account.specs.Finished.{on-grid-so, points-long, given-fit, slots-limit, points-number, given-proper, given-within}
+use Rattle.account.specs.Finished.{not-of-run, on-grid-so, points-long, given-fit, slots-limit, points-number, given-proper, given-within}
 
 -- ---- an attempt
 
@@ -243,16 +242,10 @@ module _ (most : ℕ) (a : Asked) (l : Lent) (chosen : a .grid ≡ true) where
       let k = nothing-added s (unsized-so f) (given-points a l) (near-so f) (given-locks a l) (given-tris a l) w qs us ws (given-proper a l f) e in
       (ap (λ ps. onto (flat-map coordinates ps) (l .points)) (k .0) ∙ points-stay f, λ z. let y : number w ≡ 8 = cc in only-points w (k .1) y)
 
-  -- no refusal before a run has the number 8
-  before-not : (k : ℕ) (b : Bool) → find (λ c. c .1) (conditions a l) ≡ some (k, b) → k ≢ 8
-  unfolding conditions all
-  before-not k b f =
-      eqb-false k 8 (not-true (eqb k 8) (all-in (λ c. not (eqb (c .0) 8)) (conditions a l) refl (k, b) (find-in (λ c. c .1) (k, b) (conditions a l) f .0)))
-
   -- In the grid profile, whatever the call answers, the slice of points is as it was, and the answer is not 8.
   pub grid-points : (call-within most a l .lent .points ≡ l .points) × (call-within most a l .answer ≢ refusal 8)
   unfolding call-within untouched
   grid-points = elim (known (find (λ c. c .1) (conditions a l))) [
     | inl f ↦ rw (f, call-within) (by-outcome f (run-front s (given-locks a l) (given-tris a l) (given-points a l)) refl)
-    | inr f ↦ rw (f .1, call-within) (refl, λ z. let y : f .0 .0 ≡ 8 = cc in before-not (f .0 .0) (f .0 .1) (f .1) y)
+    | inr f ↦ rw (f .1, call-within) (refl, λ z. let y : f .0 .0 ≡ 8 = cc in not-of-run a l (f .0 .0) (f .0 .1) (f .1) .0 y)
   ]

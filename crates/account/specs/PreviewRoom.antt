@@ -32,7 +32,7 @@ use Rattle.laws.specs.Lists.{known}
 use Rattle.account.specs.Flips.{flip-made, flip-points, flip-used}
 use Rattle.account.specs.Steps.{split-count, recover-all-ok}
 use Rattle.account.specs.Rooms.{split-used}
-use Rattle.account.specs.Finished.{points-number, tris-number}
+use Rattle.account.specs.Finished.{not-of-run, points-number, tris-number}
 
 -- without a trace every entry fits
 no-trace-fits : (m : Mesh) → m .room ≡ 0 → in-room m ≡ true
@@ -282,3 +282,13 @@ preview-has-room a l u v f points slots k =
     let e = key u v in
     let room : Room-left s 2 m = record { points = omega (arith, points-number a l f, points); slots = omega (arith, tris-number a l f, slots); no-trace = refl } in
     rw (f, preview) (answers-not (show-edge s m e) k (cond-ok Answers (not (eqb (e .0) (e .1)) && is-front m e) _ _ (λ z. shows s (try-quad s m e) (room-enough s m room e)) (λ z. tt)))
+
+-- So neither 8 nor 9 is shown there, whatever the inputs.
+pub neither-8-nor-9 : (a : Asked) (l : Lent) (u v : ℕ) → a .given + 2 ≤ a .capacity → a .count + 5 ≤ a .slots → (preview a l u v .shown ≢ shown-refusal 8) × (preview a l u v .shown ≢ shown-refusal 9)
+unfolding preview
+neither-8-nor-9 a l u v points slots = elim (known (find (λ c. c .1) (conditions a l))) [
+  | inl f ↦ (preview-has-room a l u v f points slots 8, preview-has-room a l u v f points slots 9)
+  | inr f ↦
+      let n = not-of-run a l (f .0 .0) (f .0 .1) (f .1) in
+      rw (f .1, preview) (λ z. let y : f .0 .0 ≡ 8 = cc in n .0 y, λ z. let y : f .0 .0 ≡ 9 = cc in n .1 y)
+]
