@@ -1,7 +1,8 @@
 /* Sedgepick: quads from the triangles of a plane mesh, by an advancing front; and an order in which an archive can keep meshes.
  *
- * The functions are proved. They end on every input; a finished mesh is the one that a short definition fixes, bit for bit, and each of its quads is, in
- * exact arithmetic, convex, counterclockwise and without a corner under 24.99 degrees; the order is total on the meshes that it accepts. They allocate
+ * The functions are proved. They end on every input. A finished mesh is the one that a short definition fixes, bit for bit, and each of its quads is, in
+ * exact arithmetic, convex and counterclockwise. With the standard quality set no quad has a corner under 24.99 degrees; with any other set, the exact
+ * cosine of each corner is at most the set's largest cosine plus 1e-9. The order is total on the meshes that it accepts. The functions allocate
  * nothing, keep nothing between calls, and may be called from several threads at once on memory of their own.
  *
  * Link target/staticlib/liblibrary.a (x86-64, written by `rt staticlib library`), or libsedgepick, which tools/install makes of it; sedgepick_mesh.h has a
@@ -127,7 +128,7 @@ enum sedgepick_answer {
     SEDGEPICK_PLACEMENT,           /* attempts refused: no side nodes; an edge without length; an edge that flips took off the front */
     SEDGEPICK_INVALID_QUAD,        /* no pair of side nodes with a good quad */
     SEDGEPICK_RECOVERY,            /* a side that flips could not bring into the mesh */
-    SEDGEPICK_REGION,              /* the triangles inside the quad do not fill it */
+    SEDGEPICK_REGION,              /* the triangles inside the quad do not fill it, or a joint is inside it */
     SEDGEPICK_ODD_REGION,          /* they do, and without them some component would be odd */
     SEDGEPICK_MISMATCH_INSERTIONS, /* points added */
     SEDGEPICK_LIMIT,               /* 1 when a limit on attempts or triangles ended the run; that on attempts is 200 for each given triangle and 10,000, in a job not more than the
@@ -163,7 +164,7 @@ enum sedgepick_answer {
  * stop           stop rule: 0 or 1.
  * answer         15 numbers (SEDGEPICK_ANSWER), written only where 0 is returned; after a refusal all counts and lengths are zero, and the slice is as it was.
  *
- * Entries past a list's length are as they were. 1 to 7 and 13 to 16 touch no slice but a job's numbers. 8, 9 and 11 leave the points added, the quads written and the entries of the
+ * Entries past a list's length are as they were. 1 to 7 and 13 to 15 touch no slice but a job's numbers, 16 none at all. 8, 9 and 11 leave the points added, the quads written and the entries of the
  * trace made before them, clear both work slices and touch nothing else; with more capacity, more slots or a longer trace the same call goes further.
  */
 size_t sedgepick_run_front(
@@ -289,9 +290,9 @@ enum sedgepick_job_place {
  * are the first ones of that run. What a later mesh contains changes no earlier one.
  *
  * job  5 numbers (SEDGEPICK_JOB). The first four are the state, and are written as the state for the next mesh, the fifth as the attempts charged: also where the
- *      mesh is refused. 16 is tested before all else, leaves the four as they were and writes 0 charged. Fewer than 5 numbers are refused as 4 before that. An
- *      answer of fewer than 15 is 4 in its place, behind 16, 1, 2, 3 and 14. Where one of the two slices is too short nothing is written, whatever is
- *      returned, and the job does not go on.
+ *      mesh is refused. Three refusals write nothing at all, and the job does not go on. Fewer than 5 numbers are 4, before all else. A bad state is 16,
+ *      before every other number; the fifth number stays as it was too. An answer of fewer than 15 numbers is 4 then, whatever the mesh is.
+ *      SEDGEPICK_JOB_DONE tells whether the state moved.
  */
 size_t sedgepick_job(
     double *points, size_t points_len,

@@ -24,6 +24,8 @@ JOB = TRACED + [SIZES, LENGTH] + ANSWER
 PREVIEW = SLICES + STATED + [LENGTH, LENGTH] + ANSWER
 REPLAY = SLICES + [LENGTH] * 5 + ANSWER
 SHEET = [DOUBLES, LENGTH, NUMBERS, LENGTH, DOUBLES, LENGTH, LENGTH, LENGTH, SIZES, LENGTH]
+FILING_ORDER = [DOUBLES, LENGTH, NUMBERS, LENGTH, NUMBERS, LENGTH, LENGTH, LENGTH] * 2
+SMALL_MESH = [ctypes.c_uint32, LENGTH, NUMBERS, LENGTH]
 
 loaded = None
 loading = threading.Lock()
@@ -64,7 +66,8 @@ def opened():
     try:
         library = ctypes.CDLL(path)
         for function, takes in ((library.sedgepick_run_front_with, RUN_FRONT), (library.sedgepick_job, JOB), (library.sedgepick_preview, PREVIEW),
-                                (library.sedgepick_replay, REPLAY), (library.sedgepick_sheet, SHEET)):
+                                (library.sedgepick_replay, REPLAY), (library.sedgepick_sheet, SHEET), (library.sedgepick_filing_order, FILING_ORDER),
+                                (library.sedgepick_small_mesh, SMALL_MESH)):
             function.argtypes, function.restype = takes, LENGTH
     except (OSError, AttributeError) as error:
         raise NoLibrary('%s does not load: %s' % (path, error))
