@@ -11,7 +11,7 @@ pub mod whole;
 use std::cmp::Ordering;
 use std::collections::{HashMap, HashSet};
 
-use geometry::{any_above, area, upright, Limit, Place};
+use geometry::{any_above, area, upright, Limit};
 use verdict::{sizes, Verdict};
 
 /// The most entries of each list.
@@ -212,12 +212,12 @@ impl Handed {
 
     /// Every clause of lists that are not refused.
     fn judge(&self) -> Verdict {
-        let (before, after) = (Place::all(&self.given_nodes()), Place::all(&self.nodes()));
+        let (before, after) = (self.given_nodes(), self.nodes());
         let (given, quads, left) = (self.given_cells(), self.quad_cells(), self.left_cells());
         let upright_given: Vec<_> = given.iter().map(|t| upright(&before, t)).collect();
         let upright_left: Vec<_> = left.iter().map(|t| upright(&after, t)).collect();
         let (limit, thin) = (Limit::new(self.cosine), Limit::new(self.thin));
-        let flat = |places: &[Place], t: &[u32; 3]| area(places, t).sign() == Ordering::Equal;
+        let flat = |nodes: &[[f64; 3]], t: &[u32; 3]| area(nodes, t).sign() == Ordering::Equal;
         Verdict {
             moved: self.moved(),
             added: self.point_count.saturating_sub(self.given),

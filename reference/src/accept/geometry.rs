@@ -22,10 +22,6 @@ impl Place {
         }
     }
 
-    pub fn all(nodes: &[[f64; 3]]) -> Vec<Place> {
-        nodes.iter().map(|p| Place::of(p[0], p[1])).collect()
-    }
-
     /// The vector from here to there.
     fn to(&self, there: &Place) -> Place {
         Place {
@@ -44,27 +40,36 @@ impl Place {
     }
 }
 
+/// Where a node is.
+fn at(nodes: &[[f64; 3]], v: u32) -> Place {
+    let [x, y, _] = nodes[v as usize];
+    Place::of(x, y)
+}
+
 /// At each of a cell's nodes the vectors to the next node and to the one before.
-fn corners<'a>(places: &'a [Place], cell: &'a [u32]) -> impl Iterator<Item = [Place; 2]> + 'a {
+fn corners(nodes: &[[f64; 3]], cell: &[u32]) -> Vec<[Place; 2]> {
     let n = cell.len();
-    let at = move |i: usize| &places[cell[i % n] as usize];
-    (0..n).map(move |i| [at(i).to(at(i + 1)), at(i).to(at(i + n - 1))])
+    let places: Vec<Place> = cell.iter().map(|&v| at(nodes, v)).collect();
+    let way = |i: usize, k: usize| places[i].to(&places[k % n]);
+    (0..n).map(|i| [way(i, i + 1), way(i, i + n - 1)]).collect()
 }
 
 /// Whether the cell turns left at every node.
-pub fn is_convex(places: &[Place], cell: &[u32]) -> bool {
-    corners(places, cell).all(|[next, last]| next.cross(&last).sign() == Ordering::Greater)
+pub fn is_convex(nodes: &[[f64; 3]], cell: &[u32]) -> bool {
+    corners(nodes, cell)
+        .iter()
+        .all(|[next, last]| next.cross(last).sign() == Ordering::Greater)
 }
 
 /// Twice the area of a triangle: above zero where it runs counterclockwise, below where it runs clockwise.
-pub fn area(places: &[Place], t: &[u32; 3]) -> Whole {
-    let [a, b, c] = t.map(|v| &places[v as usize]);
-    a.to(b).cross(&a.to(c))
+pub fn area(nodes: &[[f64; 3]], t: &[u32; 3]) -> Whole {
+    let [a, b, c] = t.map(|v| at(nodes, v));
+    a.to(&b).cross(&a.to(&c))
 }
 
 /// The triangle, turned over where it runs clockwise.
-pub fn upright(places: &[Place], t: &[u32; 3]) -> [u32; 3] {
-    match area(places, t).sign() {
+pub fn upright(nodes: &[[f64; 3]], t: &[u32; 3]) -> [u32; 3] {
+    match area(nodes, t).sign() {
         Ordering::Less => [t[0], t[2], t[1]],
         _ => *t,
     }
@@ -102,6 +107,8 @@ pub fn is_corner_above(here: &Place, next: &Place, last: &Place, limit: &Limit) 
 }
 
 /// Whether some corner of the cell has a cosine above the limit.
-pub fn any_above(places: &[Place], cell: &[u32], limit: &Limit) -> bool {
-    corners(places, cell).any(|sides| is_above(&sides, limit))
+pub fn any_above(nodes: &[[f64; 3]], cell: &[u32], limit: &Limit) -> bool {
+    corners(nodes, cell)
+        .iter()
+        .any(|sides| is_above(sides, limit))
 }

@@ -245,3 +245,28 @@ fn keep(picked: &mut Vec<((u32, Option<usize>), Stored)>, stored: Stored, each: 
     let place = (0..picked.len()).max_by_key(|&i| (often(i), picked[i].1.call().len(), i));
     picked.remove(place.expect("one at least"));
 }
+
+/// The stored calls have every clause as the first that is offended, every refusal, and accepted meshes, some of each.
+#[test]
+fn stored_calls_of_every_sort() {
+    let text = [
+        include_str!("../../../answers/accept/calls.accepts"),
+        include_str!("../../../answers/accept/edges.accepts"),
+    ]
+    .concat();
+    let (mut first, mut refused, mut accepted) = ([0; 8], std::collections::HashMap::new(), 0);
+    for line in text.lines() {
+        let (_, stored, _) = read(line).expect("a stored call");
+        match stored.handed.verdict(&stored.lent()) {
+            Err(number) => *refused.entry(number).or_insert(0) += 1,
+            Ok(v) => match v.offended().iter().position(|&o| o) {
+                Some(k) => first[k] += 1,
+                None => accepted += 1,
+            },
+        }
+    }
+    assert!(accepted > 20 && first.iter().all(|&n| n > 1), "{first:?}");
+    for number in [1, 14, 4, 5, 6, 7, 13] {
+        assert!(refused[&number] > 4, "{number}: {refused:?}");
+    }
+}

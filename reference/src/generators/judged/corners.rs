@@ -177,12 +177,11 @@ fn kite([a, b, d]: [Point; 3]) -> [Point; 4] {
 
 /// The limit is the least that the cells keep, or a unit beside it.
 fn fit(j: &mut Judged, range: [f64; 2], thin: bool, r: &mut Random) {
-    let places = Place::all(&j.points);
     let sharp = |t: f64| {
         let limit = Limit::new(t);
         match thin {
-            true => j.left.iter().any(|t| any_above(&places, t, &limit)),
-            false => j.quads.iter().any(|q| any_above(&places, q, &limit)),
+            true => j.left.iter().any(|t| any_above(&j.points, t, &limit)),
+            false => j.quads.iter().any(|q| any_above(&j.points, q, &limit)),
         }
     };
     let Some(t) = turning(range[0], range[1], sharp) else {

@@ -1,6 +1,7 @@
 //! Lists of cells that no mesher makes: covers that wind twice or lie upon one another, and any node numbers at all.
 
 use super::Judged;
+use crate::accept::MOST;
 use crate::random::Random;
 
 /// The quad of two triangles that share an edge, around it; `None` where they share none or all nodes.
@@ -84,4 +85,65 @@ pub fn wound(r: &mut Random) -> Judged {
     j.thin = r.pick(&[1.0, 1.0, 0.95]);
     j.cosine = r.pick(&[0.9, 0.99]);
     j
+}
+
+/// A mesh whose nodes have other numbers, far apart, among points that no cell has.
+pub fn spread(j: &Judged, r: &mut Random) -> Judged {
+    let n = match r.below(1000) {
+        0 => MOST,
+        1..=20 => r.pick(&[65_536, 65_537, 70_000]),
+        21..=99 => 5_000,
+        _ => 300,
+    };
+    let mut out = j.clone();
+    let k = j.given.len();
+    if k == 0 || k > n || j.points.len() > n {
+        return out;
+    }
+    let (first, step) = (r.below(n), odd_step(n, r));
+    let number = |v: u32| ((first + v as usize * step) % n) as u32;
+    out.given = vec![[0.25, -0.5, 0.0]; n];
+    out.points = out.given.clone();
+    for (v, p) in j.given.iter().enumerate() {
+        out.given[number(v as u32) as usize] = *p;
+    }
+    for (v, p) in j.points.iter().enumerate() {
+        out.points[number(v as u32) as usize] = *p;
+        if v >= k {
+            out.given[number(v as u32) as usize] = *p;
+        }
+    }
+    out.triangles
+        .as_flattened_mut()
+        .iter_mut()
+        .for_each(|v| *v = number(*v));
+    out.quads
+        .as_flattened_mut()
+        .iter_mut()
+        .for_each(|v| *v = number(*v));
+    out.left
+        .as_flattened_mut()
+        .iter_mut()
+        .for_each(|v| *v = number(*v));
+    out.joints
+        .as_flattened_mut()
+        .iter_mut()
+        .for_each(|v| *v = number(*v));
+    out
+}
+
+/// A step that meets every number below `n` once.
+fn odd_step(n: usize, r: &mut Random) -> usize {
+    let common = |mut a: usize, mut b: usize| {
+        while b > 0 {
+            (a, b) = (b, a % b);
+        }
+        a
+    };
+    loop {
+        let step = r.from_to(1, n);
+        if common(step, n) == 1 {
+            return step;
+        }
+    }
 }

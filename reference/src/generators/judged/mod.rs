@@ -130,6 +130,10 @@ pub const KINDS: &[Kind] = &[
     ("cosines", |_, r, _| several(r, corners::cosines)),
     ("tiny", |_, r, _| several(r, tiny::tiny)),
     ("wound", |_, r, _| damaged(&lists::wound(r), r)),
+    ("spread", |case, r, _| {
+        let merged = merged(case, r);
+        damaged(&lists::spread(&merged, r), r).split_off(FORMS - 2)
+    }),
     ("lists", |_, r, _| several(r, lists::any)),
     ("refused", |case, r, _| refused::all(&merged(case, r), r)),
 ];
