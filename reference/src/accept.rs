@@ -24,8 +24,8 @@ pub const NUMBERS: usize = 13;
 pub const COSINES: [f64; 2] = [0.5, 0.99];
 pub const THINS: [f64; 2] = [0.5, 1.0];
 
-/// The largest magnitude of x and y.
-const FAR: f64 = 8.0;
+/// What x and y may be, the bounds included.
+const WITHIN: [f64; 2] = [-8.0, 8.0];
 
 /// What a call hands in: slices, which may be longer or shorter than stated, and the numbers stated.
 #[derive(Clone, Debug, Default)]
@@ -70,13 +70,12 @@ fn has_twice(cell: &[u32]) -> bool {
     (0..cell.len()).any(|i| cell[..i].contains(&cell[i]))
 }
 
-fn is_far(p: &[f64; 3]) -> bool {
-    let within = |x: f64| -FAR <= x && x <= FAR;
-    !within(p[0]) || !within(p[1])
-}
-
 fn within(x: f64, [low, high]: [f64; 2]) -> bool {
     low <= x && x <= high
+}
+
+fn is_far(p: &[f64; 3]) -> bool {
+    !within(p[0], WITHIN) || !within(p[1], WITHIN)
 }
 
 impl Handed {
