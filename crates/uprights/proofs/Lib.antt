@@ -1,0 +1,4 @@
+-- Laws that the functions' proofs share.
+pub mod Words
+pub mod Stores
+pub mod Turns

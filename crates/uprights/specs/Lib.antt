@@ -1,0 +1,3 @@
+-- Triangles turned upright, in lent slices.
+pub mod Sides
+pub mod Promise
