@@ -126,7 +126,7 @@ module _ (q : List Float) (ts : List ℕ) (n : ℕ) where
         | inr e ↦ subst (λ t. getD t k 0 < 1048576) (over-nodes q a b c e) (three a c b k x z y)
       ]
 
--- what `balance` asks, of the words
+-- what the laws of `balance` ask, of the words
 pub readable : {p : List Float} {given : List ℕ} {n : ℕ} {q : List Float} {quads : List ℕ} {k : ℕ} {left : List ℕ} {t : ℕ} {w : List ℕ}
     → Readable p given n q quads k left t w → balance.Readable (upright-words p given n) n quads k (upright-words q left t) t w
 readable {p} {given} {n} {q} {quads} {k} {left} {t} {w} h =

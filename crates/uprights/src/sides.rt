@@ -44,7 +44,8 @@ fn put_uprights(points: &[f64], triangles: &[u32], n: usize, turned: bool, w: &m
     }
 }
 
-// As `balance::balance`, of the given triangles upright by the given points, and the leftover ones by the points.
+// Whether the sides of the given triangles, upright by the given points, and those of the quads and of the leftover triangles, upright by the points, balance
+// between every two nodes; else the least edge where they do not. Four words of w for each side.
 pub fn balance_upright(
     given_points: &[f64],
     given: &[u32],
