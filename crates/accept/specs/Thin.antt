@@ -1,9 +1,9 @@
 -- A triangle turned over has the corners of the triangle, each with its two sides exchanged, and their cosines: the clause on thin triangles asks the same of the
 -- leftover triangles as they are handed in and of them turned upright.
-use mathlib.Core.Path.{_≡_, refl, sym, ap, ap₂, _∙_, subst}
+use mathlib.Core.Path.{_≡_, refl, sym, ap, ap₂, subst}
 use mathlib.Core.Bool.{Bool, true, false, not, _&&_, _||_}
 use mathlib.Core.Logic.{inl, inr}
-use mathlib.Core.List.{List, [], _∷_}
+use mathlib.Core.List.{List}
 use Prim.Native.Nat.{ℕ, _*_, _^_}
 use native.Mathlib.Nat.{mul-comm}
 use lib.Dec.{leb}

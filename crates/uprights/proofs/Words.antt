@@ -3,13 +3,13 @@ use mathlib.Core.Path.{_≡_, refl, ap, _∙_, subst, sym}
 use mathlib.Core.Logic.{inl, inr}
 use mathlib.Core.Bool.{Bool, true, false}
 use mathlib.Core.List.{List, [], _∷_}
-use Prim.Native.Nat.{ℕ, zero, suc, _+_, _*_, _-_, _/_, _%_, _≤_, _<_}
+use Prim.Native.Nat.{ℕ, zero, suc, _+_, _*_, _-_, _/_, _%_, _<_}
 use native.Mathlib.Decide.{ℕ-discrete, decLt}
 use native.Mathlib.Omega.{arith}
 use lib.ListN.{length, getD}
 use lib.Ieee.{Float}
-use Rattle.definition.specs.Lists.{table, numbers, below}
-use Rattle.definition.specs.Cells.{Tri, new-tri, tri-nodes}
+use Rattle.definition.specs.Lists.{numbers, below}
+use Rattle.definition.specs.Cells.{new-tri, tri-nodes}
 use Rattle.definition.specs.Call.{tri-at}
 use Rattle.laws.specs.Bools.{which}
 use Rattle.laws.specs.Lists.{table-at, table-length, numbers-length}
@@ -18,7 +18,7 @@ use Rattle.balance.specs.Codes.{next, side-at, either, code}
 use Rattle.balance.specs.Places.{Small, Placed}
 use Rattle.balance.specs.Promise as balance
 use Rattle.balance.proofs.Corners.{next-last, next-inner}
-use Rattle.accept.specs.Accept.{above, over}
+use Rattle.accept.specs.Accept.{above}
 use Rattle.uprights.specs.Promise.{turn-at, upright-at}
 use Rattle.uprights.specs.Sides.{upright-word, upright-words, Corners, Readable}
 

@@ -9,7 +9,7 @@ ghost use lib.ListN.{length};
 ghost use Rattle.definition.specs.Cells.{new-tri, tri-nodes};
 ghost use Rattle.balance.specs.Promise.{Answers, given-sides, result-sides};
 ghost use Rattle.balance.specs.Places.{Placed};
-ghost use Rattle.uprights.specs.Promise.{Near, upright-at};
+ghost use Rattle.uprights.specs.Promise.{upright-at};
 ghost use Rattle.uprights.specs.Sides.{upright-words, Corner, Puttable, Readable};
 
 // Times that the sides' numbers, of 41 binary digits, are dealt out and back.

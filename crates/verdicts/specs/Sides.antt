@@ -1,6 +1,6 @@
 -- What `balance_upright`, `lost_joint` and `groups` found of what an acceptance is handed is what the verdict says.
 use mathlib.Core.Path.{_≡_, refl, sym, _∙_, subst}
-use mathlib.Core.Bool.{true, false}
+use mathlib.Core.Bool.{true}
 use mathlib.Core.Option.{Option, none, some}
 use mathlib.Core.List.{List}
 use Prim.Native.Nat.{ℕ, _+_, _<_}
@@ -9,7 +9,6 @@ use native.Mathlib.Omega.{arith}
 use lib.ListN.{take}
 use Rattle.definition.specs.Plane.{Edge}
 use Rattle.definition.specs.Cells.{key, edge-before}
-use Rattle.definition.specs.Components.{component-sizes}
 use Rattle.definition.specs.Call.{tri-at}
 use Rattle.laws.specs.Bools.{fails}
 use Rattle.laws.specs.Cells.{key-up, key-back}

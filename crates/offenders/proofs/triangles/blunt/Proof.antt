@@ -3,7 +3,6 @@ use borrow.Author.Needs.{needs}
 use borrow.Author.Tests.{not-true, not-false}
 use Rattle.definition.specs.Exact.{Cosine-up-to}
 use Rattle.exact_tests.specs.Corners.{corner}
-use Rattle.offenders.specs.declared.cells.Three.{Three}
 use Rattle.offenders.proofs.Corners.{no-first, no-second, as-third}
 use Rattle.offenders.proofs.triangles.blunt.Statement.{statement}
 use Rattle.offenders.proofs.triangles.blunt.Tie as tie
