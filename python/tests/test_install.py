@@ -109,6 +109,7 @@ class Install(unittest.TestCase):
         for name in ('tools/shared', 'c/sedgepick_mesh.c', 'include/sedgepick.h', 'include/sedgepick_mesh.h'):
             os.makedirs(os.path.join(root, os.path.dirname(name)), exist_ok=True)
             shutil.copy(os.path.join(ROOT, name), os.path.join(root, name))
+        shutil.copytree(os.path.join(ROOT, 'c', 'finishing'), os.path.join(root, 'c', 'finishing'))
         os.makedirs(os.path.join(root, 'target', 'staticlib'))
         os.makedirs(os.path.join(root, 'crates', 'one', 'src'))
         archive, source = shutil.copyfile(ARCHIVE, os.path.join(root, 'target', 'staticlib', 'liblibrary.a')), os.path.join(root, 'crates', 'one', 'src', 'lib.rt')
