@@ -50,6 +50,7 @@ class Work:
     looked: object = None        # what the front edges would give, where that is asked for
     slab: object = None          # in a job: what it was given, charged and left
     fault: str = ''              # in a job: why nothing is written
+    verdict: object = None       # (name, words) rows of the acceptance, where there is one
 
 
 def check_folders(options):
@@ -116,9 +117,10 @@ def worked(options):
 
 def meshed(work, begin):
     """Runs the file and writes the mesh, its sheets, its reports and its steps."""
-    from . import parts, report, steps_page
+    from . import parts, report, sizes, steps_page
     options = work.options
-    finished(work, parts.ran(work.plan, options.stop, options.quality, progress, options.jobs, trace=bool(options.steps)))
+    run = sizes.best_run if options.raw else sizes.first_run
+    finished(work, parts.ran(work.plan, options.stop, options.quality, progress, options.jobs, run, trace=bool(options.steps)))
     if options.output:
         written(work)
     work.seconds = time.perf_counter() - begin
@@ -169,10 +171,11 @@ def prepared(options, whole=False):
 
 
 def finished(work, result):
-    """Verifies what came of the run."""
+    """Closes what the run left, and verifies what came of it."""
     import numpy
     from . import losses
-    surface, work.result = work.surface, result
+    surface = work.surface
+    work.result = result = result if work.options.raw else closed(work, result)
     added, z = result.added, surface.points[surface.triangles.cells[0, 0], 2]
     work.points = numpy.concatenate([surface.points, numpy.column_stack([added, numpy.full(len(added), z)])])
     *work.areas, work.cuts = losses.verify(surface, work.points, work.result)
@@ -181,6 +184,16 @@ def finished(work, result):
     surface.notes += work.result.notes
     check_losses(work)
     warn(work)
+
+
+def closed(work, result):
+    """The result through the finishing pass; as it is, with a warning, where the pass cannot take the triangles."""
+    from . import closing, finishing
+    try:
+        return closing.closed(work.surface, work.plan.hard, result, work.options.quality, work.options.stop == 1)
+    except finishing.Overlaps:
+        work.warnings.append("the triangles lie over each other, which the finishing pass does not take: run_front's own answer is written, as with --raw")
+        return result
 
 
 def check_losses(work):
@@ -204,14 +217,20 @@ def warn_odd(work, odd, then):
 
 
 def warn(work):
-    warn_odd(work, work.result.odd, 'few quads or none come out (%d here)' % len(work.result.quads))
+    from . import parts
+    if work.result.finished is None:
+        warn_odd(work, work.result.odd, 'few quads or none come out (%d here)' % len(work.result.quads))
+    elif work.options.stop == 1 and len(work.result.triangles) and parts.odd_components(work.result.triangles):
+        work.warnings.append('%d groups of leftover triangles are odd, since the given triangles have pieces with an odd number of triangles: split one triangle of each, or '
+                             'use --stop 0, which asks for no even groups' % parts.odd_components(work.result.triangles))
     for loss in work.losses:
         if len(loss.lost):
             work.warnings.append('%s; the first is %s' % (loss.words(), places(work.points, loss.lost[0])))
     if any(counts.limit for counts in work.result.counts):
         shared = work.slab and work.slab.entitled == work.slab.limit == work.slab.charged
-        work.warnings.append('its limit of %d attempts in the job ended the run early; a larger allowance may help' % work.slab.limit if shared else
-                             'a limit on attempts ended the run early; a larger --size may help')
+        words = ('its limit of %d attempts in the job ended the run early; a larger allowance may help' % work.slab.limit if shared else
+                 'a limit on attempts ended the run early; a larger --size may help')
+        (work.surface.notes if work.result.finished else work.warnings).append(words)  # the finishing pass did the rest
 
 
 def places(points, nodes):
@@ -223,7 +242,7 @@ def places(points, nodes):
 def written(work):
     """Numbers the nodes and writes the files."""
     import numpy
-    from . import groups, quality, writing
+    from . import groups, quality, verdicts, writing
     surface, result = work.surface, work.result
     nodes = numpy.arange(len(work.points)) if work.options.keep_nodes else numpy.unique(numpy.concatenate([result.quads.ravel(), result.triangles.ravel()]))
     work.number = numpy.full(len(work.points), -1)
@@ -231,12 +250,12 @@ def written(work):
     edges = quality.edge_keys(result.quads, result.triangles)
     lines = groups.survivors(surface.lines, numpy.isin(quality.keys(surface.lines.cells), edges))
     vertices = groups.survivors(surface.vertices, work.number[surface.vertices.cells[:, 0]] >= 0)
-    quads = groups.grouped(surface, work.points, result.quads, result.of_quads, result.parts)
-    left = groups.grouped(surface, work.points, result.triangles, result.of_triangles, result.parts)
+    quads, left = groups.of_result(surface, work.points, result)
     blocks = [('quad', groups.renumbered(quads, work.number, surface.clockwise)), ('triangle', groups.renumbered(left, work.number, surface.clockwise)),
               ('line', groups.renumbered(lines, work.number)), ('vertex', groups.renumbered(vertices, work.number))]
     sets = {name: work.number[own][work.number[own] >= 0] for name, own in surface.hard.items() if name != 'point of the geometry'}
-    surface.notes += writing.write(work.options.output, work.options.to, work.points[nodes], blocks, surface.names, sets)
+    with verdicts.Judging(work, nodes) as made:
+        surface.notes += writing.write(made, work.options.to, work.points[nodes], blocks, surface.names, sets)
     if work.options.node_map:
         with open(work.options.node_map, 'w') as file:
             file.write('node,given\n')

@@ -101,7 +101,9 @@ def arguments(words, description):
     add('--job', type=number_from(1, MOST_ALLOWANCE, int), metavar='ALLOWANCE', help='run the files as one job, in their order, under this many attempts, from 1 to '
         '1,000,000')
     add('--size', type=size_of, default='auto', metavar='S', help='the length of an edge that the quads should have, in the units of the file; 0: each edge sets '
-        'its own; auto, the default: the best of six runs, with 0.55 to 0.75 of the mean edge and 0 (docs/SIZE.md)')
+        'its own; auto, the default: 0.65 of the mean edge, with --raw the best of six runs, with 0.55 to 0.75 of it and 0 (docs/SIZE.md)')
+    add('--raw', action='store_true', help="write run_front's own answer, which drops nodes and leaves triangles; without it what is left is closed by a finishing pass")
+    add('--thin', type=number_from(0.0, 60.0), metavar='DEGREES', help='a leftover triangle with a smaller angle is not accepted; 10 if left out, with --raw 0, which asks nothing')
     add('--grid', action='store_true', help='the grid profile: every node lies on a fixed grid, no node is added, and the summed area of the cells is that of the '
         'triangles, exactly (docs/GRID.md); --size is 0')
     add('--stop', type=int, choices=(0, 1), default=0, help='0, the default: go on while an edge is open; 1: and leave only even components of triangles')
@@ -130,4 +132,6 @@ def arguments(words, description):
         parser.error('one mesh file is run at a time; --job ALLOWANCE runs several under one allowance of attempts')
     options.files, options.input = options.input, options.input[0]
     options.quality = quality_of(options)
+    if options.thin is None:
+        options.thin = 0.0 if options.raw else 10.0
     return options

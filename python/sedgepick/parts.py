@@ -94,6 +94,9 @@ class Result:
     sheet: object = None  # of the quads, as the library measures them
     odd: int = 0      # components, as they went to the library, with an odd number of triangles
     grown: list = ()  # where traces are asked for: each part as it went to the library, and its mesh
+    finished: object = None  # where it went through the finishing pass: what that made
+    before: object = None    # and the result as it was
+    homes: tuple = ()        # and the given triangle that each quad, and each triangle, has its groups from
 
 
 def cut(points, triangles):
