@@ -61,14 +61,21 @@ def received(content):
     return unpacked(json.loads(bytes(take(length))), take)
 
 
+def lower(kind, value):
+    """Sets a limit of this process, where it has no lower one."""
+    hard = resource.getrlimit(kind)[1]
+    value = value if hard == resource.RLIM_INFINITY else min(value, hard)
+    resource.setrlimit(kind, (value, value))
+
+
 def limit(limits):
     """The limits of this process, which is the child; it ends with its parent."""
     with open('/proc/self/statm') as file:
         own = int(file.read().split()[0]) * resource.getpagesize()
-    resource.setrlimit(resource.RLIMIT_AS, (own + (limits.megabytes << 20),) * 2)
-    resource.setrlimit(resource.RLIMIT_CPU, (int(limits.seconds) + 2,) * 2)
-    resource.setrlimit(resource.RLIMIT_CORE, (0, 0))
-    resource.setrlimit(resource.RLIMIT_FSIZE, (0, 0))  # reading writes no file
+    lower(resource.RLIMIT_AS, own + (limits.megabytes << 20))
+    lower(resource.RLIMIT_CPU, int(limits.seconds) + 2)
+    lower(resource.RLIMIT_CORE, 0)
+    lower(resource.RLIMIT_FSIZE, 0)  # reading writes no file
     for name in (signal.SIGINT, signal.SIGTERM, signal.SIGHUP):
         signal.signal(name, signal.SIG_DFL)
     with contextlib.suppress(OSError, AttributeError):

@@ -13,6 +13,8 @@ STDOUT = '-'
 def place_of(path):
     """The file that is written where this path is named: a link is followed, and what is there is a regular file; otherwise a Fault."""
     place = os.path.realpath(path)
+    if path.endswith(os.sep):
+        raise Fault('cannot write %s: it names a folder; name a file in it' % path)
     try:
         mode = os.stat(place).st_mode
     except FileNotFoundError:

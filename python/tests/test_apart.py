@@ -83,7 +83,7 @@ class Limits(Apart):
                 pass
         with self.assertRaisesRegex(surfaces.Fault, 'takes over 0.5 s'):
             apart.run(busy, apart.Limits(0.5), 'reading it')
-        self.says('takes over 1 s|cannot read it as wkt', 'a.wkt', 'TIN (((0 0,' + ' ' * 30 + '0 0 0 0 0 0 0 0 0 0 0 0 0 0 0 0 0 0 0 0 0 0 0 0 0 0!', form='wkt', limits=apart.Limits(1.0))
+        self.says('reading it as wkt takes over 1 s', 'a.wkt', 'TIN(((' + '1111111111111111111111111111 1 1,' * 3, form='wkt', limits=apart.Limits(1.0))
 
     def test_a_reader_that_crashes(self):
         for number in (signal.SIGSEGV, signal.SIGABRT):

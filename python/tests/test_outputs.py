@@ -56,6 +56,15 @@ class Places(Case):
         self.assertIn('--to says the format', refused.stderr)
         self.assertFalse(os.path.exists('-'))
 
+    def test_rounding_that_is_told(self):
+        """Digits behind the fifteenth are not; a format with fewer is."""
+        for first, name, told in ((1.2345678901234567e-11, 'out.inp', False), (0.12345678901234567, 'out.bdf', True)):
+            path = self.stored([(first, 0, 0), (1 / 3, 0, 0), (1 / 3, 1 / 3, 0), (0, 1 / 3, 0)], [('triangle', [(0, 1, 2), (0, 2, 3)])])
+            self.assertEqual('rounds' in self.good(path, '-o', self.path(name)).stderr, told)
+
+    def test_a_folder_that_is_not_there(self):
+        self.refused('it names a folder', L_SLAB, '-o', self.path('new') + os.sep)
+
     def test_nobody_reads_the_summary(self):
         """The status is that of the files."""
         reading, writing = os.pipe()
