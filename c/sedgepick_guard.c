@@ -46,6 +46,10 @@
 #define FILING_ORDER(S, N) FILED(S, N, first), FILED(S, N, second)
 #define SMALL_MESH(S, N) N(uint32_t, points), N(size_t, place), S(uint32_t, list)
 #define SHEET(S, N) S(const double, points), S(const uint32_t, quads), S(double, out), N(size_t, given), N(size_t, count), S(size_t, answer)
+#define ACCEPT(S, N) \
+    S(const double, given_points), S(const uint32_t, triangles), S(const double, points), S(const uint32_t, quads), S(const uint32_t, left), \
+    S(const uint32_t, joints), S(uint32_t, components), S(uint32_t, work), S(uint32_t, parents), N(size_t, given), N(size_t, count), \
+    N(size_t, point_count), N(size_t, quad_count), N(size_t, left_count), N(size_t, joint_count), N(double, cosine), N(double, thin), S(size_t, answer)
 
 GUARD(sedgepick_run_front, RUN_FRONT)
 GUARD(sedgepick_run_front_with, RUN_FRONT_WITH)
@@ -55,3 +59,6 @@ GUARD(sedgepick_preview, PREVIEW)
 GUARD(sedgepick_filing_order, FILING_ORDER)
 GUARD(sedgepick_small_mesh, SMALL_MESH)
 GUARD(sedgepick_sheet, SHEET)
+#ifdef SEDGEPICK_MOST_JUDGED /* of headers that have the acceptance */
+GUARD(sedgepick_accept, ACCEPT)
+#endif

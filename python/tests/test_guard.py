@@ -1,5 +1,5 @@
 """Tests of the layer in C between a caller and the proved library: the floating point, the stack, other versions, sanitizers."""
-import ctypes, os, pickle, shutil, subprocess, sys, tempfile, unittest
+import ctypes, glob, os, pickle, shutil, subprocess, sys, tempfile, unittest
 from common import ARCHIVE, PACKAGES, ROOT, grid, make_library
 import sedgepick
 from sedgepick import library
@@ -107,8 +107,8 @@ class Versions(Built):
             self.skipTest('nm is not installed')
         names = {line.split()[-1] for line in found.stdout.splitlines()}
         headers = ''
-        for name in ('sedgepick.h', 'sedgepick_mesh.h'):
-            with open(os.path.join(ROOT, 'include', name)) as file:
+        for name in glob.glob(os.path.join(ROOT, 'include', '*.h')) + glob.glob(os.path.join(ROOT, 'c', '**', '*.h'), recursive=True):
+            with open(name) as file:
                 headers += file.read()
         self.assertEqual([name for name in names if not name.startswith('sedgepick_') or name + '(' not in headers], [])
 
