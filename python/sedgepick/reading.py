@@ -164,9 +164,7 @@ STARTED = {'os.exec', 'os.fork', 'os.forkpty', 'os.posix_spawn', 'os.system', 's
 def confine(path):
     """From now on this process, the child that reads, opens no file but this one and Python's modules, and starts nothing: what a mesh file names beside itself is
     not read."""
-    import meshio
-    roots = tuple({os.path.dirname(os.path.realpath(os.__file__)) + os.sep, os.path.dirname(os.path.dirname(os.path.realpath(meshio.__file__))) + os.sep,
-                   os.path.dirname(os.path.abspath(__file__)) + os.sep})
+    roots = tuple({os.path.realpath(place) + os.sep for place in (*sys.path, os.path.dirname(os.__file__)) if os.path.isabs(place)})
 
     def seen(event, words):
         if event == 'open' and isinstance(words[0], (str, bytes)):
