@@ -13,7 +13,7 @@ distance, and the given mesh is then judged with its nodes as JUDGED has them, w
 nothing; where there is none that takes all of them within its range, the files are refused.
 
 Exit status: 0 accepted, 1 not accepted, 2 wrong options or refused: a file that cannot be read, or is beyond the judge's limits."""
-import argparse, hashlib, json, os, sys
+import argparse, json, os, sys
 from html import escape
 import numpy
 from . import NoLibrary, Refused, files, library, matching, meshes, quality, surfaces, verdicts
@@ -48,8 +48,7 @@ class Pair:
         with named(options.given):
             self.surface = surfaces.checked(files.read(options.given, options.form))
         with named(options.judged):
-            self.mesh = meshes.read_any(options.judged, options.judged_from)
-            self.points, self.quads, self.left = meshes.cells_of(self.mesh)
+            self.points, self.quads, self.left, *self.places, self.sha256 = meshes.read_any(options.judged, options.judged_from)
             check_nodes(self.points, self.quads, self.left)
         given = self.surface.points
         self.match = matching.near(given, self.points, options.near) if options.near else matching.by_bits(given, self.points)
@@ -76,13 +75,12 @@ class Pair:
 
     def faults(self):
         """What does not hold, with the offender's place in the file."""
-        verdict, found = self.found.verdict, []
-        where = {'quad': (meshes.places(self.mesh, 'quad'), verdict.folded, verdict.sharp), 'triangle': (meshes.places(self.mesh, 'triangle'), verdict.left_flat, verdict.thin)}
+        where, found = dict(zip(('quad', 'triangle'), self.places)), []
         for clause, words in self.found.clauses():
-            if words:
-                kind = words.split()[0]
-                cells, number = where.get(kind, ((), ))[0], int(words.split()[1]) if kind in where else 0
-                found.append((clause, words.replace('%s %d' % (kind, number), '%s %d, cell %d of the file,' % (kind, number, cells[number - 1]), 1) if kind in where else words))
+            kind, number, rest = (words or '').split(' ', 2) if words else ('', '', '')
+            if kind in where:
+                words = '%s %s, cell %d of the file, %s' % (kind, number, where[kind][int(number) - 1], rest)
+            found += [(clause, words)] if words else []
         return found
 
     def least(self, cells):
@@ -103,7 +101,7 @@ class Pair:
         """[(title, rows)] of the report."""
         options, faults = self.options, dict(self.faults())
         rows = [(name, faults.get(name, words)) for name, words in self.found.rows()]
-        return [('Files', [('given', options.given), ('SHA-256 of it', digest(options.given)), ('judged', options.judged), ('SHA-256 of it', digest(options.judged)),
+        return [('Files', [('given', options.given), ('SHA-256 of it', self.surface.sha256), ('judged', options.judged), ('SHA-256 of it', self.sha256),
                            ('asked of quads', 'a cosine of at most %.14g and 1e-9' % options.cosine), ('asked of triangles', 'an angle of at least %g degrees' % options.thin if options.thin else 'nothing'),
                            ('nodes matched', 'bit for bit' if not options.near else 'within %g%s' % (options.near, self.near_words())),
                            ('library', 'sedgepick %s' % library.VERSION), ('commit', library.commit())]),
@@ -117,7 +115,7 @@ class Pair:
                 'quads': len(self.quads), 'triangles': len(self.left), 'least_angle_of_quads': self.least(self.quads), 'least_angle_of_triangles': self.least(self.left),
                 'nodes_added': self.match.added, 'nodes_dropped': self.dropped, 'near': options.near, 'nodes_moved': self.match.moved,
                 'groups': [int(size) for size in self.found.verdict.sizes], 'odd_groups': int(self.found.verdict.odd), 'cosine': options.cosine, 'thin': options.thin,
-                'given': {'name': options.given, 'sha256': digest(options.given)}, 'judged': {'name': options.judged, 'sha256': digest(options.judged)}, 'version': library.VERSION}
+                'given': {'name': options.given, 'sha256': self.surface.sha256}, 'judged': {'name': options.judged, 'sha256': self.sha256}, 'version': library.VERSION}
 
 
 class named:
@@ -141,11 +139,6 @@ def check_nodes(points, quads, left):
     wrong = numpy.flatnonzero(~numpy.isfinite(points[:, :2]).all(axis=1))
     if len(wrong):
         raise surfaces.Fault('node %d is not at a finite place' % (wrong[0] + 1))
-
-
-def digest(path):
-    with open(path, 'rb') as file:
-        return hashlib.sha256(file.read()).hexdigest()
 
 
 def report_of(pair, page):

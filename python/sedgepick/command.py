@@ -6,7 +6,8 @@
   sedgepick-mesh slab.msh --preview front.html
   sedgepick-mesh slab.msh -o quads.msh --steps steps.html
 
-Files are read and written by meshio: Gmsh, VTK, VTU, Abaqus .inp, STL, OFF, OBJ, MED, XDMF and others, by their suffix. The triangles are paired into
+Files are read and written by meshio: Gmsh, VTK, VTU, Abaqus .inp, STL, OFF, OBJ, MED, XDMF, Nastran and Medit by their suffix, others that meshio reads where
+--from names them. Reading has limits of time and memory; files that a mesh file names beside itself are not read. The triangles are paired into
 quads by the proved library; those that find no partner stay triangles. More than 4,096 triangles are cut into parts, which are run on all cores.
 
 Lines, points and borders of surfaces in the file are kept: they are edges and nodes of what is written.
@@ -24,11 +25,14 @@ are on the front of both and are shown on either side.
 With --steps a page is written that steps through the mesh as it grew: every insertion, flip and quad of the run in order, forward, back, by a slider or one after the other. It has the mesh as it is
 given and the trace of the run, and replays it. Without -o no mesh is written. Parts of a larger mesh come one after the other.
 
-Exit status: 0 the mesh, the preview or the steps are written; 1 refused, nothing is written; 2 wrong options; 3 the mesh is written, and something that was a line, a point or a
-surface's border in the file is lost (with --allow-loss or --free), or a warning was given: standard error says what. Of a job: 1 where a file is refused or not written, the others
-are; otherwise 3 where one would have 3."""
+Every file is made under a temporary name beside its place; all take their names together at the end, so that a run which is ended leaves what was there.
+
+Exit status: 0 the mesh, the preview or the steps are written; 1 refused, or over --seconds, nothing is written; 2 wrong options; 3 the mesh is written, and something that was a
+line, a point or a surface's border in the file is lost (with --allow-loss or --free), or a warning was given: standard error says what. Of a job: 1 where a file is refused or not
+written, the others are; otherwise 3 where one would have 3. 130, 143 and 129: ended by Ctrl-C, SIGTERM or SIGHUP, nothing is written."""
 import os, sys, time
 from dataclasses import dataclass, field
+from . import ending
 
 
 @dataclass
@@ -50,35 +54,28 @@ class Work:
     looked: object = None        # what the front edges would give, where that is asked for
     slab: object = None          # in a job: what it was given, charged and left
     fault: str = ''              # in a job: why nothing is written
+    outputs: object = None       # the files that are made and take their names at the end
     verdict: object = None       # (name, words) rows of the acceptance, where there is one
+    told: list = field(default_factory=list)  # lines for standard output, once the files are there
 
 
 def check_folders(options):
-    """That the files to write can be, before a long run, and that none is written over another or over the one that is read."""
-    from .surfaces import Fault
-    paths = [path for path in [options.output, options.node_map, options.steps, *options.report, *options.sheet, *options.preview] if path]
-    for place, path in enumerate(paths):
-        folder = os.path.dirname(path) or '.'
-        if not os.path.isdir(folder):
-            raise Fault('cannot write %s: there is no folder %s' % (path, folder))
-        if os.path.isdir(path):
-            raise Fault('cannot write %s: it is a folder; name a file in it' % path)
-        if not os.access(path if os.path.exists(path) else folder, os.W_OK):
-            raise Fault('cannot write %s: you have no permission' % path)
-        if os.path.exists(path) and os.path.exists(options.input) and os.path.samefile(path, options.input):
-            raise Fault('%s is the file that is read, and would be written over: name another' % path)
-        if os.path.abspath(path) in map(os.path.abspath, paths[:place]):
-            raise Fault('%s would be written twice: name different files' % path)
+    """That the files to write can be, before a long run, and that none is written over another or over one that is read."""
+    from . import outputs
+    outputs.check([path for path in [options.output, options.node_map, options.steps, *options.report, *options.sheet, *options.preview] if path], options.files)
 
 
 def main(words=None):
     from .options import arguments
     options = arguments(words, __doc__.split('\n', 2)[2])
+    from . import slabs
+    return ending.ended(lambda: guarded(options, slabs.worked if options.job else worked), options.seconds, lambda words: say('%s: %s' % (options.input, words)))
+
+
+def guarded(options, work):
+    """The exit status of the work; a fault in words."""
     try:
-        from . import slabs
-        return slabs.worked(options) if options.job else worked(options)
-    except KeyboardInterrupt:
-        return say('stopped')
+        return work(options)
     except BrokenPipeError:
         return 1
     except Exception as fault:
@@ -95,28 +92,43 @@ def known(fault):
 
 
 def say(words):
-    print('sedgepick-mesh: %s' % words, file=sys.stderr)
+    from .surfaces import visible
+    print('sedgepick-mesh: %s' % visible(words), file=sys.stderr)
     return 1
+
+
+def show(options, lines):
+    """Lines on standard output, or on standard error where the mesh goes there."""
+    if options.quiet:
+        return
+    try:
+        print('\n'.join(lines), file=sys.stderr if options.output == '-' else sys.stdout, flush=True)
+    except BrokenPipeError:  # nobody reads it; the files are there all the same
+        os.dup2(os.open(os.devnull, os.O_WRONLY), sys.stdout.fileno())
 
 
 def worked(options):
     from . import library, writing
+    from .outputs import Outputs
     library.load()
     check_folders(options)
     if options.output:
         writing.check_form(options.output, options.to)
     begin = time.perf_counter()
     work = prepared(options)
-    if options.output or options.steps:
-        meshed(work, begin)
-    if options.preview:
-        previewed(work, begin)
+    with Outputs() as work.outputs:
+        if options.output or options.steps:
+            meshed(work, begin)
+        if options.preview:
+            previewed(work, begin)
+        work.outputs.commit()
+    show(options, work.told)
     told(work)
     return 3 if work.warnings else 0
 
 
 def meshed(work, begin):
-    """Runs the file and writes the mesh, its sheets, its reports and its steps."""
+    """Runs the file and makes the mesh, its sheets, its reports and its steps."""
     from . import parts, report, sizes, steps_page
     options = work.options
     run = sizes.best_run if options.raw else sizes.first_run
@@ -124,10 +136,9 @@ def meshed(work, begin):
     if options.output:
         written(work)
     work.seconds = time.perf_counter() - begin
-    put(options.report, lambda page: report.page(work) if page else report.text(work))
-    put([options.steps] if options.steps else [], lambda page: steps_page.page(work))
-    if not options.quiet:
-        print('\n'.join(([report.summary(work)] if options.output else []) + ([steps_page.summary(work)] if options.steps else [])))
+    put(work.outputs, options.report, lambda page: report.page(work) if page else report.text(work))
+    put(work.outputs, [options.steps] if options.steps else [], lambda page: steps_page.page(work))
+    work.told += ([report.summary(work)] if options.output else []) + ([steps_page.summary(work)] if options.steps else [])
 
 
 def previewed(work, begin):
@@ -139,34 +150,33 @@ def previewed(work, begin):
         work.surface.notes += work.plan.notes
         warn_odd(work, work.plan.odd(), 'few edges or none give a quad (%d here)' % len(work.looked.quads()))
     work.seconds = time.perf_counter() - begin
-    put(options.preview, lambda page: preview_page.page(work) if page else preview_page.drawn(work))
-    if not options.quiet:
-        print(preview_page.summary(work))
+    put(work.outputs, options.preview, lambda page: preview_page.page(work) if page else preview_page.drawn(work))
+    work.told.append(preview_page.summary(work))
 
 
-def put(paths, content):
-    """Writes the reports."""
+def put(outputs, paths, content):
+    """Makes the reports."""
     from .options import PAGES
     for path in paths:
-        with open(path, 'w', encoding='utf-8') as file:
-            file.write(content(path.lower().endswith(PAGES)))
+        outputs.text(path, content(path.lower().endswith(PAGES)))
 
 
 def told(work, name=''):
     """Notes and warnings on standard error."""
     for kind, words in [('note', words) for words in work.surface.notes] + [('warning', words) for words in work.warnings]:
-        print('sedgepick-mesh: %s%s: %s' % (name, kind, words), file=sys.stderr)
+        say('%s%s: %s' % (name, kind, words))
 
 
 def prepared(options, whole=False):
     """The file read, checked and cut into parts."""
     from . import files, joints, losses, parts, quality, surfaces
-    work = Work(options, files.read(options.input, options.form))
+    work = Work(options, files.read(options.input, options.form, options.limits))
     surface = surfaces.checked(work.surface, options.flatten)
     cells = surface.triangles.cells
     work.given_components = int(quality.components(cells).max()) + 1
     hard = joints.Hard() if options.free else losses.hard(surface)
     work.plan = parts.planned(surface.points, cells, 0.0 if options.grid else options.size, hard, options.grid, whole, options.stop == 1)
+    surface.notes += work.plan.told
     return work
 
 
@@ -254,12 +264,13 @@ def written(work):
     blocks = [('quad', groups.renumbered(quads, work.number, surface.clockwise)), ('triangle', groups.renumbered(left, work.number, surface.clockwise)),
               ('line', groups.renumbered(lines, work.number)), ('vertex', groups.renumbered(vertices, work.number))]
     sets = {name: work.number[own][work.number[own] >= 0] for name, own in surface.hard.items() if name != 'point of the geometry'}
-    with verdicts.Judging(work, nodes) as made:
-        surface.notes += writing.write(made, work.options.to, work.points[nodes], blocks, surface.names, sets)
+    output = work.options.output
+    made = work.outputs.room(output)
+    surface.notes += writing.make(made, output, work.options.to, work.points[nodes], blocks, surface.names, sets)
+    verdicts.judge(work, made, nodes)
     if work.options.node_map:
-        with open(work.options.node_map, 'w') as file:
-            file.write('node,given\n')
-            file.writelines('%d,%s\n' % (i + 1, node + 1 if node < len(surface.points) else '') for i, node in enumerate(nodes))
+        rows = ['%d,%s\n' % (i + 1, node + 1 if node < len(surface.points) else '') for i, node in enumerate(nodes)]
+        work.outputs.text(work.options.node_map, 'node,given\n' + ''.join(rows))
     write_sheets(work)
 
 
@@ -268,6 +279,5 @@ def write_sheets(work):
     from . import sheets
     for path in work.options.sheet:
         cells = work.number[work.result.quads] + 1
-        with open(path, 'w', encoding='utf-8') as file:
-            file.write(sheets.table(work.result.sheet, cells[:, ::-1] if work.surface.clockwise else cells) if path.lower().endswith('.csv')
-                       else sheets.text(work.result.sheet, work.surface.name))
+        work.outputs.text(path, sheets.table(work.result.sheet, cells[:, ::-1] if work.surface.clockwise else cells) if path.lower().endswith('.csv')
+                          else sheets.text(work.result.sheet, work.surface.name))

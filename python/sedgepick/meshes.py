@@ -2,8 +2,8 @@
 import meshio
 import numpy
 from meshio import _helpers as meshio_forms
-from .files import check_readable, form_of, missing, quiet
-from .reading import fault_words
+from .apart import Limits
+from .files import quiet, taken
 from .surfaces import Fault
 
 PLANE = ('quad', 'triangle', 'line', 'line3', 'vertex')
@@ -27,20 +27,17 @@ def cells_of(mesh):
 
 
 def read_any(path, form=None):
-    """What meshio reads of a file with plane cells; a Fault in words where it cannot."""
-    check_readable(path)
-    form = form_of(path, form)
-    try:
-        with quiet() as said:
-            mesh = meshio.read(path, file_format=READERS.get(form, form))
-    except ModuleNotFoundError as error:
-        raise Fault(missing(error, form))
-    except (Exception, SystemExit) as error:
-        raise Fault('meshio cannot read it as %s: %s' % (form, fault_words(error, said.getvalue()) or type(error).__name__))
+    """(points, quads, triangles, the places of both among the file's cells, SHA-256 of its bytes); a Fault in words where it cannot be read."""
+    found, sha256 = taken(path, form, Limits(), plane)
+    return (*found, sha256)
+
+
+def plane(mesh):
+    """The plane cells of a mesh, and their places."""
     others = {block.type: len(block.data) for block in mesh.cells if block.type not in PLANE and len(block.data)}
     if others:
         raise Fault('it has %s: quads of four nodes and triangles of three are judged' % ' and '.join('%d cells of type %s' % (count, kind) for kind, count in others.items()))
-    return mesh
+    return (*cells_of(mesh), places(mesh, 'quad'), places(mesh, 'triangle'))
 
 
 def places(mesh, kind):

@@ -1,11 +1,12 @@
 """The report of a run, as text and as a page with the picture."""
-import hashlib, os
+import os
 from dataclasses import dataclass
 from html import escape
 import meshio, numpy
 from . import closing, library, losses, picture, quality, sheets, slits
 from .front import Quality
 from .previews import KINDS
+from .surfaces import visible
 
 WORST = 10   # cells that a list names
 LISTED = 50  # lost edges or points that a list names
@@ -107,7 +108,7 @@ def sections(work):
                  ('parts', 'one' if len(result.sizes) == 1 else '%d (%s), %s' % (len(result.sizes), result.cutter, 'finished as one' if result.finished else
                                                                                  '%d edges between them, all found' % work.cuts)),
                  ('coordinates rounded', '%d of given nodes on their way to the library, %d of added ones on their way back' % result.rounded),
-                 ('library', 'sedgepick %s' % library.VERSION), ('commit', library.commit()), ('meshio', meshio.__version__), ('seconds', '%.1f' % work.seconds)]),
+                 *library_rows(), ('options', work.options.words), ('seconds', '%.1f' % work.seconds)]),
         *([('Verdict', work.verdict)] if work.verdict else []),
         ('Result', counted),
         *([('Finishing', closing.rows(surface.triangles.cells, result))] if result.finished else []),
@@ -150,11 +151,14 @@ def job_rows(works, job):
 
 def digests(work):
     """By which the file that was read and the one that was written can be told from others."""
-    found = []
-    for path in (work.options.input, work.options.output):
-        with open(path, 'rb') as file:
-            found.append(('SHA-256 of %s' % os.path.basename(path), hashlib.sha256(file.read()).hexdigest()))
-    return found
+    output = work.options.output
+    return [('SHA-256 of %s' % work.surface.name, work.surface.sha256),
+            ('SHA-256 of %s' % ('standard output' if output == '-' else os.path.basename(output)), work.outputs.digest(output))]
+
+
+def library_rows():
+    """Which library ran: what it says of itself."""
+    return [('library', 'sedgepick %s, interface %d' % (library.version(), library.abi())), ('commit', library.commit()), ('build', library.build()), ('meshio', meshio.__version__)]
 
 
 def given_words(surface):
@@ -198,7 +202,7 @@ def job_text(works, job):
 def lines(head, titled):
     out, wide = [head, ''], max(len(name) for _, rows in titled for name, _ in rows)
     for title, rows in titled:
-        out += [title] + ['  %-*s  %s' % (wide, name, value) for name, value in rows] + ['']
+        out += [title] + ['  %-*s  %s' % (wide, visible(name), visible(str(value))) for name, value in rows] + ['']
     return '\n'.join(line.rstrip() for line in out)
 
 
@@ -212,7 +216,7 @@ td { border-top: 1px solid #dddddd; padding: 3px 8px 3px 0; vertical-align: top;
 
 
 def tables(titled):
-    cells = lambda pairs: ''.join('<tr><td>%s</td><td>%s</td></tr>' % (escape(str(name)), escape(str(value))) for name, value in pairs)
+    cells = lambda pairs: ''.join('<tr><td>%s</td><td>%s</td></tr>' % (escape(visible(name)), escape(visible(str(value)))) for name, value in pairs)
     return ''.join('<section><h2>%s</h2><table>%s</table></section>\n' % (escape(title), cells(pairs)) for title, pairs in titled)
 
 

@@ -1,5 +1,5 @@
 """The verdict on a mesh file: its cells against the given triangles, by the proved `accept`, exactly."""
-import math, os, tempfile
+import math
 from dataclasses import dataclass
 import numpy
 from . import losses, meshes, quality, slits, writing
@@ -78,27 +78,6 @@ def judged(given_points, triangles, points, quads, left, joints, cosine, thin, n
     return Judged(verdict, numpy.asarray(triangles), numpy.asarray(points), numpy.asarray(quads), numpy.asarray(left), joints, numbers)
 
 
-class Judging:
-    """A mesh file on its way: it is written in a folder of its own, read back and judged, and takes its place only where it is accepted."""
-
-    def __init__(self, work, nodes):
-        self.work, self.nodes, self.output = work, nodes, work.options.output
-
-    def __enter__(self):
-        self.folder = tempfile.TemporaryDirectory(prefix='.sedgepick-', dir=os.path.dirname(self.output) or '.')
-        self.made = os.path.join(self.folder.name, os.path.basename(self.output))
-        return self.made
-
-    def __exit__(self, kind, fault, trace):
-        with self.folder:
-            if isinstance(fault, Fault):
-                raise Fault(str(fault).replace(self.made, self.output)) from None
-            if fault is None:
-                judge(self.work, self.made, self.nodes)
-                for name in os.listdir(self.folder.name):  # some formats have other files beside it
-                    os.replace(os.path.join(self.folder.name, name), os.path.join(os.path.dirname(self.output), name))
-
-
 def judge(work, path, nodes):
     """Reads the file back, takes its nodes back to the given numbers and has it judged: a Fault where it is not accepted, a warning where thin triangles are the given
     mesh's own."""
@@ -106,7 +85,7 @@ def judge(work, path, nodes):
     if accept is None:
         surface.notes.append('this package has no acceptance: the mesh is not judged')
         return
-    form = writing.writing_form(path, options.to)
+    form = writing.writing_form(options.output, options.to)
     turned = lambda cells: cells[:, ::-1] if surface.clockwise else cells
     found = meshes.read_written(path, form)
     if found is None:

@@ -304,7 +304,7 @@ class Parts(Case):
         self.assertGreater(len(triangles), 2 * 4096)
         surface = surfaces.Surface('grid', points, surfaces.Marked(triangles), surfaces.Marked(numpy.zeros((0, 2), int)), surfaces.Marked(numpy.zeros((0, 1), int)))
         result = parts.run(points, triangles, None, 0)
-        self.assertEqual(result.cutter, cutter)
+        self.assertRegex(result.cutter, cutter)
         self.assertGreater(len(result.sizes), 2)
         every = numpy.concatenate([points, numpy.column_stack([result.added, numpy.zeros(len(result.added))])])
         _, _, cuts = losses.verify(surface, every, result)
@@ -320,7 +320,7 @@ class Parts(Case):
 
     @unittest.skipUnless(shutil.which('gpmetis'), 'METIS is not installed')
     def test_metis(self):
-        self.check('METIS')
+        self.check(r'METIS \d+\.\d+')
 
     def test_even_parts(self):
         """Under rule 1 the parts of an even mesh are even, however it is cut; those of an odd component are so but for one."""
