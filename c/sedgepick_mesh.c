@@ -6,6 +6,9 @@
 #ifndef SEDGEPICK_COMMIT
 #define SEDGEPICK_COMMIT "unknown"
 #endif
+#ifndef SEDGEPICK_BUILD
+#define SEDGEPICK_BUILD "unknown"
+#endif
 
 static size_t within(size_t value, size_t least, size_t most) {
     value = value < most ? value : most;
@@ -222,6 +225,14 @@ const char *sedgepick_version(void) {
     return SEDGEPICK_VERSION;
 }
 
+size_t sedgepick_abi(void) {
+    return SEDGEPICK_ABI;
+}
+
 const char *sedgepick_commit(void) {
     return SEDGEPICK_COMMIT;
+}
+
+const char *sedgepick_build(void) {
+    return SEDGEPICK_BUILD;
 }

@@ -5,8 +5,14 @@
  * cosine of each corner is at most the set's largest cosine plus 1e-9. The order is total on the meshes that it accepts. The functions allocate
  * nothing, keep nothing between calls, and may be called from several threads at once on memory of their own.
  *
- * Link target/staticlib/liblibrary.a (x86-64, written by `rt staticlib library`), or libsedgepick, which tools/install makes of it; sedgepick_mesh.h has a
+ * Link libsedgepick, which tools/install makes, or the bare target/staticlib/liblibrary.a (x86-64, written by `rt staticlib library`); sedgepick_mesh.h has a
  * call that lends the memory itself.
+ *
+ * Floating point: the definition is IEEE 754 to nearest, with subnormal numbers. In libsedgepick every function sets MXCSR to its default and puts back what the caller had,
+ * whatever rounding mode, FTZ, DAZ or trap that is. Who links the bare archive owes the default himself: MXCSR is 0x1F80 but for its flags, as after a program's start.
+ * Under another mode nothing of what is said here is promised of the bare functions.
+ *
+ * Stack: a call takes at most 20 KB of stack; c/test_guard.c measures every function, on meshes of 4,050 triangles 15 KB at most.
  *
  * SPDX-License-Identifier: MIT
  */
@@ -25,6 +31,10 @@ extern "C" {
 #define SEDGEPICK_VERSION_MINOR 2
 #define SEDGEPICK_VERSION_PATCH 0
 #define SEDGEPICK_VERSION "0.2.0"
+
+/* The number of the interface, which is the shared library's too (libsedgepick.so.2). It grows where a function's parameters, a constant or a struct of these headers change;
+ * a function more leaves it. sedgepick_abi() of sedgepick_mesh.h is that of the library that is linked. */
+#define SEDGEPICK_ABI 2
 
 /* Limits on the numbers of a call. */
 #define SEDGEPICK_MOST_GIVEN 4096     /* given points, and given triangles */
@@ -285,6 +295,9 @@ enum sedgepick_job_place {
  * (SEDGEPICK_LIMIT), whichever is smaller; otherwise the call is sedgepick_run_front_with. It leaves what it was entitled to less what it is charged: the
  * attempts made, of which a counted one that a limit stopped is none; where 8, 9 or 11 ended the run, the attempts begun; and nothing where it is refused before
  * its run. So a refused mesh gets its number, and the job goes on.
+ *
+ * A service that meshes what strangers send bounds a call by a job of one mesh: SEDGEPICK_JOB_START(1, 20000) makes at most 20,000 attempts, where a run by itself may make
+ * 829,200. What one attempt costs depends on the shape; docs/MEASURED.md has it for the worst that are known.
  *
  * From a job's start, with each state handed on once, the attempts made never pass the allowance. Where a mesh run by itself is finished, its quads in the job
  * are the first ones of that run. What a later mesh contains changes no earlier one.

@@ -89,9 +89,13 @@ void sedgepick_mesh_free(sedgepick_mesh *mesh);
 /* What a returned number means, 0 and SEDGEPICK_NO_MEMORY too; never null. */
 const char *sedgepick_refusal_words(size_t refusal);
 
-/* The version of the library that is linked (SEDGEPICK_VERSION is that of the header), and the commit that it was built at. */
+/* Of the library that is linked: its version and the number of its interface (SEDGEPICK_VERSION and SEDGEPICK_ABI are those of the header), the commit that it was
+ * built at, and its build: the SHA-256 of the proved archive and the compiler of the functions in c/. The library takes calls of this header where sedgepick_abi()
+ * is SEDGEPICK_ABI. */
 const char *sedgepick_version(void);
+size_t sedgepick_abi(void);
 const char *sedgepick_commit(void);
+const char *sedgepick_build(void);
 
 #ifdef __cplusplus
 }

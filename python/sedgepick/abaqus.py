@@ -18,23 +18,30 @@ def statements(lines):
     return found
 
 
-def members(parameters, rows, known):
-    """The numbers that a set's rows list, by themselves, in steps or as other sets."""
+def members(parameters, rows, known, there):
+    """The numbers that a set's rows list, by themselves, in steps or as other sets; of steps those that are `there`: a step of 1 may list billions."""
     numbers = set()
     for row in rows:
         if 'GENERATE' in parameters:
-            first, last, step = [*map(int, row), 1][:3]
-            numbers |= set(range(first, last + 1, step))
+            steps = range(*(lambda first, last, step=1, *_: (first, last + 1, step))(*map(int, row)))
+            numbers |= {number for number in there if number in steps}
             continue
         for word in row:
             numbers |= {int(word)} if word.lstrip('-').isdigit() else known.get(word.upper(), set())
     return numbers
 
 
+def first_numbers(found, keyword):
+    """The first number of each row under a keyword: those of nodes or elements, and of an element over several rows a few others."""
+    return {int(row[0]) for kind, _, rows in found if kind == keyword for row in rows if row and row[0].isdigit()}
+
+
 def read_sets(lines, widths):
     """(cell sets, node sets): {name: places in each block of cells}, {name: nodes}. `widths` are the numbers of nodes of the cells, block by block."""
     nodes, blocks, cells, points, names = {}, [], {}, {}, {}
-    for keyword, parameters, rows in statements(lines):
+    found = statements(lines)
+    there = {'NSET': first_numbers(found, 'NODE'), 'ELSET': first_numbers(found, 'ELEMENT')}
+    for keyword, parameters, rows in found:
         own = None
         if keyword == 'NODE':
             own = {int(row[0]) for row in rows}
@@ -47,7 +54,7 @@ def read_sets(lines, widths):
         for kind, sets in (('ELSET', cells), ('NSET', points)):
             name = parameters.get(kind)
             if name and (keyword == kind or own is not None and kind == {'NODE': 'NSET', 'ELEMENT': 'ELSET'}[keyword]):
-                more = members(parameters, rows, sets) if own is None else own
+                more = members(parameters, rows, sets, there[kind]) if own is None else own
                 sets[name.upper()] = sets.get(name.upper(), set()) | more
                 names.setdefault((kind, name.upper()), name)
     if len(blocks) != len(widths):
@@ -58,12 +65,10 @@ def read_sets(lines, widths):
 
 
 def repaired(path, mesh):
-    """The mesh that meshio read with its sets; as it is where the file is made of several."""
+    """The mesh that meshio read with its sets."""
     from .reading import encoding_of
     with open(path, encoding=encoding_of(path) or 'latin-1') as file:
         lines = file.readlines()
-    if any(line.strip().upper().startswith('*INCLUDE') for line in lines):
-        return mesh
     try:
         mesh.cell_sets, mesh.point_sets = read_sets(lines, [numpy.shape(block.data)[1] for block in mesh.cells])
     except (ValueError, IndexError, KeyError):

@@ -6,7 +6,8 @@
   sedgepick-mesh slab.msh --preview front.html
   sedgepick-mesh slab.msh -o quads.msh --steps steps.html
 
-Files are read and written by meshio: Gmsh, VTK, VTU, Abaqus .inp, STL, OFF, OBJ, MED, XDMF and others, by their suffix. The triangles are paired into
+Files are read and written by meshio: Gmsh, VTK, VTU, Abaqus .inp, STL, OFF, OBJ, MED, XDMF, Nastran and Medit by their suffix, others that meshio reads where
+--from names them. Reading has limits of time and memory; files that a mesh file names beside itself are not read. The triangles are paired into
 quads by the proved library; those that find no partner stay triangles. More than 4,096 triangles are cut into parts, which are run on all cores.
 
 Lines, points and borders of surfaces in the file are kept: they are edges and nodes of what is written.
@@ -24,11 +25,14 @@ are on the front of both and are shown on either side.
 With --steps a page is written that steps through the mesh as it grew: every insertion, flip and quad of the run in order, forward, back, by a slider or one after the other. It has the mesh as it is
 given and the trace of the run, and replays it. Without -o no mesh is written. Parts of a larger mesh come one after the other.
 
-Exit status: 0 the mesh, the preview or the steps are written; 1 refused, nothing is written; 2 wrong options; 3 the mesh is written, and something that was a line, a point or a
-surface's border in the file is lost (with --allow-loss or --free), or a warning was given: standard error says what. Of a job: 1 where a file is refused or not written, the others
-are; otherwise 3 where one would have 3."""
+Every file is made under a temporary name beside its place; all take their names together at the end, so that a run which is ended leaves what was there.
+
+Exit status: 0 the mesh, the preview or the steps are written; 1 refused, or over --seconds, nothing is written; 2 wrong options; 3 the mesh is written, and something that was a
+line, a point or a surface's border in the file is lost (with --allow-loss or --free), or a warning was given: standard error says what. Of a job: 1 where a file is refused or not
+written, the others are; otherwise 3 where one would have 3. 130, 143 and 129: ended by Ctrl-C, SIGTERM or SIGHUP, nothing is written."""
 import os, sys, time
 from dataclasses import dataclass, field
+from . import ending
 
 
 @dataclass
@@ -50,34 +54,28 @@ class Work:
     looked: object = None        # what the front edges would give, where that is asked for
     slab: object = None          # in a job: what it was given, charged and left
     fault: str = ''              # in a job: why nothing is written
+    outputs: object = None       # the files that are made and take their names at the end
+    verdict: object = None       # (name, words) rows of the acceptance, where there is one
+    told: list = field(default_factory=list)  # lines for standard output, once the files are there
 
 
 def check_folders(options):
-    """That the files to write can be, before a long run, and that none is written over another or over the one that is read."""
-    from .surfaces import Fault
-    paths = [path for path in [options.output, options.node_map, options.steps, *options.report, *options.sheet, *options.preview] if path]
-    for place, path in enumerate(paths):
-        folder = os.path.dirname(path) or '.'
-        if not os.path.isdir(folder):
-            raise Fault('cannot write %s: there is no folder %s' % (path, folder))
-        if os.path.isdir(path):
-            raise Fault('cannot write %s: it is a folder; name a file in it' % path)
-        if not os.access(path if os.path.exists(path) else folder, os.W_OK):
-            raise Fault('cannot write %s: you have no permission' % path)
-        if os.path.exists(path) and os.path.exists(options.input) and os.path.samefile(path, options.input):
-            raise Fault('%s is the file that is read, and would be written over: name another' % path)
-        if os.path.abspath(path) in map(os.path.abspath, paths[:place]):
-            raise Fault('%s would be written twice: name different files' % path)
+    """That the files to write can be, before a long run, and that none is written over another or over one that is read."""
+    from . import outputs
+    outputs.check([path for path in [options.output, options.node_map, options.steps, *options.report, *options.sheet, *options.preview] if path], options.files)
 
 
 def main(words=None):
     from .options import arguments
     options = arguments(words, __doc__.split('\n', 2)[2])
+    from . import slabs
+    return ending.ended(lambda: guarded(options, slabs.worked if options.job else worked), options.seconds, lambda words: say('%s: %s' % (options.input, words)))
+
+
+def guarded(options, work):
+    """The exit status of the work; a fault in words."""
     try:
-        from . import slabs
-        return slabs.worked(options) if options.job else worked(options)
-    except KeyboardInterrupt:
-        return say('stopped')
+        return work(options)
     except BrokenPipeError:
         return 1
     except Exception as fault:
@@ -94,38 +92,53 @@ def known(fault):
 
 
 def say(words):
-    print('sedgepick-mesh: %s' % words, file=sys.stderr)
+    from .surfaces import visible
+    print('sedgepick-mesh: %s' % visible(words), file=sys.stderr)
     return 1
+
+
+def show(options, lines):
+    """Lines on standard output, or on standard error where the mesh goes there."""
+    if options.quiet:
+        return
+    try:
+        print('\n'.join(lines), file=sys.stderr if options.output == '-' else sys.stdout, flush=True)
+    except BrokenPipeError:  # nobody reads it; the files are there all the same
+        os.dup2(os.open(os.devnull, os.O_WRONLY), sys.stdout.fileno())
 
 
 def worked(options):
     from . import library, writing
+    from .outputs import Outputs
     library.load()
     check_folders(options)
     if options.output:
         writing.check_form(options.output, options.to)
     begin = time.perf_counter()
     work = prepared(options)
-    if options.output or options.steps:
-        meshed(work, begin)
-    if options.preview:
-        previewed(work, begin)
+    with Outputs() as work.outputs:
+        if options.output or options.steps:
+            meshed(work, begin)
+        if options.preview:
+            previewed(work, begin)
+        work.outputs.commit()
+    show(options, work.told)
     told(work)
     return 3 if work.warnings else 0
 
 
 def meshed(work, begin):
-    """Runs the file and writes the mesh, its sheets, its reports and its steps."""
-    from . import parts, report, steps_page
+    """Runs the file and makes the mesh, its sheets, its reports and its steps."""
+    from . import parts, report, sizes, steps_page
     options = work.options
-    finished(work, parts.ran(work.plan, options.stop, options.quality, progress, options.jobs, trace=bool(options.steps)))
+    run = sizes.best_run if options.raw else sizes.first_run
+    finished(work, parts.ran(work.plan, options.stop, options.quality, progress, options.jobs, run, trace=bool(options.steps)))
     if options.output:
         written(work)
     work.seconds = time.perf_counter() - begin
-    put(options.report, lambda page: report.page(work) if page else report.text(work))
-    put([options.steps] if options.steps else [], lambda page: steps_page.page(work))
-    if not options.quiet:
-        print('\n'.join(([report.summary(work)] if options.output else []) + ([steps_page.summary(work)] if options.steps else [])))
+    put(work.outputs, options.report, lambda page: report.page(work) if page else report.text(work))
+    put(work.outputs, [options.steps] if options.steps else [], lambda page: steps_page.page(work))
+    work.told += ([report.summary(work)] if options.output else []) + ([steps_page.summary(work)] if options.steps else [])
 
 
 def previewed(work, begin):
@@ -137,42 +150,42 @@ def previewed(work, begin):
         work.surface.notes += work.plan.notes
         warn_odd(work, work.plan.odd(), 'few edges or none give a quad (%d here)' % len(work.looked.quads()))
     work.seconds = time.perf_counter() - begin
-    put(options.preview, lambda page: preview_page.page(work) if page else preview_page.drawn(work))
-    if not options.quiet:
-        print(preview_page.summary(work))
+    put(work.outputs, options.preview, lambda page: preview_page.page(work) if page else preview_page.drawn(work))
+    work.told.append(preview_page.summary(work))
 
 
-def put(paths, content):
-    """Writes the reports."""
+def put(outputs, paths, content):
+    """Makes the reports."""
     from .options import PAGES
     for path in paths:
-        with open(path, 'w', encoding='utf-8') as file:
-            file.write(content(path.lower().endswith(PAGES)))
+        outputs.text(path, content(path.lower().endswith(PAGES)))
 
 
 def told(work, name=''):
     """Notes and warnings on standard error."""
     for kind, words in [('note', words) for words in work.surface.notes] + [('warning', words) for words in work.warnings]:
-        print('sedgepick-mesh: %s%s: %s' % (name, kind, words), file=sys.stderr)
+        say('%s%s: %s' % (name, kind, words))
 
 
 def prepared(options, whole=False):
     """The file read, checked and cut into parts."""
     from . import files, joints, losses, parts, quality, surfaces
-    work = Work(options, files.read(options.input, options.form))
+    work = Work(options, files.read(options.input, options.form, options.limits))
     surface = surfaces.checked(work.surface, options.flatten)
     cells = surface.triangles.cells
     work.given_components = int(quality.components(cells).max()) + 1
     hard = joints.Hard() if options.free else losses.hard(surface)
     work.plan = parts.planned(surface.points, cells, 0.0 if options.grid else options.size, hard, options.grid, whole, options.stop == 1)
+    surface.notes += work.plan.told
     return work
 
 
 def finished(work, result):
-    """Verifies what came of the run."""
+    """Closes what the run left, and verifies what came of it."""
     import numpy
     from . import losses
-    surface, work.result = work.surface, result
+    surface = work.surface
+    work.result = result = result if work.options.raw else closed(work, result)
     added, z = result.added, surface.points[surface.triangles.cells[0, 0], 2]
     work.points = numpy.concatenate([surface.points, numpy.column_stack([added, numpy.full(len(added), z)])])
     *work.areas, work.cuts = losses.verify(surface, work.points, work.result)
@@ -181,6 +194,16 @@ def finished(work, result):
     surface.notes += work.result.notes
     check_losses(work)
     warn(work)
+
+
+def closed(work, result):
+    """The result through the finishing pass; as it is, with a warning, where the pass cannot take the triangles."""
+    from . import closing, finishing
+    try:
+        return closing.closed(work.surface, work.plan.hard, result, work.options.quality, work.options.stop == 1)
+    except finishing.Overlaps:
+        work.warnings.append("the triangles lie over each other, which the finishing pass does not take: run_front's own answer is written, as with --raw")
+        return result
 
 
 def check_losses(work):
@@ -204,14 +227,20 @@ def warn_odd(work, odd, then):
 
 
 def warn(work):
-    warn_odd(work, work.result.odd, 'few quads or none come out (%d here)' % len(work.result.quads))
+    from . import parts
+    if work.result.finished is None:
+        warn_odd(work, work.result.odd, 'few quads or none come out (%d here)' % len(work.result.quads))
+    elif work.options.stop == 1 and len(work.result.triangles) and parts.odd_components(work.result.triangles):
+        work.warnings.append('%d groups of leftover triangles are odd, since the given triangles have pieces with an odd number of triangles: split one triangle of each, or '
+                             'use --stop 0, which asks for no even groups' % parts.odd_components(work.result.triangles))
     for loss in work.losses:
         if len(loss.lost):
             work.warnings.append('%s; the first is %s' % (loss.words(), places(work.points, loss.lost[0])))
     if any(counts.limit for counts in work.result.counts):
         shared = work.slab and work.slab.entitled == work.slab.limit == work.slab.charged
-        work.warnings.append('its limit of %d attempts in the job ended the run early; a larger allowance may help' % work.slab.limit if shared else
-                             'a limit on attempts ended the run early; a larger --size may help')
+        words = ('its limit of %d attempts in the job ended the run early; a larger allowance may help' % work.slab.limit if shared else
+                 'a limit on attempts ended the run early; a larger --size may help')
+        (work.surface.notes if work.result.finished else work.warnings).append(words)  # the finishing pass did the rest
 
 
 def places(points, nodes):
@@ -223,7 +252,7 @@ def places(points, nodes):
 def written(work):
     """Numbers the nodes and writes the files."""
     import numpy
-    from . import groups, quality, writing
+    from . import groups, quality, verdicts, writing
     surface, result = work.surface, work.result
     nodes = numpy.arange(len(work.points)) if work.options.keep_nodes else numpy.unique(numpy.concatenate([result.quads.ravel(), result.triangles.ravel()]))
     work.number = numpy.full(len(work.points), -1)
@@ -231,16 +260,17 @@ def written(work):
     edges = quality.edge_keys(result.quads, result.triangles)
     lines = groups.survivors(surface.lines, numpy.isin(quality.keys(surface.lines.cells), edges))
     vertices = groups.survivors(surface.vertices, work.number[surface.vertices.cells[:, 0]] >= 0)
-    quads = groups.grouped(surface, work.points, result.quads, result.of_quads, result.parts)
-    left = groups.grouped(surface, work.points, result.triangles, result.of_triangles, result.parts)
+    quads, left = groups.of_result(surface, work.points, result)
     blocks = [('quad', groups.renumbered(quads, work.number, surface.clockwise)), ('triangle', groups.renumbered(left, work.number, surface.clockwise)),
               ('line', groups.renumbered(lines, work.number)), ('vertex', groups.renumbered(vertices, work.number))]
     sets = {name: work.number[own][work.number[own] >= 0] for name, own in surface.hard.items() if name != 'point of the geometry'}
-    surface.notes += writing.write(work.options.output, work.options.to, work.points[nodes], blocks, surface.names, sets)
+    output = work.options.output
+    made = work.outputs.room(output)
+    surface.notes += writing.make(made, output, work.options.to, work.points[nodes], blocks, surface.names, sets)
+    verdicts.judge(work, made, nodes)
     if work.options.node_map:
-        with open(work.options.node_map, 'w') as file:
-            file.write('node,given\n')
-            file.writelines('%d,%s\n' % (i + 1, node + 1 if node < len(surface.points) else '') for i, node in enumerate(nodes))
+        rows = ['%d,%s\n' % (i + 1, node + 1 if node < len(surface.points) else '') for i, node in enumerate(nodes)]
+        work.outputs.text(work.options.node_map, 'node,given\n' + ''.join(rows))
     write_sheets(work)
 
 
@@ -249,6 +279,5 @@ def write_sheets(work):
     from . import sheets
     for path in work.options.sheet:
         cells = work.number[work.result.quads] + 1
-        with open(path, 'w', encoding='utf-8') as file:
-            file.write(sheets.table(work.result.sheet, cells[:, ::-1] if work.surface.clockwise else cells) if path.lower().endswith('.csv')
-                       else sheets.text(work.result.sheet, work.surface.name))
+        work.outputs.text(path, sheets.table(work.result.sheet, cells[:, ::-1] if work.surface.clockwise else cells) if path.lower().endswith('.csv')
+                          else sheets.text(work.result.sheet, work.surface.name))

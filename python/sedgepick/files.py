@@ -1,16 +1,20 @@
-"""Mesh files and their formats: what meshio reads of one."""
-import contextlib, io, os, warnings
+"""Mesh files and their formats: what meshio reads of one, in a child process that has limits."""
+import contextlib, errno, hashlib, io, os, stat, warnings
 import meshio
 import numpy
 from meshio import _helpers as meshio_forms
-from . import abaqus, names
-from .reading import Watched, fault_words, lacking, xml_words
-from .surfaces import Fault, Marked, Surface
+from . import abaqus, apart, names, numbering
+from .reading import Watched, confine, fault_words, lacking, one_hdf5, xml_words
+from .surfaces import Fault, Marked, Surface, visible
 
 WIDTHS = {'vertex': 1, 'line': 2, 'line3': 3, 'triangle': 3}
 SECOND_ORDER = {'triangle6', 'triangle7', 'quad8', 'quad9', 'triangle10'}
 XML = ('vtu', 'xdmf', 'dolfin-xml')
+HDF5 = ('med', 'hmf', 'h5m', 'cgns', 'xdmf')
 GOOD = '.msh (Gmsh), .vtk, .vtu, .inp (Abaqus, CalculiX), .med, .xdmf, .bdf'
+# formats that are read by their suffix: those that docs/COMMAND.md names and the tests try; others are read where --from names them
+READ = {'.msh': 'gmsh', '.vtk': 'vtk', '.vtu': 'vtu', '.inp': 'abaqus', '.med': 'med', '.xdmf': 'xdmf', '.xmf': 'xdmf', '.bdf': 'nastran', '.nas': 'nastran', '.fem': 'nastran',
+        '.mesh': 'medit', '.stl': 'stl', '.off': 'off', '.obj': 'obj'}
 
 
 @contextlib.contextmanager
@@ -50,34 +54,98 @@ def named_form(path, given):
     return 'gmsh' if 'gmsh' in found else found[0]
 
 
-def check_readable(path):
+def reading_form(path, given):
+    """The format in which a file is read: as given, else one of the list, by the suffix."""
+    form = form_of(path, given)
+    if not given and READ.get(suffix_of(path)) != form:
+        raise Fault('%s files are read where --from %s says so: the readers of such formats are not tried here. Formats that are: %s' % (form, form, ', '.join(sorted(READ))))
+    if form not in meshio_forms.reader_map:
+        raise Fault('meshio writes %s and does not read it; use one of %s' % (form, GOOD))
+    return form
+
+
+@contextlib.contextmanager
+def copied(path):
+    """(name of a copy that nobody else can change, SHA-256 of its bytes). It is in memory, and gone afterwards."""
     if os.path.isdir(path):
         raise Fault('it is a folder; name a mesh file')
-    if not os.path.exists(path):
-        raise Fault('there is no such file')
-    if not os.access(path, os.R_OK):
-        raise Fault('it may not be read: you have no permission')
-    if not os.path.getsize(path):
-        raise Fault('it is empty: write the mesh anew')
-
-
-def read(path, form=None):
-    """The surface of a file."""
-    check_readable(path)
-    form = form_of(path, form)
     try:
-        with quiet() as said, Watched(path, '**' if form == 'abaqus' else None) as watched, numpy.errstate(all='ignore'):
-            mesh = meshio.read(path, file_format=form)
-            mesh = abaqus.repaired(path, mesh) if form == 'abaqus' else mesh
+        given = os.open(path, os.O_RDONLY | os.O_NONBLOCK | os.O_NOCTTY)
+    except FileNotFoundError:
+        raise Fault('there is no such file')
+    except PermissionError:
+        raise Fault('it may not be read: you have no permission')
+    except OSError as error:
+        raise Fault('it is a device, a FIFO or a socket: name a regular file' if error.errno in (errno.ENXIO, errno.ENODEV) else 'it cannot be opened: %s' % error.strerror)
+    copy, digest = os.memfd_create('sedgepick'), hashlib.sha256()
+    try:
+        if not stat.S_ISREG(os.fstat(given).st_mode):
+            raise Fault('it is a device, a FIFO or a socket: name a regular file')
+        while part := os.read(given, 1 << 20):
+            digest.update(part)
+            while part:
+                part = part[os.write(copy, part):]
+        if not os.fstat(copy).st_size:
+            raise Fault('it is empty: write the mesh anew')
+        yield '/proc/self/fd/%d' % copy, digest.hexdigest()
+    finally:
+        os.close(given)
+        os.close(copy)
+
+
+def read(path, form=None, limits=apart.Limits()):
+    """The surface of a file, and the SHA-256 of the bytes that it was made of."""
+    surface, sha256 = taken(path, form, limits, surface_of)
+    surface.name, surface.sha256 = visible(os.path.basename(path)), sha256
+    show_names(surface)
+    return surface
+
+
+def taken(path, form, limits, take):
+    """(what `take` makes of the mesh that meshio reads, SHA-256 of the bytes); both in a child with limits."""
+    with copied(path) as (copy, sha256):
+        form = reading_form(path, form)
+        try:
+            return apart.run(lambda: read_here(copy, form, take), limits, 'reading it as %s' % form), sha256
+        except Fault as fault:
+            raise Fault(visible(str(fault).replace(copy, os.path.basename(path)).replace(os.path.dirname(copy) + os.sep, '')))
+
+
+def show_names(surface):
+    """Names of groups as they may be shown and written: control characters escaped."""
+    own = [surface.hard, surface.names, *(marked.sets for marked in (surface.triangles, surface.lines, surface.vertices))]
+    if all(name == visible(name) for names in own for name in names):
+        return
+    for names in own:
+        for name in [name for name in names if name != visible(name)]:
+            names[visible(name)] = names.pop(name)
+    surface.notes.append('names of groups have control characters; they are shown and written escaped')
+
+
+def read_here(path, form, take):
+    """What is taken of a file, read in this process, which from then on opens no other."""
+    numbering.watch()
+    try:
+        with quiet() as said, numpy.errstate(all='ignore'):
+            if form in HDF5:
+                one_hdf5(path, form == 'xdmf')
+            confine(path)
+            with Watched(path, '**' if form == 'abaqus' else None) as watched:
+                mesh = meshio.read(path, file_format=form)
+                mesh = abaqus.repaired(path, mesh) if form == 'abaqus' else mesh
+                numbering.check(path, form)
     except ModuleNotFoundError as error:
         raise Fault(missing(error, form))
+    except (Fault, MemoryError):
+        raise
     except (Exception, SystemExit) as error:
-        words = (form in XML and xml_words(path)) or '; '.join(filter(None, (watched.place(), fault_words(error, said.getvalue())))) or type(error).__name__
+        found = locals().get('watched')
+        words = (form in XML and xml_words(path)) or '; '.join(filter(None, (found and found.place(), fault_words(error, said.getvalue())))) or type(error).__name__
         raise Fault('meshio cannot read it as %s: %s. Mend the file or write it anew; if it has another format, say it with --from' % (form, words))
     words = lacking(path, form, sum(len(block.data) for block in mesh.cells))
     if words:
         raise Fault('it breaks off: %s. Write it anew' % words)
-    return surface_of(path, mesh)
+    return take(mesh)
 
 
 def missing(error, form):
@@ -85,7 +153,8 @@ def missing(error, form):
             % (error.name, form, error.name.lower(), error.name))
 
 
-def surface_of(path, mesh):
+def surface_of(mesh):
+    """What the command takes of a mesh, names of groups as they may be shown; its own name is left out."""
     kinds = {}
     for block in mesh.cells:
         kinds[block.type] = kinds.get(block.type, 0) + len(block.data)
@@ -107,7 +176,7 @@ def surface_of(path, mesh):
     triangles, lines, vertices = (gathered(mesh, sets, some, width) for some, width in ((('triangle',), 3), (('line', 'line3'), 2), (('vertex',), 1)))
     for word, cells in (('triangle', triangles.cells), ('line', lines.cells), ('point', vertices.cells)):
         check_nodes(word, cells, len(points))
-    return Surface(os.path.basename(path), points, triangles, lines, vertices, hard_nodes(mesh, triangles.cells), names.physical(mesh))
+    return Surface('', points, triangles, lines, vertices, hard_nodes(mesh, triangles.cells), names.physical(mesh))
 
 
 def check_nodes(word, cells, count):

@@ -58,6 +58,9 @@ class Refused(Exception):
         self.words = words or REFUSALS.get(number, 'a number that is not known')
         super().__init__('refused with %d: %s' % (number, self.words))
 
+    def __reduce__(self):
+        return type(self), (self.number, self.words)
+
 
 @dataclass(frozen=True)
 class Quality:

@@ -5,6 +5,13 @@ from .surfaces import Marked
 ROWS = 256  # cells looked up at a time
 
 
+def of_result(surface, points, result):
+    """The quads and the triangles of a result with tags and sets."""
+    if result.homes:
+        return [surface.triangles.picked(homes, cells) for homes, cells in zip(result.homes, (result.quads, result.triangles))]
+    return [grouped(surface, points, cells, of_cells, result.parts) for cells, of_cells in ((result.quads, result.of_quads), (result.triangles, result.of_triangles))]
+
+
 def grouped(surface, points, cells, of_cells, parts):
     """The cells with tags and sets: those of the given triangle, of the same part, that holds a cell's middle."""
     given = surface.triangles

@@ -5,7 +5,8 @@ installed under; target/shared of a checkout, where tools/shared writes it."""
 import ctypes, os, threading
 
 VERSION = '0.2.0'
-SONAME = 'libsedgepick.so.2'
+ABI = 2  # the number of the interface, SEDGEPICK_ABI of the header
+SONAME = 'libsedgepick.so.%d' % ABI
 VARIABLE = 'SEDGEPICK_LIBRARY'
 HERE = os.path.dirname(os.path.abspath(__file__))
 CHECKOUT = os.path.dirname(os.path.dirname(HERE))
@@ -65,6 +66,7 @@ def opened():
                         % (SONAME, ', '.join(places()), VARIABLE))
     try:
         library = ctypes.CDLL(path)
+        check_version(library, path)
         for function, takes in ((library.sedgepick_run_front_with, RUN_FRONT), (library.sedgepick_job, JOB), (library.sedgepick_preview, PREVIEW),
                                 (library.sedgepick_replay, REPLAY), (library.sedgepick_sheet, SHEET), (library.sedgepick_filing_order, FILING_ORDER),
                                 (library.sedgepick_small_mesh, SMALL_MESH)):
@@ -74,10 +76,44 @@ def opened():
     return library
 
 
-def commit():
-    """The commit that the library was packed at; 'unknown' where it does not say."""
-    function = getattr(load(), 'sedgepick_commit', None)
-    if function is None:
-        return 'unknown'
-    function.restype = ctypes.c_char_p
+def check_version(library, path):
+    """That the library takes the calls of this package: they are of one version and one interface. A call with other parameters would end in a crash."""
+    try:
+        found = said(library, 'version'), abi_of(library)
+    except AttributeError:
+        found = ('of an unknown version', 'unknown')
+    if found != (VERSION, ABI):
+        raise NoLibrary('%s is sedgepick %s with interface %s, and this package is %s with interface %d: install both anew by tools/install, or name another library in %s'
+                        % (path, *found, VERSION, ABI, VARIABLE))
+
+
+def said(library, name):
+    """What a function without parameters says in words."""
+    function = getattr(library, 'sedgepick_' + name)
+    function.argtypes, function.restype = [], ctypes.c_char_p
     return function().decode('ascii', 'replace')
+
+
+def abi_of(library):
+    library.sedgepick_abi.argtypes, library.sedgepick_abi.restype = [], LENGTH
+    return library.sedgepick_abi()
+
+
+def version():
+    """The version that the library says of itself."""
+    return said(load(), 'version')
+
+
+def abi():
+    """The number of the library's interface."""
+    return abi_of(load())
+
+
+def commit():
+    """The commit that the library was built at."""
+    return said(load(), 'commit')
+
+
+def build():
+    """Its build: the SHA-256 of the proved archive, and the compiler of the layer around it."""
+    return said(load(), 'build')

@@ -1,7 +1,9 @@
 """The options of sedgepick-mesh."""
-import argparse, math
+import argparse, math, shlex, sys
 
 PAGES = ('.html', '.htm')
+# what a report is not, and would be taken for under such a name
+NO_REPORT = ('.pdf', '.json', '.csv', '.svg', '.png', '.jpg', '.jpeg', '.xml', '.doc', '.docx', '.odt', '.rtf', '.ps', '.tex', '.xls', '.xlsx', '.zip', '.md')
 
 
 def size_of(word):
@@ -79,6 +81,9 @@ def check_written(parser, options):
         for name in ('report', 'sheet', 'node_map'):
             if getattr(options, name):
                 parser.error('--%s is of a run: give -o too' % name.replace('_', '-'))
+    for path in options.report:
+        if path.lower().endswith(NO_REPORT):
+            parser.error('--report %s: a report is a page, .html, or text; it is not written as %s' % (path, path[path.rindex('.'):]))
     for path in options.preview:
         if not path.lower().endswith(('.svg', *PAGES)):
             parser.error('--preview %s: its name ends in .svg for the picture or in .html for the page' % path)
@@ -93,7 +98,7 @@ def arguments(words, description):
     parser = argparse.ArgumentParser(prog='sedgepick-mesh', description=description, formatter_class=argparse.RawDescriptionHelpFormatter)
     add = parser.add_argument
     add('input', metavar='IN', nargs='+', help='a mesh file with triangles; with --job several')
-    add('-o', '--output', metavar='OUT', help='the mesh file to write; with --job a folder, where each file is written under its name, or a path in '
+    add('-o', '--output', metavar='OUT', help='the mesh file to write; - is standard output, in the format that --to names; with --job a folder, where each file is written under its name, or a path in '
         "which * stands for the name without its suffix: 'quads/*.vtu'; it may be left out with --preview and --steps")
     add('--preview', metavar='FILE', action='append', default=[], help='what each edge of the front would give, tried first: .svg a picture, .html a page with it, which says of '
         'an edge that is pointed at what it gives; may be given twice')
@@ -101,7 +106,9 @@ def arguments(words, description):
     add('--job', type=number_from(1, MOST_ALLOWANCE, int), metavar='ALLOWANCE', help='run the files as one job, in their order, under this many attempts, from 1 to '
         '1,000,000')
     add('--size', type=size_of, default='auto', metavar='S', help='the length of an edge that the quads should have, in the units of the file; 0: each edge sets '
-        'its own; auto, the default: the best of six runs, with 0.55 to 0.75 of the mean edge and 0 (docs/SIZE.md)')
+        'its own; auto, the default: 0.65 of the mean edge, with --raw the best of six runs, with 0.55 to 0.75 of it and 0 (docs/SIZE.md)')
+    add('--raw', action='store_true', help="write run_front's own answer, which drops nodes and leaves triangles; without it what is left is closed by a finishing pass")
+    add('--thin', type=number_from(0.0, 60.0), metavar='DEGREES', help='a leftover triangle with a smaller angle is not accepted; 10 if left out, with --raw 0, which asks nothing')
     add('--grid', action='store_true', help='the grid profile: every node lies on a fixed grid, no node is added, and the summed area of the cells is that of the '
         'triangles, exactly (docs/GRID.md); --size is 0')
     add('--stop', type=int, choices=(0, 1), default=0, help='0, the default: go on while an edge is open; 1: and leave only even components of triangles')
@@ -112,8 +119,11 @@ def arguments(words, description):
     add('--keep-nodes', action='store_true', help='write nodes that no cell has, too')
     add('--node-map', metavar='FILE', help='a table: each node of OUT and its number in IN, both from 1 in the order of the file; none for added nodes')
     add('--flatten', action='store_true', help='set every z to 0')
-    add('--from', dest='form', metavar='FORMAT', help="meshio's name of IN's format, where the suffix does not say it")
+    add('--from', dest='form', metavar='FORMAT', help="meshio's name of IN's format, where the suffix does not say it or says one that is not read by itself")
     add('--to', metavar='FORMAT', help="meshio's name of OUT's format")
+    add('--read-seconds', type=number_from(0.1, 86400), default=60.0, metavar='S', help='reading a file may take so long; %(default)g if left out')
+    add('--read-memory', type=number_from(16, 1 << 20, int), default=1024, metavar='MB', help='and so much memory; %(default)d if left out')
+    add('--seconds', type=number_from(0.1, 1e6), metavar='S', help='the whole command may take so long; then it is ended, and nothing is written')
     add('--jobs', type=count_of, metavar='N', help='parts run at once; all cores if left out')
     add('-q', '--quiet', action='store_true', help='no summary on standard output')
     add('--version', action='version', version='sedgepick-mesh ' + VERSION)
@@ -129,5 +139,10 @@ def arguments(words, description):
     elif len(options.input) > 1:
         parser.error('one mesh file is run at a time; --job ALLOWANCE runs several under one allowance of attempts')
     options.files, options.input = options.input, options.input[0]
+    from .apart import Limits  # numpy, which --help does not need
+    options.limits = Limits(options.read_seconds, options.read_memory)
+    options.words = shlex.join(sys.argv[1:] if words is None else words)
     options.quality = quality_of(options)
+    if options.thin is None:
+        options.thin = 0.0 if options.raw else 10.0
     return options

@@ -3,7 +3,7 @@ their runs.
 
 An edge with one triangle survives a run: a flip needs two triangles, an added point lies inside a triangle, and a quad takes away only the edges inside
 it, which have two. Where two parts meet, each has the cut edges with one triangle, so both results keep them and fit together."""
-import os, shutil, subprocess, tempfile
+import os, re, shutil, subprocess
 from concurrent.futures import ThreadPoolExecutor, as_completed
 from dataclasses import dataclass
 import numpy
@@ -11,12 +11,15 @@ from . import joints, quality, sheets
 from .evening import evened
 from .fitting import fit, grid_fit
 from .front import EVEN_COMPONENTS, LARGEST_SIZE, LEAST_SIZE, MOST_GIVEN, MOST_JOINTS, Quality
+from .outputs import Folder
 from .sizes import best_run
 from .slits import opened
 from .surfaces import Fault
 
 FULL = 3600      # triangles of a part at most, where the cut is ours to make
 UNEVEN = 1.1     # METIS makes parts this much larger than the mean
+METIS = 'gpmetis'
+METIS_SECONDS = 120.0  # that it may take; a million triangles take ten
 
 
 @dataclass
@@ -43,6 +46,7 @@ class Plan:
     hard: object
     size: object
     grid: bool
+    told: list = ()    # on how the parts were cut
 
     def count(self):
         return int(self.part.max()) + 1
@@ -94,39 +98,47 @@ class Result:
     sheet: object = None  # of the quads, as the library measures them
     odd: int = 0      # components, as they went to the library, with an odd number of triangles
     grown: list = ()  # where traces are asked for: each part as it went to the library, and its mesh
+    finished: object = None  # where it went through the finishing pass: what that made
+    before: object = None    # and the result as it was
+    homes: tuple = ()        # and the given triangle that each quad, and each triangle, has its groups from
 
 
 def cut(points, triangles):
-    """The part of each triangle, and who cut."""
+    """The part of each triangle, who cut, and notes."""
     used = len(numpy.unique(triangles))
     if len(triangles) <= MOST_GIVEN and used <= MOST_GIVEN:
-        return numpy.zeros(len(triangles), dtype=int), 'one part'
-    part, cutter = numpy.zeros(len(triangles), dtype=int), 'bisection'
-    if shutil.which('gpmetis'):
-        found = by_metis(triangles, int(numpy.ceil(len(triangles) * UNEVEN / FULL)))
-        if found is not None:
-            part, cutter = found, 'METIS'
-    return halved(points, triangles, part), cutter
+        return numpy.zeros(len(triangles), dtype=int), 'one part', []
+    part, cutter = by_metis(triangles, int(numpy.ceil(len(triangles) * UNEVEN / FULL)))
+    if part is None:
+        notes = ['the parts are cut by bisection, since %s; METIS cuts other parts, and the mesh is another then' % cutter]
+        return halved(points, triangles, numpy.zeros(len(triangles), dtype=int)), 'bisection', notes
+    return halved(points, triangles, part), cutter, []
 
 
 def by_metis(triangles, count):
-    """gpmetis on the graph of triangles that share an edge; None where it fails."""
+    """(parts, METIS with its version) by gpmetis on the graph of triangles that share an edge; (None, why not) where it cannot."""
+    if not shutil.which(METIS):
+        return None, 'METIS is not installed (Debian: apt install metis)'
     a, b, _ = quality.neighbours(triangles)
     ends, others = numpy.concatenate([a, b]), numpy.concatenate([b, a])
     order = numpy.lexsort((others, ends))
     ends, others = ends[order], others[order]
     first = numpy.searchsorted(ends, numpy.arange(len(triangles) + 1))
-    with tempfile.TemporaryDirectory() as folder:
+    with Folder() as folder:
         path = os.path.join(folder, 'graph')
         with open(path, 'w') as file:
             file.write('%d %d\n' % (len(triangles), len(a)))
             file.writelines(' '.join(map(str, others[first[i]:first[i + 1]] + 1)) + '\n' for i in range(len(triangles)))
         try:
-            run = subprocess.run(['gpmetis', path, str(count)], capture_output=True, cwd=folder)
+            run = subprocess.run([METIS, path, str(count)], stdin=subprocess.DEVNULL, capture_output=True, cwd=folder, timeout=METIS_SECONDS)
             part = numpy.loadtxt('%s.part.%d' % (path, count), dtype=int)
+        except subprocess.TimeoutExpired:
+            return None, 'METIS takes over %g s' % METIS_SECONDS
         except (OSError, ValueError):
-            return None
-    return part if run.returncode == 0 and len(part) == len(triangles) else None
+            return None, 'METIS fails'
+    version = re.search(rb'METIS (\d[\w.]*)', run.stdout)
+    good = run.returncode == 0 and part.shape == (len(triangles),) and part.min() >= 0
+    return (part, 'METIS %s' % (version[1].decode() if version else 'of an unknown version')) if good else (None, 'METIS fails')
 
 
 def halved(points, triangles, part):
@@ -149,7 +161,7 @@ def halved(points, triangles, part):
 
 def planned(points, triangles, size, hard=joints.Hard(), grid=False, whole=False, even=False):
     """The parts of the mesh, slit along what is hard where that is too much to lock; whole: one part, however large; even: with even components, where they can be."""
-    part, cutter = (numpy.zeros(len(triangles), dtype=int), 'one part') if whole else cut(points, triangles)
+    part, cutter, told = (numpy.zeros(len(triangles), dtype=int), 'one part', []) if whole else cut(points, triangles)
     slit, notes = joints.to_slit(points, triangles, part, hard)
     origin, cells = opened(triangles, slit)
     doubled = points[origin]
@@ -157,19 +169,24 @@ def planned(points, triangles, size, hard=joints.Hard(), grid=False, whole=False
         part = halved(doubled, cells, part)
     if even and part.any():
         part = evened(cells, part)
-    return Plan(len(points), doubled, cells, origin, part, cutter, notes, hard, size, grid)
+    return Plan(len(points), doubled, cells, origin, part, cutter, notes, hard, size, grid, told)
 
 
 def each(plan, one, progress=None, jobs=None):
     """What `one` gives for each part, on all cores."""
     count = plan.count()
     answers = [None] * count
-    with ThreadPoolExecutor(jobs or os.cpu_count() or 1) as pool:
+    pool = ThreadPoolExecutor(jobs or os.cpu_count() or 1)
+    try:
         waiting = {pool.submit(one, which): which for which in range(count)}
         for done, future in enumerate(as_completed(waiting), 1):
             answers[waiting[future]] = future.result()
             if progress and count > 1:
                 progress(done, count)
+    except BaseException:  # a part is refused, or the command is ended: those that have not begun never do
+        pool.shutdown(wait=False, cancel_futures=True)
+        raise
+    pool.shutdown()
     return answers
 
 

@@ -9,7 +9,7 @@ from . import axes
 QUADS = [(0.0, '#0b1238'), (0.1, '#131f57'), (0.2, '#1b3479'), (0.3, '#254f9c'), (0.4, '#2176b4'), (0.5, '#2f9ec2'), (0.6, '#5bbfc0'), (0.7, '#97d6b9'), (0.8, '#d3edb3'), (0.9, '#ffffd9')]
 # triangles: degrees; the thinner the redder
 TRIANGLES = [(0, '#b10026'), (5, '#e31a1c'), (10, '#fd8d3c'), (20, '#fdbe85'), (30, '#d9d9d9')]
-INK, GREY, LOST, KEPT = '#1a1a1a', '#666666', '#9e0dd3', '#000000'
+INK, GREY, LOST, KEPT, OWN = '#1a1a1a', '#666666', '#9e0dd3', '#000000', '#7a3b00'
 LONG = 6          # times as long as wide: a mesh beyond it is shown in pieces
 PLOT = 900        # the longer side of a piece
 TOP, GAP, RIGHT, BOTTOM, LEGEND = 16, 64, 24, 80, 240
@@ -83,6 +83,18 @@ def cells_of(mesh, piece, lines):
     lines.append('</g>')
 
 
+def own_of(mesh, piece, lines):
+    """A dot in each quad that is run_front's own, where the mesh was finished."""
+    own = getattr(mesh, 'own', None)
+    if own is None or not own.any():
+        return
+    middles = mesh.points[mesh.quads[own]].mean(axis=1)
+    middles = middles[((middles >= piece.low) & (middles <= piece.high)).all(axis=1)]
+    room = math.sqrt(numpy.prod(piece.size()) / max(len(mesh.quads) + len(mesh.triangles), 1))
+    path = ''.join('M%.1f %.1fh0' % (piece.x(x), piece.y(y)) for x, y in middles.tolist())
+    lines.append('<path fill="none" stroke="%s" stroke-width="%.2f" stroke-linecap="round" d="%s"/>' % (OWN, min(5.0, max(0.6, room / 7)), path))
+
+
 def kept_of(mesh, piece, lines):
     """Lines, borders and points of the file that stand."""
     path = ''.join('M%.1f %.1fL%.1f %.1f' % (piece.x(a[0]), piece.y(a[1]), piece.x(b[0]), piece.y(b[1])) for a, b in mesh.kept_edges.tolist())
@@ -142,6 +154,9 @@ def legend(mesh, left, step, scale, lines):
     entries = []
     if len(mesh.kept_edges) or len(mesh.kept_points):
         entries.append(('line, border or point of the file', '<path d="M%d %dh20" stroke="%s" stroke-width="3"/>' % (left + 2, y + 10, KEPT)))
+    if getattr(mesh, 'own', None) is not None:
+        entries.append(("run_front's own quad (%d of %d)" % (mesh.own.sum(), len(mesh.quads)),
+                        '<path d="M%d %dh0" stroke="%s" stroke-width="5" stroke-linecap="round"/>' % (left + 12, y + 10 + 21 * len(entries), OWN)))
     entries += [('q, t: the worst, listed below', '<circle cx="%d" cy="%d" r="8" fill="none" stroke="%s" stroke-width="1.6"/>' % (left + 12, y + 10 + 21 * len(entries), INK))]
     if len(mesh.lost_edges) or len(mesh.lost_points):
         entries.append(('lost line, border or point', '<path d="M%d %dh20" stroke="%s" stroke-width="3"/>' % (left + 2, y + 10 + 21 * len(entries), LOST)))
@@ -165,6 +180,7 @@ def draw(mesh, place=0):
         name = 'window%d' % i + '-%d' % place * bool(place)
         lines.append('<clipPath id="%s"><rect x="%.1f" y="%.1f" width="%.1f" height="%.1f"/></clipPath><g clip-path="url(#%s)">' % (name, *piece.at, *piece.size(), name))
         cells_of(mesh, piece, lines)
+        own_of(mesh, piece, lines)
         kept_of(mesh, piece, lines)
         marks_of(mesh, piece, lines)
         lines.append('</g>')

@@ -1,7 +1,7 @@
 """What a preview says: a summary, words for each edge, the page."""
 from html import escape
-import meshio, numpy
-from . import library, preview_picture, quality, report, sheets, slits
+import numpy
+from . import preview_picture, quality, report, sheets, slits
 from .previews import KINDS
 
 CAUTION = ('Each edge is tried by itself, as the first attempt on the mesh as it is given. A run tries one edge after the other, each on the mesh that those before it left, '
@@ -59,10 +59,10 @@ def sections(work):
     quads, shown = found.quads(), [edge.shown for edge in found.edges]
     worst = sorted(quads, key=lambda edge: edge.jacobian)[:report.WORST]
     return [
-        ('Preview', [('file', surface.name), ('given', report.given_words(surface)), ('profile', 'grid' if plan.grid else 'none'), ('size', report.size_words(work.options, found.sizes)),
+        ('Preview', [('file', surface.name), ('SHA-256 of %s' % surface.name, surface.sha256), ('given', report.given_words(surface)), ('profile', 'grid' if plan.grid else 'none'), ('size', report.size_words(work.options, found.sizes)),
                      ('stop rule', work.options.stop), ('quality', report.quality_words(work.options.quality)), ('parts', '%d (%s)' % (plan.count(), plan.cutter)),
-                     ('locked edges', sum(found.joints)), ('library', 'sedgepick %s' % library.VERSION), ('commit', library.commit()), ('meshio', meshio.__version__),
-                     ('seconds', '%.1f' % work.seconds)]),
+                     ('locked edges', sum(found.joints)), *report.library_rows(),
+                     ('options', work.options.words), ('seconds', '%.1f' % work.seconds)]),
         ('Front edges', [('front edges', len(shown)), ('give a quad', len(quads))] + [('refused, %s: %s' % (name(kind), words), len(found.refused(kind))) for kind, words in KINDS.items()]),
         ('Cost', [(name, '%d edges' % sum(map(costs, shown))) for name, costs in (
             ('no insertion, no flip', lambda one: one.insertions + one.flips == 0), ('one insertion', lambda one: one.insertions == 1),

@@ -1,6 +1,7 @@
-"""A file while meshio reads it: the line where it stops, where it cannot read it, and an end to reading beyond the end."""
-import builtins, contextlib, io, os, re
+"""A file while meshio reads it: the line where it stops, where it cannot read it, and an end to reading beyond the end; no other file is opened."""
+import builtins, contextlib, io, os, re, sys
 import xml.etree.ElementTree as xml
+from .surfaces import Fault, visible
 
 BEYOND = 1000  # lines asked for behind the last one: a reader that asks for more would never end
 SHOWN = 60     # characters of a line that words show
@@ -15,20 +16,23 @@ class Ending:
     line, words, beyond, at = 0, '', 0, 0
     comment = None  # what lines begin with that are passed over
 
-    def noted(self, words):
-        if words:
+    def noted(self, words, following):
+        """The words, or the first that `following` gives and that are no comment."""
+        while words:
             self.line, self.words, self.beyond = self.line + 1, words, 0
-            return self.readline() if self.comment and words.startswith(self.comment) else words
+            if not (self.comment and words.startswith(self.comment)):
+                return words
+            words = following()
         self.beyond += 1
         if self.beyond > BEYOND:
             raise Beyond()
         return words
 
     def readline(self, *size):
-        return self.noted(super().readline(*size))
+        return self.noted(super().readline(*size), super().readline)
 
     def __next__(self):
-        return self.noted(super().__next__())
+        return self.noted(super().__next__(), super().__next__)
 
     def close(self):
         with contextlib.suppress(OSError, ValueError):  # closed already, or read by next()
@@ -109,7 +113,7 @@ class Watched:
 
 
 def line_words(line, words):
-    words = ''.join(c if c.isprintable() else '?' for c in words.strip())
+    words = visible(words.strip())
     return "it stops at line %d, '%s'" % (line, words if len(words) <= SHOWN else words[:SHOWN] + ' ..')
 
 
@@ -117,6 +121,8 @@ def fault_words(error, said):
     """What an error of meshio's reader means."""
     if isinstance(error, Beyond):
         return 'it ends too early'
+    if isinstance(error, RecursionError):
+        return 'it is nested too deep'
     said = ' '.join(re.sub(r"(Error|Warning): ?(Couldn't read file .*)?", '', said).split()).rstrip('.')
     if said or isinstance(error, (AssertionError, SystemExit)):
         return said[:300]
@@ -149,3 +155,59 @@ def lacking(path, form, cells):
         found = re.search(rb'^CELL_TYPES\s+(\d+)', content, re.M)
         return 'it should have %d cells, and %d are there' % (int(found[1]), cells) if found and int(found[1]) != cells else ''
     return "its last line, 'endsolid', is missing" if content.startswith(b'solid') and b'\0' not in content and b'endsolid' not in content else ''
+
+
+MODULES = ('.py', '.pyc', '.so')  # files that an import opens
+STARTED = {'os.exec', 'os.fork', 'os.forkpty', 'os.posix_spawn', 'os.system', 'socket.connect', 'subprocess.Popen'}
+
+
+def confine(path):
+    """From now on this process, the child that reads, opens no file but this one and Python's modules, and starts nothing: what a mesh file names beside itself is
+    not read."""
+    roots = tuple({os.path.realpath(place) + os.sep for place in (*sys.path, os.path.dirname(os.__file__)) if os.path.isabs(place)})
+
+    def seen(event, words):
+        if event == 'open' and isinstance(words[0], (str, bytes)):
+            name = os.fsdecode(words[0])
+            if name not in (path, os.devnull) and not (name.endswith(MODULES) and os.path.realpath(name).startswith(roots)):
+                raise Fault(external(name))
+        elif event in STARTED:
+            raise Fault('it would start a program: mend the file')
+    sys.addaudithook(seen)
+
+
+def external(name):
+    return 'it names another file, %s. Files beside it are not read, since the report could not say which they were: write the mesh as one file' % visible(name)
+
+
+def one_hdf5(path, beside):
+    """From now on h5py opens no file but this one, from its bytes, and that has all its numbers in itself; or a Fault. `beside`: it is named by a file of another format,
+    and none is opened."""
+    import h5py
+    plain = h5py.File
+
+    def opened(name, *mode, **options):
+        if beside or str(name) != path:
+            raise Fault(external(str(name).lstrip('/') if os.path.dirname(name) == '/' else str(name)))  # the bytes that are read lie in no folder
+        return plain(io.FileIO(path), 'r')
+    h5py.File = opened
+    if not beside:
+        with opened(path) as file:
+            check_links(h5py, file)
+
+
+def check_links(h5py, file):
+    """That no link leads out of the file and no numbers lie outside."""
+    found = []
+
+    def link(name, own):
+        if own.type == h5py.h5l.TYPE_EXTERNAL:
+            found.append(file.id.links.get_val(name)[0].decode('utf-8', 'replace'))
+
+    def data(name, own):
+        if isinstance(own, h5py.Dataset) and (own.external or own.is_virtual):
+            found.append(own.external[0][0] if own.external else own.virtual_sources()[0].file_name)
+    file.id.links.visit(link, info=True)
+    file.visititems(data)
+    if found:
+        raise Fault(external(found[0]))

@@ -1,11 +1,12 @@
 """The report of a run, as text and as a page with the picture."""
-import hashlib, os
+import os
 from dataclasses import dataclass
 from html import escape
 import meshio, numpy
-from . import library, losses, picture, quality, sheets, slits
+from . import closing, library, losses, picture, quality, sheets, slits
 from .front import Quality
 from .previews import KINDS
+from .surfaces import visible
 
 WORST = 10   # cells that a list names
 LISTED = 50  # lost edges or points that a list names
@@ -24,16 +25,23 @@ class Drawn:
     lost_points: list
     kept_edges: object   # lines and borders of the file that stand
     kept_points: object
+    own: object = None   # of each quad, whether it is run_front's own; where the mesh was finished
 
 
 def summary(work):
     """A line on the cells, and one on the file's lines, points and borders where it has such."""
     result, given = work.result, work.surface
     left, quads = len(result.triangles), len(result.quads)
-    cells = ('%s: %s to %s and %s, %s added, %s left out, %.1f s'
-             % (given.name, many(len(given.triangles.cells), 'triangle'), many(quads, 'quad'), many(left, 'triangle'), many(len(result.added), 'node'), many(orphans(work), 'node'),
-                work.seconds))
+    cells = ('%s: %s to %s and %s (%.1f %% quads), %s%s added, %s dropped, %s%.1f s'
+             % (given.name, many(len(given.triangles.cells), 'triangle'), many(quads, 'quad'), many(left, 'triangle'), 100 * quads / max(quads + left, 1), least_words(work),
+                many(len(result.added), 'node'), many(orphans(work), 'node'), 'accepted, ' if work.verdict else '', work.seconds))
     return '\n'.join([cells] + ['; '.join(loss.words() for loss in work.losses)] * bool(work.losses))
+
+
+def least_words(work):
+    """The least angles of quads and of triangles, where there are such."""
+    kinds = (('quads', work.result.quads), ('triangles', work.result.triangles))
+    return ''.join('least angle of %s %.1f degrees, ' % (name, quality.least_angles(work.points, cells).min()) for name, cells in kinds if len(cells))
 
 
 def many(count, word):
@@ -81,7 +89,7 @@ def sections(work):
     quad_rows = worst(points, result.quads, jacobians, 'q', 'scaled Jacobian %.4f')
     triangle_rows = worst(points, result.triangles, angles, 't', 'least angle %.2f degrees')
     place = lambda row: (row[0], row[2] + ' at (%.6g, %.6g)' % tuple(row[1]))
-    counted = [('quads', len(result.quads)), ('triangles left over', '%d (%.1f %% of what the cells stand for, a quad counting as two)'
+    counted = [('quads', '%d (%.2f %% of the cells)' % (len(result.quads), 100 * len(result.quads) / max(len(result.quads) + len(result.triangles), 1))), ('triangles left over', '%d (%.1f %% of what the cells stand for, a quad counting as two)'
                                                % (len(result.triangles), 100 * len(result.triangles) / max(made, 1))),
                ('nodes added', len(result.added)), ('nodes in no cell', '%d, %s' % (orphans(work), 'kept in the file' if work.options.keep_nodes else 'left out')),
                ('components of triangles', '%d before, %d after%s' % (work.given_components, len(after), ', the largest of %d' % max(after) if len(after) else ''))]
@@ -90,15 +98,20 @@ def sections(work):
         lost.append(('kept by', '%d locked edges%s' % (sum(result.joints), ', and slits' if result.notes else '')))
     replaced = ('triangles that a quad replaced', '%d to %d, %.2f on average' % (result.replaced.min(), result.replaced.max(), result.replaced.mean())) \
         if len(result.quads) else None
+    if result.finished:
+        replaced = ('mean scaled Jacobian, quads under 0.5', '%.3f, %d' % (jacobians.mean(), (jacobians < 0.5).sum()))
     return [
         ('Run', [('file', surface.name), *digests(work), ('given', given_words(surface)),
                  ('profile', 'grid' if work.options.grid else 'none'),
                  ('size', size_words(work.options, result.sizes)),
                  *([('in the job', account(work.slab))] if work.slab else []), ('stop rule', work.options.stop), ('quality', quality_words(work.options.quality)),
-                 ('parts', 'one' if len(result.sizes) == 1 else '%d (%s), %d edges between them, all found' % (len(result.sizes), result.cutter, work.cuts)),
+                 ('parts', 'one' if len(result.sizes) == 1 else '%d (%s), %s' % (len(result.sizes), result.cutter, 'finished as one' if result.finished else
+                                                                                 '%d edges between them, all found' % work.cuts)),
                  ('coordinates rounded', '%d of given nodes on their way to the library, %d of added ones on their way back' % result.rounded),
-                 ('library', 'sedgepick %s' % library.VERSION), ('commit', library.commit()), ('meshio', meshio.__version__), ('seconds', '%.1f' % work.seconds)]),
+                 *library_rows(), ('options', work.options.words), ('seconds', '%.1f' % work.seconds)]),
+        *([('Verdict', work.verdict)] if work.verdict else []),
         ('Result', counted),
+        *([('Finishing', closing.rows(surface.triangles.cells, result))] if result.finished else []),
         ('Attempts', [('attempts', total('attempts')), ('pairs of side nodes tried', total('trials'))] + [('refused: ' + words, total(name)) for name, words in KINDS.items()] + [('ended by a limit', total('limit'))]),
         ('Area', [('before', '%.15g' % work.areas[0]), ('after', '%.15g' % work.areas[1]), ('boundary', 'every edge found')] + exact_words(work)),
         ('Quads', [('least scaled Jacobian', '%.4f' % jacobians.min()), ('least angle', '%.2f degrees' % least.min()), replaced] + list(map(place, quad_rows))
@@ -110,7 +123,8 @@ def sections(work):
         ('Notes', [('warning', words) for words in work.warnings] + [('note', words) for words in surface.notes] or [('none', '')]),
     ], Drawn(points[:, :2], result.quads, result.triangles, jacobians, angles, [row[:2] for row in quad_rows[:5] + triangle_rows[:5]],
              [points[nodes, :2] for loss in work.losses for nodes in loss.lost if numpy.ndim(nodes)],
-             [points[nodes, :2] for loss in work.losses for nodes in loss.lost if not numpy.ndim(nodes)], *kept(work))
+             [points[nodes, :2] for loss in work.losses for nodes in loss.lost if not numpy.ndim(nodes)], *kept(work),
+             result.finished.own if result.finished else None)
 
 
 def steps(work):
@@ -137,11 +151,14 @@ def job_rows(works, job):
 
 def digests(work):
     """By which the file that was read and the one that was written can be told from others."""
-    found = []
-    for path in (work.options.input, work.options.output):
-        with open(path, 'rb') as file:
-            found.append(('SHA-256 of %s' % os.path.basename(path), hashlib.sha256(file.read()).hexdigest()))
-    return found
+    output = work.options.output
+    return [('SHA-256 of %s' % work.surface.name, work.surface.sha256),
+            ('SHA-256 of %s' % ('standard output' if output == '-' else os.path.basename(output)), work.outputs.digest(output))]
+
+
+def library_rows():
+    """Which library ran: what it says of itself."""
+    return [('library', 'sedgepick %s, interface %d' % (library.version(), library.abi())), ('commit', library.commit()), ('build', library.build()), ('meshio', meshio.__version__)]
 
 
 def given_words(surface):
@@ -185,7 +202,7 @@ def job_text(works, job):
 def lines(head, titled):
     out, wide = [head, ''], max(len(name) for _, rows in titled for name, _ in rows)
     for title, rows in titled:
-        out += [title] + ['  %-*s  %s' % (wide, name, value) for name, value in rows] + ['']
+        out += [title] + ['  %-*s  %s' % (wide, visible(name), visible(str(value))) for name, value in rows] + ['']
     return '\n'.join(line.rstrip() for line in out)
 
 
@@ -199,7 +216,7 @@ td { border-top: 1px solid #dddddd; padding: 3px 8px 3px 0; vertical-align: top;
 
 
 def tables(titled):
-    cells = lambda pairs: ''.join('<tr><td>%s</td><td>%s</td></tr>' % (escape(str(name)), escape(str(value))) for name, value in pairs)
+    cells = lambda pairs: ''.join('<tr><td>%s</td><td>%s</td></tr>' % (escape(visible(name)), escape(visible(str(value)))) for name, value in pairs)
     return ''.join('<section><h2>%s</h2><table>%s</table></section>\n' % (escape(title), cells(pairs)) for title, pairs in titled)
 
 

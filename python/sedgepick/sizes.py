@@ -23,6 +23,19 @@ def worth(mesh):
     return thin, len(mesh.triangles) / max(2 * len(mesh.quads) + len(mesh.triangles), 1)
 
 
+def first_run(points, triangles, size, stop, **more):
+    """(size, mesh) of one run: of the size that is given, or of the first candidate that is not refused. For a mesh that is finished after it one run does."""
+    if size is not None:
+        return size, run_front(points, triangles, size, stop, **more)
+    refused = None
+    for trial in candidates(points, triangles):
+        try:
+            return trial, run_front(points, triangles, trial, stop, **more)
+        except Refused as fault:
+            refused = fault
+    raise refused
+
+
 def best_run(points, triangles, size, stop, **more):
     """(size, mesh) of a run within the library's range: of the size that is given, or of the best candidate where it is None."""
     if size is not None:

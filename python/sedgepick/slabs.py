@@ -7,6 +7,8 @@ def check(parser, options):
     from .job import MOST_MESHES
     if len(options.input) > MOST_MESHES:
         parser.error('a job has at most %d files, not %d' % (MOST_MESHES, len(options.input)))
+    if options.output == '-':
+        parser.error('--job takes no -o -: each file is written under its name')
     for name, why in (('node_map', 'it is the table of one mesh'), ('sheet', 'it is that of one mesh; the report has one for each'), ('preview', 'it is that of one mesh'), ('steps', 'they are those of one mesh'), ('jobs', 'its files are run in turn')):
         if getattr(options, name):
             parser.error('--job takes no --%s: %s' % (name.replace('_', '-'), why))
@@ -15,20 +17,23 @@ def check(parser, options):
 def worked(options):
     """The files in turn; the exit status."""
     from . import library, report
-    from .command import put, say, told
+    from .command import put, say, show, told
     from .job import Job
+    from .outputs import Outputs
     library.load()
     works, job = read(options), Job(len(options.files), options.job)
+    with Outputs() as outputs:
+        for work in works:
+            work.outputs = outputs
+            one(work, job)
+        put(outputs, options.report, lambda page: report.job_page(works, job) if page else report.job_text(works, job))
+        outputs.commit()
     for work in works:
-        one(work, job)
         told(work, work.surface.name + ': ')
         if work.fault:
             say('%s: %s' % (work.options.input, work.fault))
-        if not options.quiet:
-            print('\n'.join(([] if work.fault else [report.summary(work)]) + [report.slab_words(work)]))
-    put(options.report, lambda page: report.job_page(works, job) if page else report.job_text(works, job))
-    if not options.quiet:
-        print(report.job_words(job))
+        show(options, ([] if work.fault else [report.summary(work)]) + [report.slab_words(work)])
+    show(options, [report.job_words(job)])
     return 1 if any(work.fault for work in works) else 3 if any(work.warnings for work in works) else 0
 
 
@@ -86,4 +91,5 @@ def one(work, job):
         written(work)
     except (Fault, Refused, OSError) as fault:
         work.fault = str(fault)
+        work.outputs.drop(work.options.output)
     work.seconds = time.perf_counter() - begin

@@ -10,6 +10,11 @@ class Fault(Exception):
     """What is wrong with the file, and what to do about it."""
 
 
+def visible(words):
+    """Words from a file, or its name, as they may stand on a terminal and in a text: control characters, and those that turn the order of what follows, escaped."""
+    return ''.join(c if c.isprintable() else c.encode('unicode_escape', 'backslashreplace').decode() for c in words)
+
+
 @dataclass
 class Marked:
     """Cells of one kind with their tags and the sets that they are in."""
@@ -44,6 +49,7 @@ class Surface:
     names: dict = field(default_factory=dict)     # name: (number, dimension) of Gmsh's groups
     clockwise: bool = False        # every triangle was, and was turned
     notes: list = field(default_factory=list)
+    sha256: str = ''               # of the bytes that were read
 
 
 def point_words(points, node):

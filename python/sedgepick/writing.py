@@ -1,10 +1,11 @@
-"""Mesh files written by meshio, read back and compared."""
-import os, re, tempfile
+"""Mesh files made by meshio, read back and compared; `outputs` gives them their names."""
+import os, re
 import meshio
 import numpy
 from meshio import _helpers as meshio_forms
 from . import names
 from .files import GOOD, form_of, missing, quiet, suffix_of
+from .outputs import STDOUT, Folder
 from .surfaces import Fault, Marked
 
 # of several formats that a suffix may mean, the one that is written
@@ -14,24 +15,25 @@ OPTIONS = {'gmsh22': {'binary': False}, 'xdmf': {'data_format': 'XML'}}  # one f
 ONE_ARRAY = ('medit', 'su2', 'ugrid', 'netgen', 'avsucd', 'nastran', 'flac3d')  # formats that take one array of numbers
 INP = {'quad': 'S4', 'triangle': 'S3', 'line': 'B31'}  # element types of shells and beams
 ROUNDED = 1e-6  # of the extent: a file that moves a node farther does not hold the mesh
+TOLD = 1e-12    # of the extent: rounding below it is not told
 
 
 def check_form(path, form):
     """That the format takes quads, before a long run."""
     points = numpy.array([[0.0, 0, 0], [1, 0, 0], [1, 1, 0], [0, 1, 0], [2, 0, 0]])
     cells, fault = [('quad', Marked(numpy.array([[0, 1, 2, 3]]))), ('triangle', Marked(numpy.array([[1, 4, 2]])))], None
-    with tempfile.TemporaryDirectory() as folder:
+    with Folder() as folder:
         made = os.path.join(folder, os.path.basename(path))
         for some, nodes in ((cells[:1], 4), (cells, 5)):  # a few take cells of one kind alone
             try:
-                return write(made, form, points[:nodes], some, {}, {})
+                return make(made, path, form, points[:nodes], some, {}, {})
             except Fault as found:
                 fault = found
-    raise Fault(str(fault).replace(made, path))
+    raise fault
 
 
-def write(path, form, points, blocks, named, point_sets):
-    """Writes the cells (kind, Marked), reads them back and compares; returns notes. A file that is there stays until the new one is whole."""
+def make(made, path, form, points, blocks, named, point_sets):
+    """Makes the file of the cells (kind, Marked) that takes this path's name later, in a folder of its own, reads it back and compares; returns notes."""
     form, notes = writing_form(path, form), []
     blocks = [block for block in blocks if len(block[1].cells)]
     if form in SETS:
@@ -39,17 +41,13 @@ def write(path, form, points, blocks, named, point_sets):
     else:
         blocks, point_sets = names.as_vertices(blocks, point_sets), {}
     try:
-        with tempfile.TemporaryDirectory(prefix='.sedgepick-', dir=os.path.dirname(path) or '.') as folder:
-            made = os.path.join(folder, os.path.basename(path))
-            for left_out in ((), ('vertex',), ('vertex', 'line')):
-                kept = [block for block in blocks if block[0] not in left_out]
-                fault = written(made, form, points, kept, named, point_sets, notes)
-                if fault is None or len(kept) == len(blocks) == 0:
-                    break
-            if fault is not None:
-                raise Fault('cannot write %s as %s: %s. Formats that take quads: %s' % (path, form, fault, GOOD))
-            for name in os.listdir(folder):  # some formats have other files beside it
-                os.replace(os.path.join(folder, name), os.path.join(os.path.dirname(path), name))
+        for left_out in ((), ('vertex',), ('vertex', 'line')):
+            kept = [block for block in blocks if block[0] not in left_out]
+            fault = written(made, form, points, kept, named, point_sets, notes)
+            if fault is None or len(kept) == len(blocks) == 0:
+                break
+        if fault is not None:
+            raise Fault('cannot write %s as %s: %s. Formats that take quads: %s' % (path, form, fault, GOOD))
     except OSError as error:
         raise Fault('cannot write %s: %s' % (path, error.strerror or error))
     if len(kept) < len(blocks):
@@ -58,6 +56,8 @@ def write(path, form, points, blocks, named, point_sets):
 
 
 def writing_form(path, form):
+    if path == STDOUT and not form:
+        raise Fault('-o - writes to standard output: --to says the format, such as gmsh22, vtu or abaqus')
     return (not form and WRITTEN.get(suffix_of(path))) or form_of(path, form)
 
 
@@ -119,7 +119,7 @@ def parted(path, form, given, blocks, words, notes):
     if far > ROUNDED * numpy.ptp(points[:, :2], axis=0).max():
         return 'coordinates come back up to %.3g away' % far
     changed = int((mesh.points[:, :2] != points[:, :2]).sum())
-    if changed:
+    if changed and far > TOLD * numpy.ptp(points[:, :2], axis=0).max():
         notes.append('%s rounds %d of %d coordinates, by up to %.3g' % (form, changed, 2 * len(points), far))
     if words:
         notes.append(names_words(form, given, mesh, words))

@@ -25,15 +25,16 @@ class Formats(Case):
             names.remove('l-slab-meshio.med')
         for name in names:
             with self.subTest(name):
-                self.good(os.path.join(FILES, name), '-o', self.out)
-                _, quads, triangles = self.mesh()
-                self.assertEqual((len(quads), len(triangles)), (68, 10))
+                for raw, cells in ([], (73, 0)), (['--raw'], (68, 10)):
+                    self.good(os.path.join(FILES, name), '-o', self.out, *raw)
+                    _, quads, triangles = self.mesh()
+                    self.assertEqual((len(quads), len(triangles)), cells)
 
     def test_written_forms(self):
         for suffix in ('msh', 'vtk', 'vtu', 'inp', 'obj', 'bdf', 'mesh', 'vol.gz') + ('med', 'xdmf') * HDF:
             with self.subTest(suffix):
                 out = self.path('out.' + suffix)
-                self.good(os.path.join(FILES, 'l-slab-41.msh'), '-o', out)
+                self.good(os.path.join(FILES, 'l-slab-41.msh'), '-o', out, '--raw')
                 _, quads, triangles = self.mesh(out, files.form_of(out, None))
                 self.assertEqual((len(quads), len(triangles)), (68, 10))
 
@@ -53,7 +54,7 @@ class Formats(Case):
 
     def test_abaqus_types(self):
         out = self.path('out.inp')
-        self.good(os.path.join(FILES, 'columns.msh'), '-o', out)
+        self.good(os.path.join(FILES, 'columns.msh'), '-o', out, '--raw')
         with open(out) as file:
             text = file.read()
         self.assertEqual(re.findall(r'TYPE=(\w+)', text), ['S4', 'S3', 'B31'])
@@ -75,7 +76,7 @@ class Options(Case):
     def test_nodes_without_cells(self):
         given = os.path.join(FILES, 'columns.msh')
         table = self.path('map.csv')
-        self.good(given, '-o', self.out, '--node-map', table)
+        self.good(given, '-o', self.out, '--node-map', table, '--raw')
         mesh, quads, triangles = self.mesh()
         self.assertEqual(set(range(len(mesh.points))), {node for cell in quads + triangles for node in cell})
         before = self.mesh(given)[0].points
@@ -85,7 +86,7 @@ class Options(Case):
         for node, origin in rows:
             if origin:
                 self.assertTrue((mesh.points[int(node) - 1] == before[int(origin) - 1]).all())
-        self.good(given, '-o', self.out, '--keep-nodes')
+        self.good(given, '-o', self.out, '--keep-nodes', '--raw')
         self.assertGreater(len(self.mesh()[0].points), len(rows))
 
     def test_size_and_stop(self):
@@ -112,7 +113,7 @@ class Options(Case):
                     self.assertRegex(file.read(), r'quality +scaled Jacobian at least .* pairs\n')
         self.good(given, '-o', self.out, '--report', report, '--least-angle', '25', '--pairs', '8')
         _, quads, triangles = self.mesh()
-        self.assertEqual((len(quads), len(triangles)), (68, 10))
+        self.assertEqual((len(quads), len(triangles)), (73, 0))
         with open(report) as file:
             self.assertIn('(the standard set)', file.read())
 
@@ -229,9 +230,10 @@ class Kept(Case):
         """Diagonals apart from each other, which no slit opens, more than can be locked."""
         alone = [(43 * j + i, 43 * (j + 1) + i + 1) for j in range(1, 41, 2) for i in range(1, 41, 2)]
         path = self.lined(42, alone)
-        self.refused(r'line edges \(no group\): \d+ of 400 lost; the first is from \(.*Nothing is written; --allow-loss', path, '-o', self.out, '--size', '0')
-        ran = self.good(path, '-o', self.out, '--size', '0', '--allow-loss', status=3)
+        self.refused(r'line edges \(no group\): \d+ of 400 lost; the first is from \(.*Nothing is written; --allow-loss', path, '-o', self.out, '--size', '0', '--raw')
+        ran = self.good(path, '-o', self.out, '--size', '0', '--raw', '--allow-loss', status=3)
         self.assertRegex(ran.stderr, r'warning: line edges \(no group\): \d+ of 400 lost')
+        self.assertIn('all 400 stand', self.good(path, '-o', self.out).stdout)  # the finishing pass locks any number
 
     def test_the_edges_that_are_locked(self):
         points, triangles = (numpy.array(rows) for rows in grid(4, 4))
@@ -302,7 +304,7 @@ class Parts(Case):
         self.assertGreater(len(triangles), 2 * 4096)
         surface = surfaces.Surface('grid', points, surfaces.Marked(triangles), surfaces.Marked(numpy.zeros((0, 2), int)), surfaces.Marked(numpy.zeros((0, 1), int)))
         result = parts.run(points, triangles, None, 0)
-        self.assertEqual(result.cutter, cutter)
+        self.assertRegex(result.cutter, cutter)
         self.assertGreater(len(result.sizes), 2)
         every = numpy.concatenate([points, numpy.column_stack([result.added, numpy.zeros(len(result.added))])])
         _, _, cuts = losses.verify(surface, every, result)
@@ -318,7 +320,7 @@ class Parts(Case):
 
     @unittest.skipUnless(shutil.which('gpmetis'), 'METIS is not installed')
     def test_metis(self):
-        self.check('METIS')
+        self.check(r'METIS \d+\.\d+')
 
     def test_even_parts(self):
         """Under rule 1 the parts of an even mesh are even, however it is cut; those of an odd component are so but for one."""

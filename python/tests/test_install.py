@@ -1,5 +1,5 @@
 """Tests of tools/install, from C by pkg-config and CMake, and of the installed Python package."""
-import os, shutil, subprocess, sys, tempfile, unittest
+import os, re, shutil, subprocess, sys, tempfile, unittest
 from common import ARCHIVE, ROOT, make_library
 from sedgepick import VERSION
 
@@ -44,6 +44,8 @@ class Install(unittest.TestCase):
         self.assertEqual(self.built('examples/c/job.c', *words).splitlines(), [
             'slab 1: 1 quads, 0 triangles; charged 1, leaves 0', 'slab 2: refused with 6; charged 0, leaves 1',
             'slab 3: 2 quads, 4 triangles, stopped by its limit; charged 2, leaves 0'])
+        self.assertEqual(self.built('examples/c/bounded.c', *words).splitlines()[1:], [
+            'at most 2 attempts: 2 made, 2 quads, 4 triangles, ended by its limit', 'at most 20000 attempts: 4 made, 4 quads, 0 triangles'])
         steps = self.built('examples/c/trace.c', *words).splitlines()
         self.assertEqual((len(steps), steps[-1].split(': ')[1]), (16, '4 quads, 6 triangles'))
 
@@ -62,6 +64,21 @@ class Install(unittest.TestCase):
         self.assertEqual(made.returncode, 0, made.stderr + made.stdout)
         for program in ('mesh', 'mesh-static'):
             self.assertEqual(run(os.path.join(build, program)).stdout, 'sedgepick %s\n0 1 2 3\n' % VERSION)
+
+    @unittest.skipUnless(shutil.which('pkg-config'), 'pkg-config is not installed')
+    def test_lines_of_the_docs(self):
+        """The lines of docs/LIBRARY.md that compile an example work as they stand, and so they do for each example that the text before them lists."""
+        with open(os.path.join(ROOT, 'docs', 'LIBRARY.md')) as file:
+            text = file.read()
+        lines = re.findall('^    (cc .*)$', text, re.M)
+        self.assertGreaterEqual(len(lines), 3)
+        listed = re.findall(r'examples/c/(\w+\.c)\)', text[:text.index(lines[0])])
+        self.assertGreaterEqual(len(listed), 4)
+        for line in lines + [lines[0].replace('square', name[:-2]) for name in listed]:
+            line = line.replace('PREFIX', self.prefix).replace('target/staticlib/liblibrary.a', ARCHIVE)
+            line = re.sub(r'-o (\w+) && (.*)\./\1', r'-o %s/\1 && \2%s/\1' % (self.folder, self.folder), line)
+            ran = run('sh', '-c', line, cwd=ROOT)
+            self.assertEqual(ran.returncode, 0, line + '\n' + ran.stderr)
 
     def test_soname(self):
         if not shutil.which('readelf'):
@@ -106,9 +123,10 @@ class Install(unittest.TestCase):
     def test_a_library_from_before(self):
         """The commit is not that of a library that was written before crates/ changed."""
         root = os.path.join(self.folder, 'checkout')
-        for name in ('tools/shared', 'c/sedgepick_mesh.c', 'include/sedgepick.h', 'include/sedgepick_mesh.h'):
+        for name in ('tools/shared', 'c/sedgepick_mesh.c', 'c/sedgepick_guard.c', 'include/sedgepick.h', 'include/sedgepick_mesh.h'):
             os.makedirs(os.path.join(root, os.path.dirname(name)), exist_ok=True)
             shutil.copy(os.path.join(ROOT, name), os.path.join(root, name))
+        shutil.copytree(os.path.join(ROOT, 'c', 'finishing'), os.path.join(root, 'c', 'finishing'))
         os.makedirs(os.path.join(root, 'target', 'staticlib'))
         os.makedirs(os.path.join(root, 'crates', 'one', 'src'))
         archive, source = shutil.copyfile(ARCHIVE, os.path.join(root, 'target', 'staticlib', 'liblibrary.a')), os.path.join(root, 'crates', 'one', 'src', 'lib.rt')

@@ -23,13 +23,13 @@ class Reading(Case):
         with open(os.path.join(FILES, name), 'rb') as file:
             return file.read()
 
-    def says(self, pattern, name, content):
+    def says(self, pattern, name, content, form=None):
         """A Fault with these words within ten seconds."""
         before = signal.signal(signal.SIGALRM, lambda *_: self.fail('%s is read without an end' % name))
         signal.alarm(10)
         try:
             with self.assertRaisesRegex(surfaces.Fault, pattern):
-                surfaces.checked(files.read(self.put(name, content)))
+                surfaces.checked(files.read(self.put(name, content), form))
         finally:
             signal.alarm(0)
             signal.signal(signal.SIGALRM, before)
@@ -56,15 +56,15 @@ class Reading(Case):
 
     def test_reading_ends(self):
         """meshio 5.0.0 goes on for ever behind the end of such files."""
-        self.says('it ends too early', 'a.dat', 'VARIABLES = "X", "Y"\nZONE T="a", N=3, E=1, F=FEPOINT, ET=TRIANGLE\n0 0\n1 0\n')
-        self.says('it ends too early', 'a.mdpa', 'Begin Nodes\n1 0 0 0\n2 1 0 0\n3 0 1 0\nEnd Nodes\nBegin Elements Element2D3N\n')
+        self.says('it ends too early', 'a.dat', 'VARIABLES = "X", "Y"\nZONE T="a", N=3, E=1, F=FEPOINT, ET=TRIANGLE\n0 0\n1 0\n', 'tecplot')
+        self.says('it ends too early', 'a.mdpa', 'Begin Nodes\n1 0 0 0\n2 1 0 0\n3 0 1 0\nEnd Nodes\nBegin Elements Element2D3N\n', 'mdpa')
 
     def test_not_a_mesh(self):
         wild = bytes((i * 7919 + i // 13) % 256 for i in range(3000))
-        for suffix in ('msh', 'inp', 'vtk', 'vtu', 'stl', 'obj', 'off', 'mesh', 'bdf', 'xdmf', 'med', 'ply', 'dat', 'vol', 'avs'):
+        for suffix, form in [(suffix, None) for suffix in files.READ] + [('.ply', 'ply'), ('.dat', 'tecplot'), ('.vol', 'netgen'), ('.avs', 'avsucd')]:
             with self.subTest(suffix):
-                self.says('meshio (cannot read it as|needs the Python module h5py)|no triangles', 'wild.' + suffix, wild)
-                self.says('meshio (cannot read it as|needs the Python module h5py)|no triangles', 'words.' + suffix, 'not a mesh\n1 2 3\n')
+                self.says('meshio (cannot read it as|needs the Python module h5py)|no triangles', 'wild' + suffix, wild, form)
+                self.says('meshio (cannot read it as|needs the Python module h5py)|no triangles', 'words' + suffix, 'not a mesh\n1 2 3\n', form)
 
     def test_a_cell_with_a_wrong_node(self):
         self.says('triangle 2 names node 9, and the file has the nodes 1 to 4: mend that cell', 'a.off', 'OFF\n4 2 0\n0 0 0\n1 0 0\n1 1 0\n0 1 0\n3 0 1 2\n3 0 2 8\n')

@@ -83,7 +83,7 @@ class Command(unittest.TestCase):
         self.assertEqual(ran.returncode, 0, ran.stderr)
         with open(table) as file:
             rows = list(csv.DictReader(file))
-        self.assertEqual(len(rows), 68)
+        self.assertEqual(len(rows), 73)
         mesh = meshio.read(out, file_format='gmsh')
         written = {tuple(sorted(int(node) + 1 for node in cell)) for block in mesh.cells if block.type == 'quad' for cell in block.data}
         self.assertEqual({tuple(sorted(int(row['n%d' % k]) for k in range(4))) for row in rows}, written)
@@ -91,7 +91,7 @@ class Command(unittest.TestCase):
         for path in (text, report):
             with open(path) as file:
                 counts = [int(n) for n in re.findall(r'(?:below 0\.1|0\.\d to 0\.\d|0\.9 and above|without metrics) +(\d+)', file.read())]
-            self.assertEqual((len(counts), sum(counts), counts[-1]), (11, 68, 0))
+            self.assertEqual((len(counts), sum(counts), counts[-1]), (11, 73, 0))
         with open(page) as file:
             self.assertIn('class="sheet"', file.read())
 

@@ -48,7 +48,7 @@ class Job(Case):
         self.assertEqual([tuple(map(int, found)) for found in ACCOUNT.findall(text)][:3], accounts)
 
     def test_its_quads_are_the_first_ones(self):
-        name, words = given('l-slab-41.msh'), ('--size', '0.6', '--keep-nodes')
+        name, words = given('l-slab-41.msh'), ('--size', '0.6', '--keep-nodes', '--raw')
         alone = self.path('alone.msh')
         self.good(*name, '-o', alone, *words)
         whole, most = self.quads(alone), []

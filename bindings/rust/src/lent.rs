@@ -230,9 +230,7 @@ pub fn run_front_with(
 
 /// What a number and the answer's slice stand for.
 fn answered(number: usize, a: [usize; ANSWER]) -> Result<Answer, Refusal> {
-    if let Some(refusal) = Refusal::of_number(number) {
-        return Err(refusal);
-    }
+    Refusal::check(number)?;
     Ok(Answer {
         counts: Counts {
             front_empty: a[0],
@@ -312,6 +310,7 @@ pub fn filing_order(first: Lent<'_>, second: Lent<'_>) -> Result<Ordering, Refus
         100 => Ok(Ordering::Less),
         101 => Ok(Ordering::Equal),
         102 => Ok(Ordering::Greater),
-        number => Err(Refusal::of_number(number).expect("a refusal's number")),
+        0 => Err(Refusal::Unknown(0)), // no answer of this function
+        number => Err(Refusal::check(number).expect_err("0 is tried above")),
     }
 }

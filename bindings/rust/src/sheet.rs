@@ -40,7 +40,7 @@ pub fn put_sheet(
             answer.len(),
         )
     };
-    Refusal::of_number(number).map_or(Ok(()), Err)
+    Refusal::check(number)
 }
 
 /// A quad's two numbers.

@@ -20,9 +20,7 @@ pub fn small_mesh(points: u32, place: usize) -> Result<Option<Vec<[u32; 3]>>, Re
     let mut list = [0u32; NUMBERS];
     // The pointer comes with the length of its slice, which is exclusive, and the function asks nothing else.
     let number = unsafe { sedgepick_small_mesh(points, place, list.as_mut_ptr(), list.len()) };
-    if let Some(refusal) = Refusal::of_number(number) {
-        return Err(refusal);
-    }
+    Refusal::check(number)?;
     let triangles = list[1..].chunks_exact(3).take(list[0] as usize);
     let triangles: Vec<[u32; 3]> = triangles.map(|t| [t[0], t[1], t[2]]).collect();
     Ok((!triangles.is_empty()).then_some(triangles))

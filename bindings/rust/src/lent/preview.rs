@@ -59,7 +59,7 @@ pub fn preview(
             a.len(),
         )
     };
-    Refusal::of_number(number).map_or_else(|| Ok(shown(a)), Err)
+    Refusal::check(number).map(|()| shown(a))
 }
 
 /// What the twelve numbers stand for.

@@ -78,5 +78,5 @@ pub fn replay(
         points,
         components,
     };
-    Refusal::of_number(number).map_or(Ok(lengths), Err)
+    Refusal::check(number).map(|()| lengths)
 }

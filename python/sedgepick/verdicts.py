@@ -1,0 +1,112 @@
+"""The verdict on a mesh file: its cells against the given triangles, by the proved `accept`, exactly."""
+import math
+from dataclasses import dataclass
+import numpy
+from . import losses, meshes, quality, slits, writing
+from .fitting import power_within
+from .front import FAR
+from .surfaces import Fault
+
+try:
+    from .acceptance import accept
+except ImportError:  # a package without it: meshes are written unjudged, and the command says so
+    accept = None
+
+
+@dataclass(frozen=True)
+class Judged:
+    """A verdict, and what its numbers are places in."""
+    verdict: object
+    triangles: object    # the given ones
+    points: object       # of the judged mesh, by the given mesh's numbers, in the file's units
+    quads: object
+    left: object
+    joints: object
+    numbers: object      # of each point in the judged file, from 1; 0 where it is not there
+
+    def node(self, node):
+        number = int(self.numbers[node])
+        return '%s at (%.10g, %.10g)' % ('node %d' % number if number else 'given node %d' % (node + 1), *self.points[node, :2])
+
+    def cell(self, word, cells, place, why):
+        return None if place is None else '%s %d %s: %s' % (word, place + 1, why, ', '.join(map(self.node, cells[place])))
+
+    def edge(self, nodes, words):
+        return None if nodes is None else words % tuple(map(self.node, nodes))
+
+    def clauses(self):
+        """[(clause, words on its first offender, or None where it holds)]"""
+        found, lost = self.verdict, self.verdict.lost
+        return [('given nodes are in place', None if found.moved is None else 'given node %d is not' % (found.moved + 1)),
+                ('given triangles have an area', self.cell('given triangle', self.triangles, found.given_flat, 'has none')),
+                ('quads turn left at each node', self.cell('quad', self.quads, found.folded, 'does not')),
+                ('no corner of a quad is too sharp', self.cell('quad', self.quads, found.sharp, 'has one')),
+                ('triangles have an area', self.cell('triangle', self.left, found.left_flat, 'has none')),
+                ('no triangle is too thin', self.cell('triangle', self.left, found.thin, 'is')),
+                ('the given region is covered once', self.edge(found.uneven, 'the cells at the edge between %s and %s do not balance as the given ones do')),
+                ('lines and borders are kept', None if lost is None else self.edge(self.joints[lost], 'the edge between %s and %s is lost'))]
+
+    def first(self):
+        """The first clause that does not hold, in words."""
+        return next(words for _, words in self.clauses() if words)
+
+    def rows(self):
+        """[(name, words)] for the report."""
+        groups = [int(size) for size in self.verdict.sizes]
+        return [('accepted', 'yes, by the proved accept, exactly' if self.verdict.accepted else 'no'), *((name, words or 'yes') for name, words in self.clauses()),
+                ('nodes added', self.verdict.added),
+                ('groups of triangles', '%d, %d of them odd%s' % (len(groups), self.verdict.odd, ', the largest of %d' % max(groups) if groups else ''))]
+
+
+def scaled(*lists):
+    """The lists of points within the library's range: x and y times one power of two, which rounds nothing; a Fault where there is no such power."""
+    most = max((float(abs(points[:, :2]).max()) for points in lists if len(points)), default=0.0)
+    power = power_within(most, FAR)
+    found = [points[:, :2] * power for points in lists]
+    for points, there in zip(lists, found):
+        if not (there / power == points[:, :2]).all():
+            raise Fault('its coordinates reach up to %.3g, and some are so small that no power of two takes all within %g unrounded: they cannot be judged exactly' % (most, FAR))
+    return found
+
+
+def judged(given_points, triangles, points, quads, left, joints, cosine, thin, numbers):
+    """The verdict on quads and leftover triangles over points, of which the first are to be the given ones; `thin` in degrees, 0 asks nothing of the triangles."""
+    before, after = scaled(numpy.asarray(given_points, dtype=float), numpy.asarray(points, dtype=float))
+    joints = numpy.asarray(joints, dtype=numpy.int64).reshape(-1, 2)
+    limit = 1.0 if thin == 0 else math.cos(math.radians(thin))
+    verdict = accept(before, triangles, after, quads, left, joints=joints, cosine=cosine, thin=limit)
+    return Judged(verdict, numpy.asarray(triangles), numpy.asarray(points), numpy.asarray(quads), numpy.asarray(left), joints, numbers)
+
+
+def judge(work, path, nodes):
+    """Reads the file back, takes its nodes back to the given numbers and has it judged: a Fault where it is not accepted, a warning where thin triangles are the given
+    mesh's own."""
+    options, surface, points = work.options, work.surface, work.points.copy()
+    if accept is None:
+        surface.notes.append('this package has no acceptance: the mesh is not judged')
+        return
+    form = writing.writing_form(options.output, options.to)
+    turned = lambda cells: cells[:, ::-1] if surface.clockwise else cells
+    found = meshes.read_written(path, form)
+    if found is None:
+        found = points[nodes], turned(work.number[work.result.quads]), turned(work.number[work.result.triangles])
+        surface.notes.append('%s cannot be read back: the verdict is on what was handed to its writer' % form)
+    points[nodes, :2] = found[0][:, :2]
+    quads, left = (turned(nodes[cells]) for cells in found[1:])
+    given, rounded = points[:len(surface.points)], int((points[nodes, :2] != work.points[nodes, :2]).any(axis=1).sum())
+    kept = [] if options.free or options.allow_loss else joints_of(surface)
+    ask = lambda thin: judged(given, surface.triangles.cells, points, quads, left, kept, options.quality.largest_cosine, thin, work.number + 1)
+    verdict = ask(options.thin)
+    least = float(quality.least_angles(points, surface.triangles.cells).min())
+    if not verdict.verdict.accepted and least < options.thin and ask(0.0).verdict.accepted:
+        work.warnings.append('%s; the given triangles go down to %.3g degrees themselves, so it is written all the same (--thin %g)' % (verdict.first(), least, options.thin))
+        verdict = ask(0.0)
+    if not verdict.verdict.accepted:
+        raise Fault('not accepted: %s. Nothing is written' % verdict.first())
+    as_written = [('nodes', '%d of %d rounded by the format, and judged as it has them' % (rounded, len(nodes)))] if rounded else []
+    work.verdict = verdict.rows() + as_written + [('least angle asked of triangles', '%g degrees' % options.thin if options.thin else 'none')]
+
+
+def joints_of(surface):
+    """The lines and borders that are edges of the given triangles, as pairs of nodes."""
+    return slits.ends(numpy.intersect1d(losses.hard(surface).edges, quality.keys(quality.sides(surface.triangles.cells))))
