@@ -569,21 +569,17 @@ class Examples(Case):
 
 
 class Programs(Case):
-    """What the gate runs: one text of `main` in both programs, on the square and on a long text."""
+    """What the gate runs the program on: the square, and among the stored texts a long one."""
 
-    def file(self, crate, name):
-        return content(os.path.join(ROOT, 'crates', crate, name)).decode()
-
-    def test_one_main(self):
-        for name in ('src/main.rt', 'proofs/main/Proof.antt'):
-            self.assertEqual(self.file('sedgepick', name), self.file('sedgepick_long', name).replace('sedgepick_long', 'sedgepick'))
+    def file(self, *names):
+        return content(os.path.join(ROOT, *names)).decode()
 
     def test_square(self):
-        self.assertEqual(self.file('sedgepick', 'stdin'), S_TEXT)
+        self.assertEqual(self.file('crates/sedgepick/stdin'), S_TEXT)
 
     def test_long(self):
-        self.assertGreater(len(self.file('sedgepick_long', 'stdin')), 3800)
-        mesh = texts.read(Source('stdout', self.file('sedgepick_long', 'stdout').encode()))
+        self.assertGreater(len(self.file('answers/small/edge-long.in')), 3800)
+        mesh = texts.read(Source('stdout', self.file('answers/small/edge-long.out').encode()))
         self.assertGreater(mesh.counts['mismatch_insertions'], 0)
         self.assertGreater(len(mesh.triangles), 0)
         self.assertGreater(len(mesh.quads), 0)
