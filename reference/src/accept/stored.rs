@@ -50,6 +50,7 @@ impl Stored {
         }
     }
 
+    /// Whether fixed arrays have room for it, and it has a mesh.
     fn fits(&self) -> bool {
         let h = &self.handed;
         let [components, work, parents, answer] = self.lengths;
@@ -64,7 +65,7 @@ impl Stored {
             parents,
             answer,
         ];
-        work <= MOST_WORK && short.into_iter().all(|n| n <= MOST_LENT)
+        h.given > 0 && work <= MOST_WORK && short.into_iter().all(|n| n <= MOST_LENT)
     }
 
     /// The call with its answer.
