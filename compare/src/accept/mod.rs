@@ -4,6 +4,7 @@
 mod call;
 mod export;
 mod largest;
+mod shrink;
 
 use std::collections::BTreeMap;
 
@@ -108,7 +109,10 @@ impl Found {
             tally.note(&verdict);
             if let Some(what) = difference(&handed, &lent, &verdict) {
                 differ += 1;
-                let words = Stored::new(handed, &lent).call();
+                let (least, room) = shrink::shrunk(&handed, &lent, |h, lent| {
+                    difference(h, lent, &h.verdict(lent)).is_some()
+                });
+                let words = Stored::new(least, &room).call();
                 self.differences.push((words, what));
             }
         }
