@@ -10,6 +10,9 @@ Files are read and written by meshio: Gmsh, VTK, VTU, Abaqus .inp, STL, OFF, OBJ
 --from names them. Reading has limits of time and memory; files that a mesh file names beside itself are not read. The triangles are paired into
 quads by the proved library; those that find no partner stay triangles. More than 4,096 triangles are cut into parts, which are run on all cores.
 
+What the run leaves between its quads is closed by a finishing pass, which drops and adds no node. What is written is read back and judged as a whole by the proved
+accept; where it is not accepted, nothing is written. --raw writes the run's own answer.
+
 Lines, points and borders of surfaces in the file are kept: they are edges and nodes of what is written.
 
 With --job the files, at most 16, are one job: they share an allowance of attempts. Each is entitled to the whole part of the allowance divided by their
@@ -27,7 +30,7 @@ given and the trace of the run, and replays it. Without -o no mesh is written. P
 
 Every file is made under a temporary name beside its place; all take their names together at the end, so that a run which is ended leaves what was there.
 
-Exit status: 0 the mesh, the preview or the steps are written; 1 refused, or over --seconds, nothing is written; 2 wrong options; 3 the mesh is written, and something that was a
+Exit status: 0 the mesh, the preview or the steps are written; 1 refused, not accepted, or over --seconds, nothing is written; 2 wrong options; 3 the mesh is written, and something that was a
 line, a point or a surface's border in the file is lost (with --allow-loss or --free), or a warning was given: standard error says what. Of a job: 1 where a file is refused or not
 written, the others are; otherwise 3 where one would have 3. 130, 143 and 129: ended by Ctrl-C, SIGTERM or SIGHUP, nothing is written."""
 import os, sys, time
