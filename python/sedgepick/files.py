@@ -65,8 +65,8 @@ def reading_form(path, given):
 
 
 @contextlib.contextmanager
-def copied(path):
-    """(name of a copy that nobody else can change, SHA-256 of its bytes). It is in memory, and gone afterwards."""
+def copied(path, most):
+    """(name of a copy that nobody else can change, SHA-256 of its bytes). It is in memory, and gone afterwards; a file of over so many megabytes is refused."""
     if os.path.isdir(path):
         raise Fault('it is a folder; name a mesh file')
     try:
@@ -82,6 +82,8 @@ def copied(path):
         if not stat.S_ISREG(os.fstat(given).st_mode):
             raise Fault('it is a device, a FIFO or a socket: name a regular file')
         while part := os.read(given, 1 << 20):
+            if os.fstat(copy).st_size + len(part) > most << 20:
+                raise Fault('it has over %d MB, and reading takes more memory than that; --read-memory allows more' % most)
             digest.update(part)
             while part:
                 part = part[os.write(copy, part):]
@@ -103,7 +105,7 @@ def read(path, form=None, limits=apart.Limits()):
 
 def taken(path, form, limits, take):
     """(what `take` makes of the mesh that meshio reads, SHA-256 of the bytes); both in a child with limits."""
-    with copied(path) as (copy, sha256):
+    with copied(path, limits.megabytes) as (copy, sha256):
         form = reading_form(path, form)
         try:
             return apart.run(lambda: read_here(copy, form, take), limits, 'reading it as %s' % form), sha256

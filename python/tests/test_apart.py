@@ -64,6 +64,12 @@ class Limits(Apart):
         self.assertEqual(len(files.read(self.put('tag.msh', MSH % (200000, 200000))).points), 4)
         self.refused('takes over 64 MB', self.put('tag.msh', MSH % (20000000, 20000000)), '-o', self.out, '--read-memory', '64')
 
+    def test_a_file_of_gigabytes(self):
+        """It is not copied to its end."""
+        with open(self.path('a.msh'), 'wb') as file:
+            file.truncate(1 << 40)
+        self.refused('it has over 64 MB', self.path('a.msh'), '-o', self.out, '--read-memory', '64')
+
     def test_packed_data(self):
         """A few bytes that unpack to gigabytes."""
         blocks, size = 1 << 12, 1 << 20
