@@ -97,15 +97,20 @@ def copied(path, most):
 
 def read(path, form=None, limits=apart.Limits()):
     """The surface of a file, and the SHA-256 of the bytes that it was made of."""
-    with copied(path, limits.megabytes) as (copy, sha256):
-        form = reading_form(path, form)
-        try:
-            surface = apart.run(lambda: read_here(copy, form), limits, 'reading it as %s' % form)
-        except Fault as fault:
-            raise Fault(visible(str(fault).replace(copy, os.path.basename(path)).replace(os.path.dirname(copy) + os.sep, '')))
+    surface, sha256 = taken(path, form, limits, surface_of)
     surface.name, surface.sha256 = visible(os.path.basename(path)), sha256
     show_names(surface)
     return surface
+
+
+def taken(path, form, limits, take):
+    """(what `take` makes of the mesh that meshio reads, SHA-256 of the bytes); both in a child with limits."""
+    with copied(path, limits.megabytes) as (copy, sha256):
+        form = reading_form(path, form)
+        try:
+            return apart.run(lambda: read_here(copy, form, take), limits, 'reading it as %s' % form), sha256
+        except Fault as fault:
+            raise Fault(visible(str(fault).replace(copy, os.path.basename(path)).replace(os.path.dirname(copy) + os.sep, '')))
 
 
 def show_names(surface):
@@ -119,8 +124,8 @@ def show_names(surface):
     surface.notes.append('names of groups have control characters; they are shown and written escaped')
 
 
-def read_here(path, form):
-    """The surface of a file, read in this process, which from then on opens no other."""
+def read_here(path, form, take):
+    """What is taken of a file, read in this process, which from then on opens no other."""
     numbering.watch()
     watched = None
     try:
@@ -142,7 +147,7 @@ def read_here(path, form):
     words = lacking(path, form, sum(len(block.data) for block in mesh.cells))
     if words:
         raise Fault('it breaks off: %s. Write it anew' % words)
-    return surface_of(mesh)
+    return take(mesh)
 
 
 def missing(error, form):
