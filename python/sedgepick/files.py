@@ -127,6 +127,7 @@ def show_names(surface):
 def read_here(path, form, take):
     """What is taken of a file, read in this process, which from then on opens no other."""
     numbering.watch()
+    watched = None
     try:
         with quiet() as said, numpy.errstate(all='ignore'):
             if form in HDF5:
@@ -141,8 +142,7 @@ def read_here(path, form, take):
     except (Fault, MemoryError):
         raise
     except (Exception, SystemExit) as error:
-        found = locals().get('watched')
-        words = (form in XML and xml_words(path)) or '; '.join(filter(None, (found and found.place(), fault_words(error, said.getvalue())))) or type(error).__name__
+        words = (form in XML and xml_words(path)) or '; '.join(filter(None, (watched and watched.place(), fault_words(error, said.getvalue())))) or type(error).__name__
         raise Fault('meshio cannot read it as %s: %s. Mend the file or write it anew; if it has another format, say it with --from' % (form, words))
     words = lacking(path, form, sum(len(block.data) for block in mesh.cells))
     if words:
@@ -156,7 +156,7 @@ def missing(error, form):
 
 
 def surface_of(mesh):
-    """What the command takes of a mesh, names of groups as they may be shown; its own name is left out."""
+    """What the command takes of a mesh, but for the file's name."""
     kinds = {}
     for block in mesh.cells:
         kinds[block.type] = kinds.get(block.type, 0) + len(block.data)

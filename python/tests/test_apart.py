@@ -95,6 +95,8 @@ class Limits(Apart):
         for number in (signal.SIGSEGV, signal.SIGABRT):
             with self.assertRaisesRegex(surfaces.Fault, 'reading it ended by signal %d, a fault of the reader' % number):
                 apart.run(lambda: os.kill(os.getpid(), number), apart.Limits(), 'reading it')
+        with self.assertRaisesRegex(surfaces.Fault, 'what is read makes no mesh, ZeroDivisionError'):
+            apart.run(lambda: 1 // 0, apart.Limits(), 'reading it')
         with self.assertRaisesRegex(surfaces.Fault, 'failed without words'):
             apart.run(lambda: os._exit(3), apart.Limits(), 'reading it')
 
