@@ -29,9 +29,9 @@ extern "C" {
 
 /* The version of this header. */
 #define SEDGEPICK_VERSION_MAJOR 0
-#define SEDGEPICK_VERSION_MINOR 2
+#define SEDGEPICK_VERSION_MINOR 3
 #define SEDGEPICK_VERSION_PATCH 0
-#define SEDGEPICK_VERSION "0.2.0"
+#define SEDGEPICK_VERSION "0.3.0"
 
 /* The number of the interface, which is the shared library's too (libsedgepick.so.2). It grows where a function's parameters, a constant or a struct of these headers change;
  * a function more leaves it. sedgepick_abi() of sedgepick_mesh.h is that of the library that is linked. */

@@ -4,7 +4,7 @@ Looked for, in this order: the file that the environment variable SEDGEPICK_LIBR
 installed under; target/shared of a checkout, where tools/shared writes it."""
 import ctypes, os, threading
 
-VERSION = '0.2.0'
+VERSION = '0.3.0'
 ABI = 2  # the number of the interface, SEDGEPICK_ABI of the header
 SONAME = 'libsedgepick.so.%d' % ABI
 VARIABLE = 'SEDGEPICK_LIBRARY'
