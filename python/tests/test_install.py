@@ -44,6 +44,8 @@ class Install(unittest.TestCase):
         self.assertEqual(self.built('examples/c/job.c', *words).splitlines(), [
             'slab 1: 1 quads, 0 triangles; charged 1, leaves 0', 'slab 2: refused with 6; charged 0, leaves 1',
             'slab 3: 2 quads, 4 triangles, stopped by its limit; charged 2, leaves 0'])
+        self.assertEqual(self.built('examples/c/accept.c', *words).splitlines(), [
+            'the square: accepted', 'one corner moved: not accepted, point 3 moved, quad 0 is not convex'])
         steps = self.built('examples/c/trace.c', *words).splitlines()
         self.assertEqual((len(steps), steps[-1].split(': ')[1]), (16, '4 quads, 6 triangles'))
 
