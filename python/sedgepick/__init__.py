@@ -73,11 +73,31 @@ Acceptance runs can cover every list of one to three different triangles on 3, 4
     >>> [len(list(sedgepick.small_meshes(points))) for points in (3, 4, 5)]
     [1, 14, 175]
 
+A finished mesh, ours or not, can be judged against the mesh that was given, in exact arithmetic; the verdict is true where every clause holds, names the first
+offender of each that does not, and prints as a sheet:
+
+    >>> verdict = sedgepick.accept(*square, mesh.points, mesh.quads, mesh.triangles)
+    >>> verdict.accepted, verdict.folded, verdict.uneven
+    (True, None, None)
+    >>> print(sedgepick.accept(*square, [(0, 0), (1, 0), (1, 1), (0.75, 0.5)], [(0, 1, 2, 3)], []))
+    NOT ACCEPTED: 1 quads and 0 leftover triangles for 2 triangles
+    4 points, of which 4 given and 0 added; 0 joints; numbers count from 0
+    given points kept                                  does not hold: point 3 is the first
+    quads convex                                       does not hold: quad 0 is the first
+    corners of quads, cosine up to 0.90630778703665    holds
+    given triangles have area                          holds
+    leftover triangles have area                       holds
+    sides balance: no gap, no overlap                  holds
+    corners left over, cosine up to 1.0                not asked
+    joints kept                                        holds
+    components left over                               0, 0 odd
+
 Threads: the library keeps nothing between calls and each call here lends memory of its own, so any number of threads may call `run_front` at once. The
 interpreter's lock is free while the library runs.
 
 Lists come back as numpy arrays where numpy is there, otherwise as lists of tuples.
 """
+from .acceptance import ANY_TRIANGLE, MOST_JUDGED, Judged, Verdict, accept
 from .filing import AFTER, BEFORE, SAME, Filed, filing_order
 from .front import (EVEN_COMPONENTS, EXHAUST, FAR, GRID_LINES, LARGEST_SIZE, LEAST_SIZE, MOST_CAPACITY, MOST_GIVEN, MOST_JOINTS, MOST_SLOTS, RANGES, REFUSALS, Counts, Mesh,
                     Quad, Quads, Quality, Refused, cosine_of, run_front)
@@ -90,7 +110,8 @@ from .traces import Flip, Insertion, Placed, Replayed, entries, replay
 
 __version__ = VERSION
 __license__ = 'MIT'
-__all__ = ['AFTER', 'BEFORE', 'Counts', 'EVEN_COMPONENTS', 'EXHAUST', 'FAR', 'Filed', 'Flip', 'GRID_LINES', 'Insertion', 'Job', 'KINDS', 'LARGEST_SIZE', 'LEAST_SIZE', 'MOST_ALLOWANCE', 'MOST_CAPACITY', 'MOST_GIVEN', 'MOST_JOINTS',
-           'MOST_MESHES', 'MOST_SLOTS', 'MOST_TRACE', 'Mesh', 'NoLibrary', 'Placed', 'Preview', 'Quad', 'Quads', 'Quality', 'RANGES', 'REFUSALS', 'Refused', 'Replayed', 'SAME', 'Sheet', 'Slab',
-           'Worst', 'commit', 'cosine_of', 'entries', 'filing_order', 'preview', 'preview_front', 'replay', 'run_front', 'sheet', 'small_mesh',
-           'small_meshes']
+__all__ = ['AFTER', 'ANY_TRIANGLE', 'BEFORE', 'Counts', 'EVEN_COMPONENTS', 'EXHAUST', 'FAR', 'Filed', 'Flip', 'GRID_LINES', 'Insertion', 'Job',
+           'Judged', 'KINDS', 'LARGEST_SIZE', 'LEAST_SIZE', 'MOST_ALLOWANCE', 'MOST_CAPACITY', 'MOST_GIVEN', 'MOST_JOINTS', 'MOST_JUDGED',
+           'MOST_MESHES', 'MOST_SLOTS', 'MOST_TRACE', 'Mesh', 'NoLibrary', 'Placed', 'Preview', 'Quad', 'Quads', 'Quality', 'RANGES', 'REFUSALS',
+           'Refused', 'Replayed', 'SAME', 'Sheet', 'Slab', 'Verdict', 'Worst', 'accept', 'commit', 'cosine_of', 'entries', 'filing_order', 'preview',
+           'preview_front', 'replay', 'run_front', 'sheet', 'small_mesh', 'small_meshes']

@@ -27,6 +27,7 @@ REPLAY = SLICES + [LENGTH] * 5 + ANSWER
 SHEET = [DOUBLES, LENGTH, NUMBERS, LENGTH, DOUBLES, LENGTH, LENGTH, LENGTH, SIZES, LENGTH]
 FILING_ORDER = [DOUBLES, LENGTH, NUMBERS, LENGTH, NUMBERS, LENGTH, LENGTH, LENGTH] * 2
 SMALL_MESH = [ctypes.c_uint32, LENGTH, NUMBERS, LENGTH]
+ACCEPT = [DOUBLES, LENGTH, NUMBERS, LENGTH] * 2 + [NUMBERS, LENGTH] * 5 + [LENGTH] * 6 + [REAL, REAL] + ANSWER
 
 loaded = None
 loading = threading.Lock()
@@ -69,7 +70,7 @@ def opened():
         check_version(library, path)
         for function, takes in ((library.sedgepick_run_front_with, RUN_FRONT), (library.sedgepick_job, JOB), (library.sedgepick_preview, PREVIEW),
                                 (library.sedgepick_replay, REPLAY), (library.sedgepick_sheet, SHEET), (library.sedgepick_filing_order, FILING_ORDER),
-                                (library.sedgepick_small_mesh, SMALL_MESH)):
+                                (library.sedgepick_small_mesh, SMALL_MESH), (library.sedgepick_accept, ACCEPT)):
             function.argtypes, function.restype = takes, LENGTH
     except (OSError, AttributeError) as error:
         raise NoLibrary('%s does not load: %s' % (path, error))
