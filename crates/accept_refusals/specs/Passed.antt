@@ -1,6 +1,6 @@
 -- What a call that no condition refuses has: what the searches ask of it.
 use mathlib.Core.Path.{_≡_, sym, _∙_}
-use mathlib.Core.Bool.{false, cond, _||_}
+use mathlib.Core.Bool.{true, false, cond, _&&_, _||_}
 use mathlib.Core.List.{[]}
 use mathlib.Core.Option.{none}
 use Prim.Native.Nat.{ℕ, _+_, _*_, _≤_, _<_}
@@ -8,7 +8,7 @@ use native.Mathlib.Omega.{arith}
 use lib.Dec.{eqb, ltb}
 use lib.ListN.{length, getD}
 use borrow.Author.Tests.{le-ltb, ltb-false, eqb-false, not-false}
-use Rattle.definition.specs.Floats.{_≼_, 0·5, 0·99}
+use Rattle.definition.specs.Floats.{_≼_, 0·5, 0·99, 1·0}
 use Rattle.definition.specs.Lists.{any, find}
 use Rattle.definition.specs.Cells.{new-tri}
 use Rattle.definition.specs.Call.{point-at, first-points, tri-at, first-tris, joint-at, twice, outside, ranges, bad-joint}
@@ -16,7 +16,7 @@ use Rattle.laws.specs.Bools.{both, or-none}
 use Rattle.laws.specs.Tables.{below-none}
 use Rattle.refusals.specs.Passed.{Apart}
 use Rattle.refusals.specs.Refusals.{number-of, turn, no-turn, not-taken}
-use Rattle.accept.specs.Call.{Handed, most, side-words, parent-words, sides, judged, over-limit, bad-cosine, too-short, unknown-node, repeated-node, far-point, bad-joints, conditions, refused}
+use Rattle.accept.specs.Call.{Handed, most, side-words, parent-words, sides, judged, over-limit, bad-limit, too-short, unknown-node, repeated-node, far-point, bad-joints, conditions, refused}
 use Rattle.offenders.specs.Cells.{Tested, Limit}
 use Rattle.accept_refusals.specs.declared.Stated.{Stated}
 use Rattle.accept_refusals.specs.Stated.{handed, Limited, over, tris-unknown, tris-repeated, quads-unknown, quads-repeated, points-far}
@@ -26,7 +26,7 @@ module _ (h : Handed) where
   -- one condition after the other
   pub in-turn : number-of (refused h)
       ≡ cond (over-limit h) 1
-      (cond (bad-cosine h) 14
+      (cond (bad-limit h) 14
       (cond (too-short h) 4
       (cond (unknown-node h) 5
       (cond (repeated-node h) 6
@@ -38,7 +38,7 @@ module _ (h : Handed) where
 -- none of the conditions holds
 pub record Clear (h : Handed) : Type 0 where
   pub c1 : over-limit h ≡ false
-  pub c14 : bad-cosine h ≡ false
+  pub c14 : bad-limit h ≡ false
   pub c4 : too-short h ≡ false
   pub c5 : unknown-node h ≡ false
   pub c6 : repeated-node h ≡ false
@@ -49,7 +49,7 @@ module _ (h : Handed) (zero-is : number-of (refused h) ≡ 0) where
   pub clear : Clear h
   clear =
       let h1 = not-taken (over-limit h) 1 _ (omega arith) (sym (in-turn h) ∙ zero-is) in
-      let h14 = not-taken (bad-cosine h) 14 _ (omega arith) (h1 .1) in
+      let h14 = not-taken (bad-limit h) 14 _ (omega arith) (h1 .1) in
       let h4 = not-taken (too-short h) 4 _ (omega arith) (h14 .1) in
       let h5 = not-taken (unknown-node h) 5 _ (omega arith) (h4 .1) in
       let h6 = not-taken (repeated-node h) 6 _ (omega arith) (h5 .1) in
@@ -102,9 +102,12 @@ module _ (h : Handed) where
         joints = ltb-false 1048576 _ (h5 .0);
       }
 
-  pub in-range : bad-cosine h ≡ false → Limit (h .cosine)
-  unfolding bad-cosine ranges
-  in-range e = let b = both (0·5 ≼ h .cosine) (h .cosine ≼ 0·99) (not-false _ e) in record { least = b .0; most = b .1 }
+  pub in-range : bad-limit h ≡ false → Limit (h .cosine) × ((0·5 ≼ h .thin) ≡ true)
+  unfolding bad-limit ranges
+  in-range e =
+      let r = both (0·5 ≼ h .cosine && h .cosine ≼ 0·99) (0·5 ≼ h .thin && h .thin ≼ 1·0) (not-false _ e) in
+      let b = both (0·5 ≼ h .cosine) (h .cosine ≼ 0·99) (r .0) in
+      (record { least = b .0; most = b .1 }, both (0·5 ≼ h .thin) (h .thin ≼ 1·0) (r .1) .0)
 
   pub long : too-short h ≡ false → Long h
   unfolding too-short side-words parent-words sides
@@ -198,6 +201,7 @@ module _ (a : Stated) where
 pub record Passed (h : Handed) : Type 0 where
   pub few : Few h
   pub limit : Limit (h .cosine)
+  pub thin-from : (0·5 ≼ h .thin) ≡ true
   pub long : Long h
   pub given : Tested 3 (h .given) (h .count) (h .given-slice) (h .triangle-slice)
   pub quads : Tested 4 (h .points) (h .quads) (h .point-slice) (h .quad-slice)
@@ -213,7 +217,8 @@ passed h z =
     let n = all-near h (c .c7) in
     record {
       few = few h (c .c1);
-      limit = in-range h (c .c14);
+      limit = in-range h (c .c14) .0;
+      thin-from = in-range h (c .c14) .1;
       long = l;
       given = record { long-points = l .given; long-cells = l .triangles; known = tris-known (h .given) (h .count) (h .triangle-slice) (k .0); near = n .0 };
       quads = record { long-points = l .points; long-cells = l .quads; known = quads-known (h .points) (h .quads) (h .quad-slice) (k .1); near = n .1 };

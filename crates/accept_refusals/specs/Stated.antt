@@ -23,6 +23,7 @@ handed gs ts ps qs ls js cs ws fs a =
       left = a .left;
       joints = a .joints;
       cosine = a .cosine;
+      thin = a .thin;
       given-slice = gs;
       triangle-slice = ts;
       point-slice = ps;

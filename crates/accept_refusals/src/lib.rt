@@ -7,8 +7,8 @@ use crate::nodes::far_point;
 use crate::nodes::repeated_node;
 use crate::nodes::unknown_node;
 ghost use mathlib.Core.Path.{_≡_};
-ghost use mathlib.Core.Bool.{not};
-ghost use Rattle.definition.specs.Floats.{0·5, 0·99};
+ghost use mathlib.Core.Bool.{not, _&&_};
+ghost use Rattle.definition.specs.Floats.{0·5, 0·99, 1·0};
 ghost use Rattle.definition.specs.Call.{ranges};
 ghost use Rattle.refusals.specs.Refusals.{number-of};
 ghost use Rattle.accept.specs.Call.{too-short, refused};
@@ -17,10 +17,12 @@ ghost use Rattle.accept_refusals.specs.Stated.{handed, over, Limited};
 // The most that a list may have.
 const MOST: usize = 1048576;
 
-// The range of the cosine.
+// The least of both limits, the most of that for quads, and the most of that for leftover triangles, which asks nothing.
 const LEAST_COSINE: f64 = 0.5;
 
 const MOST_COSINE: f64 = 0.99;
+
+const MOST_THIN: f64 = 1.0;
 
 // u32 of work for a side of a cell.
 const SIDE_WORDS: usize = 4;
@@ -28,7 +30,8 @@ const SIDE_WORDS: usize = 4;
 // u32 of parents for a leftover triangle.
 const PARENT_WORDS: usize = 2;
 
-// The numbers that the caller states: given points and triangles, points, quads and leftover triangles, joints, and the largest cosine of a corner.
+// The numbers that the caller states: given points and triangles, points, quads and leftover triangles, joints, the largest cosine of a quad's corner,
+// and that of a leftover triangle's corner, where 1 asks nothing.
 pub struct Stated {
     pub given: usize,
     pub count: usize,
@@ -37,6 +40,7 @@ pub struct Stated {
     pub left: usize,
     pub joints: usize,
     pub cosine: f64,
+    pub thin: f64,
 }
 
 // 1: a list is too long.
@@ -64,12 +68,22 @@ fn over_limit(a: Stated) -> bool
     false
 }
 
-// 14: the cosine is out of its range; a NaN is.
-fn bad_cosine(t: f64) -> bool
-    ensures { λ r. ⌜ r ≡ not (ranges 0·5 0·99 t) ⌝ }
+// The number is in the range; a NaN is not.
+fn ranges(low: f64, high: f64, c: f64) -> bool
+    ensures { λ r. ⌜ r ≡ ranges low high c ⌝ }
 {
-    if LEAST_COSINE <= t {
-        return !(t <= MOST_COSINE);
+    if low <= c {
+        return c <= high;
+    }
+    false
+}
+
+// 14: a limit is out of its range.
+fn bad_limit(cosine: f64, thin: f64) -> bool
+    ensures { λ r. ⌜ r ≡ not (ranges 0·5 0·99 cosine && ranges 0·5 1·0 thin) ⌝ }
+{
+    if ranges(LEAST_COSINE, MOST_COSINE, cosine) {
+        return !ranges(LEAST_COSINE, MOST_THIN, thin);
     }
     true
 }
@@ -138,7 +152,7 @@ pub fn refusal(
     if over_limit(a) {
         return 1;
     }
-    if bad_cosine(a.cosine) {
+    if bad_limit(a.cosine, a.thin) {
         return 14;
     }
     if too_short(

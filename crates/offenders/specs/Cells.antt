@@ -1,26 +1,27 @@
 -- The cells in lent slices: what the refusals have tested of them, and the definition's tests by the points of the slice. Assumes nothing.
 use mathlib.Core.Path.{_≡_, subst}
 use mathlib.Core.Bool.{true, false}
+use mathlib.Core.Logic.{_⊎_}
 use mathlib.Core.List.{List}
 use Prim.{tt}
-use Prim.Native.Nat.{ℕ, _+_, _*_, _≤_, _<_}
+use Prim.Native.Nat.{ℕ, _+_, _*_, _^_, _≤_, _<_}
 use native.Mathlib.Omega.{arith}
 use lib.ListN.{length, getD}
 use lib.Ieee.{Float}
-use Rattle.definition.specs.Floats.{_≼_, 0·5, 0·99}
+use Rattle.definition.specs.Floats.{_≺_, _≼_, 0·5, 0·99, 1·0}
 use Rattle.definition.specs.Lists.{table, below}
-use Rattle.definition.specs.Metrics.{Corner, corner-of, corners}
-use Rattle.definition.specs.Cells.{Tri, Quad, new-tri, new-quad}
-use Rattle.definition.specs.Exact.{Arrow, exact-cross, next-side, last-side, Turns-left, Cosine-up-to}
-use Rattle.definition.specs.Call.{point-at, tri-at, first-points, first-tris, outside}
+use Rattle.definition.specs.Metrics.{Corner, corners}
+use Rattle.definition.specs.Cells.{Quad, new-quad}
+use Rattle.definition.specs.Exact.{Arrow, exact-dot, squared, squared-length, next-side, last-side, Up-to-zero, Turns-left, Cosine-up-to}
+use Rattle.definition.specs.Call.{point-at, first-points, outside}
 use Rattle.definition.specs.Account.{All, quad-corners}
 use Rattle.laws.specs.Cells.{point-of}
 use Rattle.exact.specs.Sides.{Same-as}
 use Rattle.plane.specs.Points.{Within, node, ground}
 use Rattle.plane.specs.declared.points.Spot.{Spot}
-use Rattle.accept.specs.Accept.{Judged, turn, failing, is-convex, is-wide, counterclockwise}
+use Rattle.accept.specs.Accept.{Judged, failing, is-convex, is-wide}
 use Rattle.accept.specs.Call.{corners-at}
-use Rattle.accept.specs.Tests.{convex-decides, wide-decides, turn-decides}
+use Rattle.accept.specs.Tests.{convex-decides, wide-decides}
 use Rattle.exact_tests.specs.Nodes.{at, given-at}
 use Rattle.offenders.specs.Search.{Finds}
 use Rattle.offenders.specs.declared.cells.Four.{Four}
@@ -34,10 +35,15 @@ pub record Tested (w m n : ℕ) (points : List Float) (cells : List ℕ) : Type 
   pub known : (i : ℕ) → i < w * n → getD cells i 0 < m
   pub near : (i : ℕ) → i < m → outside (point-at points i) ≡ false
 
--- a limit that has passed refusal 14
+-- a limit for quads that has passed refusal 14
 pub record Limit (t : Float) : Type 0 where
   pub least : (0·5 ≼ t) ≡ true
   pub most : (t ≼ 0·99) ≡ true
+
+-- a limit that the exact test takes
+pub record Below-one (t : Float) : Type 0 where
+  pub least : (0·5 ≼ t) ≡ true
+  pub below : (t ≺ 1·0) ≡ true
 
 -- ---- what is promised, whatever the number m of points that the nodes are below
 
@@ -52,9 +58,6 @@ First-folded ps qs n r =
 abbrev pub First-sharp : List Float → List ℕ → ℕ → Float → ℕ → Type 0
 First-sharp ps qs n t r =
     (m : ℕ) → Tested 4 m n ps qs → (j : Judged) → j .points ≡ first-points m ps → j .cosine ≡ t → Finds n (failing (is-wide j) 0 (quads-in n qs)) r
-
-abbrev pub First-turned : List Float → List ℕ → ℕ → ℕ → Type 0
-First-turned ps ts n r = (m : ℕ) → Tested 3 m n ps ts → Finds n (failing (counterclockwise (first-points m ps)) 0 (first-tris n ts)) r
 
 -- ---- one node
 
@@ -105,6 +108,10 @@ corners-of f = corners (node (f .n0)) (node (f .n1)) (node (f .n2)) (node (f .n3
 -- the corners of a quad by the points of the slice
 abbrev pub corners-in : List Float → Quad → List Corner
 corners-in ps q = corners (point-at ps (q .n0)) (point-at ps (q .n1)) (point-at ps (q .n2)) (point-at ps (q .n3))
+
+-- `Cosine-at-most`, of the corner's sides
+abbrev pub up-to : ℕ → ℕ → Arrow → Arrow → Type 0
+up-to n d u v = Up-to-zero (exact-dot u v) ⊎ (d ^ 2 * squared (exact-dot u v) ≤ n ^ 2 * (squared-length u * squared-length v))
 
 -- a statement of the sides of every corner
 abbrev pub Each : (Arrow → Arrow → Type 0) → List Corner → Type 0
@@ -157,31 +164,3 @@ module _ (m n : ℕ) (ps : List Float) (qs : List ℕ) (h : Tested 4 m n ps qs) 
   wide-is t f =
       subst (λ t. Same-as (All (Cosine-up-to t) (corners-in ps (corners-at qs i))) (is-wide j (corners-at qs i) ≡ true)) f
       (λ a. wide-decides j .complete (corners-at qs i) (rw corners-same a), λ a. rw corners-same at (wide-decides j .sound (corners-at qs i) a))
-
--- ---- a triangle
-
-pub record Names-three (points : List Float) (triangles : List ℕ) (i : ℕ) : Type 0 where
-  pub in0 : Names points triangles (3 * i)
-  pub in1 : Names points triangles (3 * i + 1)
-  pub in2 : Names points triangles (3 * i + 2)
-
--- the corner at its first node
-abbrev pub corner-in : List Float → Tri → Corner
-corner-in ps t = corner-of (point-at ps (t .n2)) (point-at ps (t .n0)) (point-at ps (t .n1))
-
-pub names-three : (m n : ℕ) (ps : List Float) (ts : List ℕ) → Tested 3 m n ps ts → (i : ℕ) → i < n → Names-three ps ts i
-names-three m n ps ts h i l =
-    record { in0 = names 3 m n ps ts h (3 * i) (omega arith); in1 = names 3 m n ps ts h (3 * i + 1) (omega arith); in2 = names 3 m n ps ts h (3 * i + 2) (omega arith) }
-
-module _ (m n : ℕ) (ps : List Float) (ts : List ℕ) (h : Tested 3 m n ps ts) (i : ℕ) (l : i < n) where
-  turn-same : turn (first-points m ps) (tri-at ts i) ≡ exact-cross (next-side (corner-in ps (tri-at ts i))) (last-side (corner-in ps (tri-at ts i)))
-  unfolding turn tri-at new-tri next-side last-side corner-of
-  turn-same =
-      let k0 = h .known (3 * i) (omega arith) in
-      let k1 = h .known (3 * i + 1) (omega arith) in
-      let k2 = h .known (3 * i + 2) (omega arith) in
-      rw (point-of m ps _ k0, point-of m ps _ k1, point-of m ps _ k2)
-
-  pub turn-is : Same-as (Turns-left (corner-in ps (tri-at ts i))) (counterclockwise (first-points m ps) (tri-at ts i) ≡ true)
-  turn-is =
-      (λ a. turn-decides (first-points m ps) .complete (tri-at ts i) (rw turn-same a), λ a. rw turn-same at (turn-decides (first-points m ps) .sound (tri-at ts i) a))

@@ -5,7 +5,7 @@ ghost use Prim.Native.Nat.{ℕ};
 ghost use Rattle.definition.specs.Exact.{Turns-left, Cosine-up-to};
 ghost use Rattle.definition.specs.Account.{All};
 ghost use Rattle.exact.specs.Sides.{Same-as};
-ghost use Rattle.offenders.specs.Cells.{Tested, Limit, Near-four, corners-of, First-folded, First-sharp};
+ghost use Rattle.offenders.specs.Cells.{Tested, Limit, Below-one, Near-four, corners-of, First-folded, First-sharp};
 use crate::cells::Four;
 use crate::cells::four_of;
 use exact_tests::limits::cosine_up_to;
@@ -34,7 +34,7 @@ fn convex(q: Four) -> bool
 
 // The cosines of its four corners are at most t and 1e-9.
 fn blunt(q: Four, t: f64) -> bool
-    requires { ⌜ Near-four q × Limit t ⌝ }
+    requires { ⌜ Near-four q × Below-one t ⌝ }
     ensures { λ r. ⌜ Same-as (r ≡ true) (All (Cosine-up-to t) (corners-of q)) ⌝ }
 {
     let n0 = q.n0;

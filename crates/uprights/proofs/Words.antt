@@ -3,13 +3,13 @@ use mathlib.Core.Path.{_≡_, refl, ap, _∙_, subst, sym}
 use mathlib.Core.Logic.{inl, inr}
 use mathlib.Core.Bool.{Bool, true, false}
 use mathlib.Core.List.{List, [], _∷_}
-use Prim.Native.Nat.{ℕ, zero, suc, _+_, _*_, _-_, _/_, _%_, _≤_, _<_}
+use Prim.Native.Nat.{ℕ, zero, suc, _+_, _*_, _-_, _/_, _%_, _<_}
 use native.Mathlib.Decide.{ℕ-discrete, decLt}
 use native.Mathlib.Omega.{arith}
 use lib.ListN.{length, getD}
 use lib.Ieee.{Float}
-use Rattle.definition.specs.Lists.{table, numbers, below}
-use Rattle.definition.specs.Cells.{Tri, new-tri, tri-nodes}
+use Rattle.definition.specs.Lists.{numbers, below}
+use Rattle.definition.specs.Cells.{new-tri, tri-nodes}
 use Rattle.definition.specs.Call.{tri-at}
 use Rattle.laws.specs.Bools.{which}
 use Rattle.laws.specs.Lists.{table-at, table-length, numbers-length}
@@ -18,7 +18,7 @@ use Rattle.balance.specs.Codes.{next, side-at, either, code}
 use Rattle.balance.specs.Places.{Small, Placed}
 use Rattle.balance.specs.Promise as balance
 use Rattle.balance.proofs.Corners.{next-last, next-inner}
-use Rattle.accept.specs.Accept.{above, over}
+use Rattle.accept.specs.Accept.{above}
 use Rattle.uprights.specs.Promise.{turn-at, upright-at}
 use Rattle.uprights.specs.Sides.{upright-word, upright-words, Corners, Readable}
 
@@ -126,7 +126,7 @@ module _ (q : List Float) (ts : List ℕ) (n : ℕ) where
         | inr e ↦ subst (λ t. getD t k 0 < 1048576) (over-nodes q a b c e) (three a c b k x z y)
       ]
 
--- what `balance` asks, of the words
+-- what the laws of `balance` ask, of the words
 pub readable : {p : List Float} {given : List ℕ} {n : ℕ} {q : List Float} {quads : List ℕ} {k : ℕ} {left : List ℕ} {t : ℕ} {w : List ℕ}
     → Readable p given n q quads k left t w → balance.Readable (upright-words p given n) n quads k (upright-words q left t) t w
 readable {p} {given} {n} {q} {quads} {k} {left} {t} {w} h =

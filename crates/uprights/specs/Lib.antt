@@ -1,3 +1,3 @@
--- Triangles turned upright, in lent slices.
+-- What is asked and promised of triangles of lent slices that are read upright.
 pub mod Sides
 pub mod Promise

@@ -9,7 +9,7 @@ ghost use lib.ListN.{length};
 ghost use Rattle.definition.specs.Cells.{new-tri, tri-nodes};
 ghost use Rattle.balance.specs.Promise.{Answers, given-sides, result-sides};
 ghost use Rattle.balance.specs.Places.{Placed};
-ghost use Rattle.uprights.specs.Promise.{Near, upright-at};
+ghost use Rattle.uprights.specs.Promise.{upright-at};
 ghost use Rattle.uprights.specs.Sides.{upright-words, Corner, Puttable, Readable};
 
 // Times that the sides' numbers, of 41 binary digits, are dealt out and back.
@@ -44,7 +44,8 @@ fn put_uprights(points: &[f64], triangles: &[u32], n: usize, turned: bool, w: &m
     }
 }
 
-// As `balance::balance`, of the given triangles upright by the given points, and the leftover ones by the points.
+// Whether the sides of the given triangles, upright by the given points, and those of the quads and of the leftover triangles, upright by the points, balance
+// between every two nodes; else the least edge where they do not. Four words of w for each side.
 pub fn balance_upright(
     given_points: &[f64],
     given: &[u32],

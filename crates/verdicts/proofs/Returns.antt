@@ -17,8 +17,10 @@ use Rattle.uprights.specs.Promise.{First-flat}
 use Rattle.accept.specs.Accept.{uprights, moved, verdict}
 use Rattle.accept.specs.Call.{Handed, judged, refused, found, refusal}
 use Rattle.accept.specs.Passed.{call-refused, call-answers}
+use Rattle.accept.specs.Thin.{same-thin}
 use Rattle.offenders.specs.Search as search
 use Rattle.offenders.specs.Cells.{First-folded, First-sharp}
+use Rattle.offenders.specs.Triangles.{First-thin}
 use Rattle.accept_refusals.specs.Passed.{Passed, passed, none-holds}
 use Rattle.verdicts.specs.declared.leaves.Found.{Found}
 use Rattle.verdicts.specs.Leaves.{Finds, finds-says}
@@ -68,6 +70,7 @@ pub record Parts (h : Handed) (r : Answered) (components : List ℕ) (f : Found)
   pub sharp-found : First-sharp (h .point-slice) (h .quad-slice) (h .quads) (h .cosine) (r .sharp)
   pub given-found : First-flat (h .given-slice) (h .triangle-slice) (h .count) (r .«given_turned»)
   pub left-found : First-flat (h .point-slice) (h .left-slice) (h .left) (r .«left_turned»)
+  pub thin-found : First-thin (h .point-slice) (h .left-slice) (h .left) (h .thin) (r .thin)
   pub judged-found : Finds (h .given-slice) (h .triangle-slice) (h .count) (h .point-slice) (h .quad-slice) (h .quads) (h .left-slice) (h .left) (h .joint-slice) (h .joints) (h .components) components f
   pub uneven-is : r .uneven ≡ f .uneven
   pub lost-is : r .lost ≡ f .lost
@@ -97,6 +100,7 @@ module _ (h : Handed) (zero-is : number-of (refused h) ≡ 0) where
         let e-sharp = found-place (h .quads) (verdict j .sharp) (r .sharp) (t .sharp-found (h .points) (p .quads) j refl refl) in
         let e-given = place-is (h .count) (r .«given_turned») (verdict j .given-turned) (t .given-found .within) (g .some-is) (g .none-is) in
         let e-left = place-is (h .left) (r .«left_turned») (verdict j .left-turned) (t .left-found .within) (l .some-is) (l .none-is) in
+        let e-thin = found-place (h .left) (verdict (judged h) .thin) (r .thin) (t .thin-found (h .points) (p .left) (judged h) refl refl) ∙ sym (same-thin (judged h)) in
         let e-uneven = ap option (t .uneven-is) ∙ sym (s .uneven-is) in
         let e-lost = ap joints.option (t .lost-is) ∙ sym (s .lost-is) in
         let e-sizes = ap (λ m. take m components) (t .groups-is) ∙ s .sizes-are in
@@ -108,6 +112,7 @@ module _ (h : Handed) (zero-is : number-of (refused h) ≡ 0) where
           sharp = e-sharp i;
           given-turned = e-given i;
           left-turned = e-left i;
+          thin = e-thin i;
           uneven = e-uneven i;
           lost = e-lost i;
           sizes = e-sizes i;

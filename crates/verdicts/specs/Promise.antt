@@ -26,6 +26,7 @@ verdict-of h r components =
       sharp = place (h .quads) (r .sharp);
       given-turned = place (h .count) (r .«given_turned»);
       left-turned = place (h .left) (r .«left_turned»);
+      thin = place (h .left) (r .thin);
       uneven = option (r .uneven);
       lost = joints.option (r .lost);
       sizes = take (r .groups) components;

@@ -1,6 +1,6 @@
--- What `balance`, `edge_lookup` and `groups` found of what an acceptance is handed is what the verdict says.
+-- What `balance_upright`, `lost_joint` and `groups` found of what an acceptance is handed is what the verdict says.
 use mathlib.Core.Path.{_≡_, refl, sym, _∙_, subst}
-use mathlib.Core.Bool.{true, false}
+use mathlib.Core.Bool.{true}
 use mathlib.Core.Option.{Option, none, some}
 use mathlib.Core.List.{List}
 use Prim.Native.Nat.{ℕ, _+_, _<_}
@@ -9,7 +9,6 @@ use native.Mathlib.Omega.{arith}
 use lib.ListN.{take}
 use Rattle.definition.specs.Plane.{Edge}
 use Rattle.definition.specs.Cells.{key, edge-before}
-use Rattle.definition.specs.Components.{component-sizes}
 use Rattle.definition.specs.Call.{tri-at}
 use Rattle.laws.specs.Bools.{fails}
 use Rattle.laws.specs.Cells.{key-up, key-back}
@@ -49,7 +48,7 @@ module _ (h : Handed) where
   balances : (u v : ℕ) → Level (judged h) u v → sides.Balances G R u v
   balances u v l = sym (walked-is u v) ∙ l ∙ walked-is v u
 
-  -- the answer of `balance` is the verdict's uneven edge
+  -- an answer on the sides is the verdict's uneven edge
   pub uneven-is : (r : Answer) → balance.Answers G R r → verdict (judged h) .uneven ≡ option r
   unfolding verdict
   uneven-is Balanced a = names-least (judged h) .holds-none (λ u v. level u v (a u v))

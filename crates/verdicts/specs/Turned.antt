@@ -35,6 +35,7 @@ with-slices h tris left =
       left = h .left;
       joints = h .joints;
       cosine = h .cosine;
+      thin = h .thin;
       given-slice = h .given-slice;
       triangle-slice = tris;
       point-slice = h .point-slice;
@@ -55,11 +56,6 @@ pub record Uprighted (h : Handed) (tris left : List ℕ) : Type 0 where
 pub record Known (h : Handed) : Type 0 where
   pub given-known : turned.Of-points (h .triangle-slice) (h .count) (h .given)
   pub left-known : turned.Of-points (h .left-slice) (h .left) (h .points)
-
--- what `put_uprights` left in two slices
-pub stored-upright : (h : Handed) → Known h → (given-old tris left-old left : List ℕ)
-    → turned.Turned (h .given-slice) (h .triangle-slice) (h .count) given-old tris → turned.Turned (h .point-slice) (h .left-slice) (h .left) left-old left → Uprighted h tris left
-stored-upright h k given-old tris left-old left a b = record { given-are = a .are (h .given) (k .given-known); left-are = b .are (h .points) (k .left-known) }
 
 -- the lists that `balance_upright` reads off
 abbrev pub tris-upright : Handed → List ℕ
@@ -89,11 +85,12 @@ judged-upright h tris left u =
       left = f i;
       joints = judged h .joints;
       cosine = judged h .cosine;
+      thin = judged h .thin;
     }
 
 -- ---- the verdict on the mesh with its triangles upright
 
--- what `balance` answers of slices that hold them
+-- what is answered of slices that hold them
 pub uneven-upright : (h : Handed) (tris left : List ℕ) → Uprighted h tris left → (r : Answer)
     → balance.Answers (balance.given-sides tris (h .count)) (balance.result-sides (h .quad-slice) (h .quads) left (h .left)) r
     → verdict (uprights (judged h)) .uneven ≡ option r
@@ -107,7 +104,7 @@ uneven-read h k r a = uneven-upright h (tris-upright h) (left-upright h) (read-u
 
 -- a joint stands whichever way the triangles are wound
 alone : Judged → Edge → Judged
-alone j e = record { given = j .given; tris = j .tris; points = j .points; quads = j .quads; left = j .left; joints = e ∷ []; cosine = j .cosine }
+alone j e = record { given = j .given; tris = j .tris; points = j .points; quads = j .quads; left = j .left; joints = e ∷ []; cosine = j .cosine; thin = j .thin }
 
 same-stands : (j : Judged) (e : Edge) → stands (uprights j) e ≡ stands j e
 unfolding stands alone

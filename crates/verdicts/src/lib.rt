@@ -10,6 +10,7 @@ use lost_joints::Lost;
 use offenders::points::first_moved;
 use offenders::quads::first_folded;
 use offenders::quads::first_sharp;
+use offenders::triangles::first_thin;
 use uprights::first_flat;
 ghost use mathlib.Core.Path.{_≡_};
 ghost use Prim.Native.Nat.{_-_};
@@ -28,6 +29,7 @@ pub struct Answered {
     pub sharp: usize,
     pub given_turned: usize,
     pub left_turned: usize,
+    pub thin: usize,
     pub uneven: Answer,
     pub lost: Lost,
     pub groups: usize,
@@ -66,6 +68,7 @@ fn answer(
     let sharp = first_sharp(points, quads, a.quads, a.cosine);
     let given_turned = first_flat(given, triangles, a.count);
     let left_turned = first_flat(points, left, a.left);
+    let thin = first_thin(points, left, a.left, a.thin);
     let found = judge(
         given,
         triangles,
@@ -93,6 +96,7 @@ fn answer(
         sharp,
         given_turned,
         left_turned,
+        thin,
         uneven,
         lost,
         groups: found.components,
@@ -136,6 +140,7 @@ pub fn accept(
             sharp: 0,
             given_turned: 0,
             left_turned: 0,
+            thin: 0,
             uneven: Answer::Balanced,
             lost: Lost::Nothing,
             groups: 0,

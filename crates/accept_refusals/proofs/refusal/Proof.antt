@@ -2,7 +2,7 @@
 use mathlib.Core.Path.{_≡_, sym, _∙_}
 use mathlib.Core.Bool.{false}
 use borrow.Author.Needs.{needs}
-use Rattle.accept.specs.Call.{Handed, most, judged, over-limit, bad-cosine, too-short, unknown-node, repeated-node, far-point, bad-joints}
+use Rattle.accept.specs.Call.{Handed, most, judged, over-limit, bad-limit, too-short, unknown-node, repeated-node, far-point, bad-joints}
 use Rattle.accept_refusals.specs.Stated.{handed, over}
 use Rattle.accept_refusals.specs.Passed.{in-turn, Long, long, limited}
 use Rattle.accept_refusals.proofs.refusal.Statement.{statement}
@@ -44,9 +44,9 @@ test-1 : (c : tie.After-over-limit) → c .over-limit .result ≡ over-limit (ha
 unfolding over over-limit most
 test-1 c = c .over-limit .ensures
 
-test-14 : (c : tie.After-bad-cosine) → c .bad-cosine .result ≡ bad-cosine (hand (top1 (c .before)))
-unfolding bad-cosine
-test-14 c = c .bad-cosine .ensures
+test-14 : (c : tie.After-bad-limit) → c .bad-limit .result ≡ bad-limit (hand (top1 (c .before)))
+unfolding bad-limit
+test-14 c = c .bad-limit .ensures
 
 test-5 : (c : tie.After-unknown-node) → c .unknown-node .result ≡ unknown-node (hand3 (c .before))
 unfolding unknown-node judged
@@ -69,7 +69,7 @@ test-13 c = c .bad-joints .ensures
 no-1 : (c : tie.Else1) → over-limit (hand (top1 c)) ≡ false
 no-1 c = sym (test-1 (c .before)) ∙ c .if1 .left
 
-no-14 : (c : tie.Else2) → bad-cosine (hand (top1 (top2 c))) ≡ false
+no-14 : (c : tie.Else2) → bad-limit (hand (top1 (top2 c))) ≡ false
 no-14 c = sym (test-14 (c .before)) ∙ c .if2 .left
 
 no-4 : (c : tie.Else3) → too-short (hand3 c) ≡ false

@@ -39,8 +39,11 @@ first-flat-requires c κs = let k = c .before .before .before .before in readabl
 first-flat-requires-2 : tie.Need-first-flat-requires-2
 first-flat-requires-2 c κs = let k = c .before .before .before .before .before in readable _ _ _ _ (pass k .left)
 
+first-thin-requires : tie.Need-first-thin-requires
+first-thin-requires c κs = let k = c .before .before .before .before .before .before in ((start k .args .a .points, pass k .left), pass k .thin-from)
+
 judge-requires : tie.Need-judge-requires
-judge-requires c κs = let k = c .before .before .before .before .before .before .before .before .before in judgeable (hand k) (pass k)
+judge-requires c κs = let k = c .before .before .before .before .before .before .before .before .before .before in judgeable (hand k) (pass k)
 
 returns : tie.Need-returns
 returns c =
@@ -49,7 +52,8 @@ returns c =
     let q = x1 .before .before .before .before .before in
     let w = q .before .before in
     let j = w .before in
-    let l2 = j .before .before .before .before in
+    let th = j .before .before .before .before in
+    let l2 = th .before in
     let l1 = l2 .before in
     let sh = l1 .before in
     let fo = sh .before in
@@ -64,6 +68,7 @@ returns c =
       sharp-found = sh .first-sharp .ensures;
       given-found = l1 .first-flat .ensures;
       left-found = l2 .first-flat2 .ensures;
+      thin-found = th .first-thin .ensures;
       judged-found = j .judge .ensures;
       uneven-is = refl;
       lost-is = refl;
@@ -85,6 +90,7 @@ answer-spec =
     first-sharp-requires
     first-flat-requires
     first-flat-requires-2
+    first-thin-requires
     judge-requires
     (λ c κs. search needs) (λ c κs. search needs) (λ c. search needs) (λ c. search needs) (λ c. search needs)
     returns)

@@ -1,7 +1,6 @@
 -- `offenders::quads::first_sharp` meets its contract: the quads passed have no sharp corner. Assumes nothing.
 use mathlib.Core.Path.{_≡_}
 use mathlib.Core.Bool.{true}
-use mathlib.Core.Logic.{_⊎_}
 use Prim.{absurd}
 use Prim.Native.Nat.{ℕ, _+_, _*_, _-_, _^_, _≤_, _<_}
 use native.Mathlib.Nat.{not-suc-le-zero}
@@ -9,19 +8,16 @@ use native.Mathlib.Omega.{arith}
 use lib.IntN.{natAbs}
 use borrow.Author.Count.{below-more}
 use borrow.Author.Tests.{not-true, not-false}
-use Rattle.definition.specs.Exact.{Arrow, units, exact-dot, squared, squared-length, Up-to-zero, Cosine-up-to}
+use Rattle.definition.specs.Exact.{units, Cosine-up-to}
 use Rattle.definition.specs.Account.{All}
+use Rattle.exact.specs.Limits.{limit-range}
 use Rattle.exact.specs.Sides.{Same-as}
 use Rattle.accept.specs.Accept.{is-wide}
 use Rattle.accept.specs.Call.{corners-at}
 use Rattle.offenders.specs.Search.{stops-here, ends-here}
-use Rattle.offenders.specs.Cells.{corners-in, names-four, near-four, each-at, wide-is}
+use Rattle.offenders.specs.Cells.{up-to, corners-in, names-four, near-four, each-at, wide-is}
 use Rattle.offenders.proofs.quads.first_sharp.Statement.{statement}
 use Rattle.offenders.proofs.quads.first_sharp.Tie as tie
-
--- `Cosine-at-most`, of the corner's sides
-abbrev up-to : ℕ → ℕ → Arrow → Arrow → Type 0
-up-to n d u v = Up-to-zero (exact-dot u v) ⊎ (d ^ 2 * squared (exact-dot u v) ≤ n ^ 2 * (squared-length u * squared-length v))
 
 abbrev Inv-loop : tie.InvT-loop
 Inv-loop points quads n t i₀ i = (i ≤ n) × ((k : ℕ) → k < i → All (Cosine-up-to t) (corners-in points (corners-at quads k)))
@@ -41,7 +37,10 @@ four-of-requires c κs =
     names-four (s .pre .0 .0) (s .args .n) (s .args .points .now) (s .args .quads .now) (s .pre .0 .1) (c .before .loop .i) (c .loop-test .taken)
 
 blunt-requires : tie.Need-blunt-requires Inv-loop μ-loop
-blunt-requires c κs = (near-four _ _ _ (c .four-of .ensures), start (c .before .before) .pre .1)
+blunt-requires c κs =
+    let s = start (c .before .before) in
+    let l = s .pre .1 in
+    (near-four _ _ _ (c .four-of .ensures), record { least = l .least; below = limit-range (s .args .t) (s .good .1 .1 .1 .0 .1) (l .least) (l .most) .below-one })
 
 -- the test is of the points of the slice
 tested : (c : tie.After-blunt Inv-loop μ-loop) → let g = c .before .before .before in let a = start g .args in

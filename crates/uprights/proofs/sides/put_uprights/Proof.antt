@@ -1,6 +1,5 @@
 -- The places passed have the numbers of the sides of upright triangles.
 use native.Mathlib.Omega.{arith}
-use native.Mathlib.Nat.{not-suc-le-zero}
 use mathlib.Core.Path.{_≡_, refl, _∙_}
 use Prim.{absurd}
 use Prim.Native.Nat.{ℕ, _+_, _*_, _-_, _≤_, _<_}

@@ -1,7 +1,7 @@
 -- The odd ones passed are counted.
 use native.Mathlib.Omega.{arith}
-use mathlib.Core.Path.{_≡_, ap, sym, _∙_}
-use Prim.Native.Nat.{ℕ, _-_, _%_, _≤_}
+use mathlib.Core.Path.{_≡_, ap, _∙_}
+use Prim.Native.Nat.{_-_, _%_, _≤_}
 use borrow.Author.Needs.{needs}
 use lib.ListN.{take}
 use Rattle.accept.specs.Accept.{odd-ones}
