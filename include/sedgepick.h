@@ -11,7 +11,8 @@
  * whatever rounding mode, FTZ, DAZ or trap that is. Who links the bare archive owes the default himself: MXCSR is 0x1F80 but for its flags, as after a program's start.
  * Under another mode nothing of what is said here is promised of the bare functions.
  *
- * Stack: a call takes at most 20 KB of stack; c/test_guard.c measures every function, on meshes of 4,050 triangles 15 KB at most.
+ * Stack: a call takes at most 20 KB of stack, whatever it is given: no function calls itself, and the frames along the deepest path are 14 KB (read off the machine code by the
+ * tests, which also measure 15 KB with the layer around it).
  *
  * SPDX-License-Identifier: MIT
  */

@@ -94,6 +94,8 @@ def child(call, limits, out):
             parts = [MEMORY]
         except Fault as fault:
             parts = [FAULT, str(fault).encode('utf-8', 'backslashreplace')]
+        except Exception as error:
+            parts = [FAULT, ('what is read makes no mesh, %s: %s. Mend the file or write it anew' % (type(error).__name__, str(error)[:200])).encode('utf-8', 'backslashreplace')]
         with open(out, 'wb') as pipe:
             pipe.writelines(parts)
         os._exit(0)

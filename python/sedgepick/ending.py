@@ -1,5 +1,5 @@
 """How a run ends before its time: by Ctrl-C, by SIGTERM or SIGHUP, or when its seconds are over. The files made so far, METIS and its folder go along."""
-import contextlib, os, signal, sys, threading, time
+import contextlib, os, signal, sys, threading, time, traceback
 
 STOPS = (signal.SIGINT, signal.SIGTERM, signal.SIGHUP)
 GRACE = 5.0  # seconds that an ended child has to clear its files away, or to finish giving them their names
@@ -36,6 +36,8 @@ def naming():
 def ended(work, seconds, say):
     """The exit status of the work; 128 and the signal's number where a signal ended it. Calls that still run in threads are not waited for."""
     before = handle(stop)
+    if before:
+        signal.signal(signal.SIGCHLD, signal.SIG_DFL)  # where it is ignored, no child's status is known
     try:
         return within(work, seconds, say) if seconds else work()
     except Stopped as stopped:
@@ -50,8 +52,15 @@ def ended(work, seconds, say):
 def leave_threads(status):
     """Ends the process at once where threads are still at work; they have nothing but memory."""
     if threading.active_count() > 1:
+        leave(status)
+
+
+def leave(status):
+    """Ends the process at once, whatever becomes of its last words."""
+    try:
         sys.stdout.flush()
         sys.stderr.flush()
+    finally:
         os._exit(status)
 
 
@@ -86,10 +95,10 @@ def live(work):
         status = work()
     except Stopped as stopped:
         status = stopped.status
+    except BaseException:
+        traceback.print_exc()
     finally:
-        sys.stdout.flush()
-        sys.stderr.flush()
-        os._exit(status)
+        leave(status)
 
 
 def waited(child, seconds):

@@ -65,8 +65,8 @@ def reading_form(path, given):
 
 
 @contextlib.contextmanager
-def copied(path):
-    """(name of a copy that nobody else can change, SHA-256 of its bytes). It is in memory, and gone afterwards."""
+def copied(path, most):
+    """(name of a copy that nobody else can change, SHA-256 of its bytes). It is in memory, and gone afterwards; a file of over so many megabytes is refused."""
     if os.path.isdir(path):
         raise Fault('it is a folder; name a mesh file')
     try:
@@ -82,6 +82,8 @@ def copied(path):
         if not stat.S_ISREG(os.fstat(given).st_mode):
             raise Fault('it is a device, a FIFO or a socket: name a regular file')
         while part := os.read(given, 1 << 20):
+            if os.fstat(copy).st_size + len(part) > most << 20:
+                raise Fault('it has over %d MB, and reading takes more memory than that; --read-memory allows more' % most)
             digest.update(part)
             while part:
                 part = part[os.write(copy, part):]
@@ -103,7 +105,7 @@ def read(path, form=None, limits=apart.Limits()):
 
 def taken(path, form, limits, take):
     """(what `take` makes of the mesh that meshio reads, SHA-256 of the bytes); both in a child with limits."""
-    with copied(path) as (copy, sha256):
+    with copied(path, limits.megabytes) as (copy, sha256):
         form = reading_form(path, form)
         try:
             return apart.run(lambda: read_here(copy, form, take), limits, 'reading it as %s' % form), sha256
@@ -125,6 +127,7 @@ def show_names(surface):
 def read_here(path, form, take):
     """What is taken of a file, read in this process, which from then on opens no other."""
     numbering.watch()
+    watched = None
     try:
         with quiet() as said, numpy.errstate(all='ignore'):
             if form in HDF5:
@@ -139,8 +142,7 @@ def read_here(path, form, take):
     except (Fault, MemoryError):
         raise
     except (Exception, SystemExit) as error:
-        found = locals().get('watched')
-        words = (form in XML and xml_words(path)) or '; '.join(filter(None, (found and found.place(), fault_words(error, said.getvalue())))) or type(error).__name__
+        words = (form in XML and xml_words(path)) or '; '.join(filter(None, (watched and watched.place(), fault_words(error, said.getvalue())))) or type(error).__name__
         raise Fault('meshio cannot read it as %s: %s. Mend the file or write it anew; if it has another format, say it with --from' % (form, words))
     words = lacking(path, form, sum(len(block.data) for block in mesh.cells))
     if words:
@@ -154,7 +156,7 @@ def missing(error, form):
 
 
 def surface_of(mesh):
-    """What the command takes of a mesh, names of groups as they may be shown; its own name is left out."""
+    """What the command takes of a mesh, but for the file's name."""
     kinds = {}
     for block in mesh.cells:
         kinds[block.type] = kinds.get(block.type, 0) + len(block.data)

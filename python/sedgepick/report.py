@@ -151,9 +151,10 @@ def job_rows(works, job):
 
 def digests(work):
     """By which the file that was read and the one that was written can be told from others."""
-    output = work.options.output
-    return [('SHA-256 of %s' % work.surface.name, work.surface.sha256),
-            ('SHA-256 of %s' % ('standard output' if output == '-' else os.path.basename(output)), work.outputs.digest(output))]
+    output, read = work.options.output, work.surface.name
+    made = 'standard output' if output == '-' else os.path.basename(output)
+    kinds = (' as read', ' as written') if read == made else ('', '')
+    return [('SHA-256 of %s%s' % (read, kinds[0]), work.surface.sha256), ('SHA-256 of %s%s' % (made, kinds[1]), work.outputs.digest(output))]
 
 
 def library_rows():

@@ -64,6 +64,12 @@ class Limits(Apart):
         self.assertEqual(len(files.read(self.put('tag.msh', MSH % (200000, 200000))).points), 4)
         self.refused('takes over 64 MB', self.put('tag.msh', MSH % (20000000, 20000000)), '-o', self.out, '--read-memory', '64')
 
+    def test_a_file_of_gigabytes(self):
+        """It is not copied to its end."""
+        with open(self.path('a.msh'), 'wb') as file:
+            file.truncate(1 << 40)
+        self.refused('it has over 64 MB', self.path('a.msh'), '-o', self.out, '--read-memory', '64')
+
     def test_packed_data(self):
         """A few bytes that unpack to gigabytes."""
         blocks, size = 1 << 12, 1 << 20
@@ -89,6 +95,8 @@ class Limits(Apart):
         for number in (signal.SIGSEGV, signal.SIGABRT):
             with self.assertRaisesRegex(surfaces.Fault, 'reading it ended by signal %d, a fault of the reader' % number):
                 apart.run(lambda: os.kill(os.getpid(), number), apart.Limits(), 'reading it')
+        with self.assertRaisesRegex(surfaces.Fault, 'what is read makes no mesh, ZeroDivisionError'):
+            apart.run(lambda: 1 // 0, apart.Limits(), 'reading it')
         with self.assertRaisesRegex(surfaces.Fault, 'failed without words'):
             apart.run(lambda: os._exit(3), apart.Limits(), 'reading it')
 

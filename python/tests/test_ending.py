@@ -103,6 +103,13 @@ class Ending(Case):
         self.assertEqual(cutter, 'bisection')
         self.assertRegex(notes[0], 'since METIS takes over 0.3 s')
 
+    def test_ignored_children(self):
+        """Started by a program that ignores SIGCHLD."""
+        for more in ([], ['--seconds', '60']):
+            ran = subprocess.run([sys.executable, COMMAND, L_SLAB, '-o', self.out, *more], capture_output=True, text=True,
+                                 preexec_fn=lambda: signal.signal(signal.SIGCHLD, signal.SIG_IGN))
+            self.assertEqual(ran.returncode, 0, ran.stderr)
+
     def test_seconds(self):
         begin = time.monotonic()
         self.ends(self.begun(self.long, '-o', self.out, '--seconds', '1.5'), 1, 'it takes over 1.5 s and was ended; nothing is written', 12.0)

@@ -1,7 +1,7 @@
 """Tests of the layer in C between a caller and the proved library: the floating point, the stack, other versions, sanitizers."""
 import ctypes, glob, os, pickle, shutil, subprocess, sys, tempfile, unittest
 from common import ARCHIVE, PACKAGES, ROOT, grid, make_library
-import sedgepick
+import sedgepick, stack_use
 from sedgepick import library
 
 SHARED = os.path.join(ROOT, 'target', 'shared')
@@ -39,6 +39,14 @@ class Floats(Built):
         self.assertRegex(ran.stdout, r'^ok, \d+ bytes of stack\n$')
         with open(os.path.join(ROOT, 'include', 'sedgepick.h')) as file:
             self.assertIn('at most 20 KB of stack', file.read())
+
+    @unittest.skipUnless(shutil.which('objdump'), 'objdump is not installed')
+    def test_stack_of_the_code(self):
+        """No proved function calls itself or what it is handed, so the frames along the deepest path bound the stack on every input."""
+        found = stack_use.deepest(ARCHIVE)
+        self.assertIn('sedgepick_run_front_with', found)
+        self.assertGreater(found['sedgepick_run_front_with'], 1000)
+        self.assertLess(max(found.values()), 19 * 1024)  # a KB is left for the layer around it and the C library
 
     def test_bare(self):
         """The same test fails on the bare archive: it can tell."""

@@ -31,6 +31,14 @@ class Record(Case):
         self.assertRegex(words, r'SHA-256 of l-slab-41.msh +%s\n' % sha256(L_SLAB))
         self.assertRegex(words, r'SHA-256 of out.msh +%s\n' % sha256(self.out))
 
+    def test_one_name(self):
+        """The file that is read and the one that is written can be told apart."""
+        os.mkdir(self.path('out'))
+        made = self.path('out/l-slab-41.msh')
+        words = self.report(L_SLAB, '-o', made)
+        self.assertRegex(words, r'SHA-256 of l-slab-41.msh as read +%s\n' % sha256(L_SLAB))
+        self.assertRegex(words, r'SHA-256 of l-slab-41.msh as written +%s\n' % sha256(made))
+
     def test_a_file_that_is_exchanged_meanwhile(self):
         """The digest is that of the bytes that were meshed."""
         own = shutil.copy(L_SLAB, self.path('own.msh'))
