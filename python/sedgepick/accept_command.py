@@ -151,9 +151,6 @@ def report_of(pair, page):
 
 def main(words=None):
     options = arguments(words)
-    if verdicts.accept is None:
-        print('sedgepick-accept: this package has no acceptance', file=sys.stderr)
-        return 2
     try:
         pair = Pair(options)
         if options.report:

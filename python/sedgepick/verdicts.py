@@ -3,14 +3,10 @@ import math
 from dataclasses import dataclass
 import numpy
 from . import losses, meshes, quality, slits, writing
+from .acceptance import accept
 from .fitting import power_within
 from .front import FAR
 from .surfaces import Fault
-
-try:
-    from .acceptance import accept
-except ImportError:  # a package without it: meshes are written unjudged, and the command says so
-    accept = None
 
 
 @dataclass(frozen=True)
@@ -82,9 +78,6 @@ def judge(work, path, nodes):
     """Reads the file back, takes its nodes back to the given numbers and has it judged: a Fault where it is not accepted, a warning where thin triangles are the given
     mesh's own."""
     options, surface, points = work.options, work.surface, work.points.copy()
-    if accept is None:
-        surface.notes.append('this package has no acceptance: the mesh is not judged')
-        return
     form = writing.writing_form(options.output, options.to)
     turned = lambda cells: cells[:, ::-1] if surface.clockwise else cells
     found = meshes.read_written(path, form)

@@ -14,8 +14,6 @@ SLAB = os.path.join(FILES, 'l-slab-41.msh')
 
 def setUpModule():
     set_up()
-    if verdicts.accept is None:
-        raise unittest.SkipTest('this package has no acceptance')
 
 
 class Judging(Case):

@@ -193,10 +193,8 @@ pub fn accept(judged: &Judged) -> Result<Verdict, Refusal> {
             answer.len(),
         )
     };
-    match Refusal::of_number(number) {
-        Some(refusal) => Err(refusal),
-        None => Ok(verdict(judged, &answer, components)),
-    }
+    Refusal::check(number)?;
+    Ok(verdict(judged, &answer, components))
 }
 
 /// The verdict that the numbers say.
