@@ -512,7 +512,7 @@ enum sedgepick_accept {
  * thin          the largest cosine of a leftover triangle's corner: 0.5 to 1, and 1 (SEDGEPICK_ANY_TRIANGLE) asks nothing. Exact in the same way.
  * answer        13 numbers (SEDGEPICK_ACCEPT_NUMBERS), written only where 0 is returned; entries past them are as they were.
  *
- * Triangles may run either way: a given or leftover triangle that runs clockwise is turned over before its sides are counted. Sides balance where for each two
+ * Triangles may run either way: a given or leftover triangle that does not run counterclockwise is turned over before its sides are counted. Sides balance where for each two
  * nodes u and v the sides from u to v of given triangles and those from v to u of judged cells are as many as the sides from v to u of given triangles and those from
  * u to v of judged cells.
  *
