@@ -100,7 +100,7 @@ class Pair:
     def sections(self):
         """[(title, rows)] of the report."""
         options, faults = self.options, dict(self.faults())
-        rows = [(name, faults.get(name, words)) for name, words in self.found.rows()]
+        rows = [(name, 'no: %s' % faults[name] if name in faults else words) for name, words in self.found.rows()]
         return [('Files', [('given', options.given), ('SHA-256 of it', self.surface.sha256), ('judged', options.judged), ('SHA-256 of it', self.sha256),
                            ('asked of quads', 'a cosine of at most %.14g and 1e-9' % options.cosine), ('asked of triangles', 'an angle of at least %g degrees' % options.thin if options.thin else 'nothing'),
                            ('nodes matched', 'bit for bit' if not options.near else 'within %g%s' % (options.near, self.near_words())),

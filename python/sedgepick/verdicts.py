@@ -49,7 +49,7 @@ class Judged:
     def rows(self):
         """[(name, words)] for the report."""
         groups = [int(size) for size in self.verdict.sizes]
-        return [('accepted', 'yes, by the proved accept, exactly' if self.verdict.accepted else 'no'), *((name, words or 'yes') for name, words in self.clauses()),
+        return [('accepted', 'yes, by the proved accept, exactly' if self.verdict.accepted else 'no'), *((name, 'no: %s' % words if words else 'yes') for name, words in self.clauses()),
                 ('nodes added', self.verdict.added),
                 ('groups of triangles', '%d, %d of them odd%s' % (len(groups), self.verdict.odd, ', the largest of %d' % max(groups) if groups else ''))]
 

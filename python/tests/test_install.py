@@ -120,6 +120,9 @@ class Install(unittest.TestCase):
         made = run(os.path.join(ROOT, 'tools', 'install'), self.prefix, ARCHIVE)
         self.assertEqual(made.returncode, 0, made.stderr)
         self.assertFalse(os.path.exists(os.path.join(packages, 'sedgepick', 'gone.py')))
+        for name in ('sedgepick-mesh', 'sedgepick-accept'):
+            self.assertTrue(os.access(os.path.join(self.prefix, 'bin', name), os.X_OK))
+        self.assertTrue(os.path.exists(os.path.join(packages, 'sedgepick', 'finishing', 'walks.py')))
         self.assertEqual([name for name in os.listdir(packages) if name.endswith('.dist-info')], ['sedgepick-%s.dist-info' % VERSION])
 
     def test_a_library_from_before(self):
