@@ -160,41 +160,43 @@ pub fn accept(judged: &Judged) -> Result<Verdict, Refusal> {
     let mut work = room(SIDE_WORDS * (3 * count + 4 * quads + 3 * left));
     let mut parents = room(PARENT_WORDS * left);
     let mut answer = [0; VERDICT_NUMBERS];
-    // Each pointer comes with the length of its slice; those written to are exclusive, and the function asks nothing else.
-    let number = unsafe {
-        sedgepick_accept(
-            judged.given_points.as_flattened().as_ptr(),
-            3 * given,
-            judged.given_triangles.as_flattened().as_ptr(),
-            3 * count,
-            judged.points.as_flattened().as_ptr(),
-            3 * points,
-            judged.quads.as_flattened().as_ptr(),
-            4 * quads,
-            judged.triangles.as_flattened().as_ptr(),
-            3 * left,
-            judged.joints.as_flattened().as_ptr(),
-            2 * joints,
-            components.as_mut_ptr(),
-            components.len(),
-            work.as_mut_ptr(),
-            work.len(),
-            parents.as_mut_ptr(),
-            parents.len(),
-            given,
-            count,
-            points,
-            quads,
-            left,
-            joints,
-            judged.cosine,
-            judged.thin,
-            answer.as_mut_ptr(),
-            answer.len(),
-        )
-    };
+    let number = judge(
+        judged,
+        &mut components,
+        &mut work,
+        &mut parents,
+        &mut answer,
+    );
     Refusal::check(number)?;
     Ok(verdict(judged, &answer, components))
+}
+
+/// One call of the library over memory that is lent.
+fn judge(
+    judged: &Judged,
+    components: &mut [u32],
+    work: &mut [u32],
+    parents: &mut [u32],
+    answer: &mut [usize; VERDICT_NUMBERS],
+) -> usize {
+    let doubles = |points: &[[f64; 3]]| (points.as_flattened().as_ptr(), 3 * points.len());
+    let (given_points, given_points_len) = doubles(judged.given_points);
+    let (points, points_len) = doubles(judged.points);
+    let triangles = judged.given_triangles.as_flattened();
+    let quads = judged.quads.as_flattened();
+    let left = judged.triangles.as_flattened();
+    let joints = judged.joints.as_flattened();
+    // Each pointer comes with the length of its slice; those written to are exclusive, and the function asks nothing else.
+    #[rustfmt::skip]
+    let number = unsafe {
+        sedgepick_accept(
+            given_points, given_points_len, triangles.as_ptr(), triangles.len(), points, points_len, quads.as_ptr(), quads.len(), left.as_ptr(), left.len(),
+            joints.as_ptr(), joints.len(), components.as_mut_ptr(), components.len(), work.as_mut_ptr(), work.len(), parents.as_mut_ptr(), parents.len(),
+            judged.given_points.len(), judged.given_triangles.len(), judged.points.len(), judged.quads.len(), judged.triangles.len(), judged.joints.len(),
+            judged.cosine, judged.thin, answer.as_mut_ptr(), answer.len(),
+        )
+    };
+    number
 }
 
 /// The verdict that the numbers say.
