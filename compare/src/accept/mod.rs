@@ -94,7 +94,7 @@ impl Tally {
 struct Found {
     kinds: BTreeMap<&'static str, Tally>,
     /// The words of calls that differ, with what differs.
-    differences: Vec<(String, &'static str)>,
+    differences: Vec<(String, String)>,
 }
 
 impl Found {
@@ -112,6 +112,8 @@ impl Found {
                 let (least, room) = shrink::shrunk(&handed, &lent, |h, lent| {
                     difference(h, lent, &h.verdict(lent)).is_some()
                 });
+                let verdict = least.verdict(&room);
+                let what = difference(&least, &room, &verdict).unwrap_or(what);
                 let words = Stored::new(least, &room).call();
                 self.differences.push((words, what));
             }
@@ -122,7 +124,7 @@ impl Found {
 }
 
 /// What differs between the library's call and the reference's verdict, where anything does.
-fn difference(h: &Handed, before: &Lent, verdict: &Result<Verdict, u32>) -> Option<&'static str> {
+fn difference(h: &Handed, before: &Lent, verdict: &Result<Verdict, u32>) -> Option<String> {
     let (mut got, mut want) = (before.clone(), before.clone());
     let number = call::port(h, &mut got);
     let wanted = match verdict {
@@ -139,7 +141,13 @@ fn difference(h: &Handed, before: &Lent, verdict: &Result<Verdict, u32>) -> Opti
         ("the work", got.work != want.work),
         ("the parents", got.parents != want.parents),
     ];
-    parts.iter().find(|p| p.1).map(|p| p.0)
+    let what = parts.iter().find(|p| p.1)?.0;
+    let told = |number: usize, l: &Lent| match number {
+        0 => format!("{:?}", l.answer),
+        n => format!("refused with {n}"),
+    };
+    let (port, reading) = (told(number, &got), told(wanted, &want));
+    Some(format!("{what}\n  port {port}\n  reading {reading}"))
 }
 
 /// Compares the meshes of the seed; true where no verdict differs.
@@ -155,7 +163,7 @@ pub fn run(seed: u64, count: u64, threads: u64) -> bool {
     let sums = print(&all.kinds);
     all.differences.sort_by_key(|(words, _)| words.len());
     for (words, what) in all.differences.iter().take(SHOWN) {
-        eprintln!("{what} of\n{words}");
+        eprintln!("{what}\n{words}");
     }
     let largest = largest::agree();
     println!(
