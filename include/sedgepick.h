@@ -1,4 +1,4 @@
-/* Sedgepick: quads from the triangles of a plane mesh, by an advancing front; and an order in which an archive can keep meshes.
+/* Sedgepick: quads from the triangles of a plane mesh, by an advancing front; a verdict on finished meshes; and an order in which an archive can keep meshes.
  *
  * The functions are proved. They end on every input; a finished mesh is the one that a short definition fixes, bit for bit, and each of its quads is, in
  * exact arithmetic, convex, counterclockwise and without a corner under 24.99 degrees; the order is total on the meshes that it accepts. They allocate
@@ -456,6 +456,83 @@ size_t sedgepick_sheet(
     const uint32_t *quads, size_t quads_len,
     double *out, size_t out_len,
     size_t given, size_t count,
+    size_t *answer, size_t answer_len);
+
+/* Most entries of each list of an acceptance. */
+#define SEDGEPICK_MOST_JUDGED 1048576
+
+/* Lengths of the slices that an acceptance is lent: 4 words for each side of a given triangle and of a cell, 2 words and 1 word for a leftover triangle. */
+#define SEDGEPICK_ACCEPT_WORK(count, quad_count, left_count) (4 * (3 * (size_t)(count) + 4 * (size_t)(quad_count) + 3 * (size_t)(left_count)))
+#define SEDGEPICK_ACCEPT_PARENTS(left_count) (2 * (size_t)(left_count))
+#define SEDGEPICK_ACCEPT_COMPONENTS(left_count) ((size_t)(left_count))
+
+/* A limit for leftover triangles that asks nothing of them. */
+#define SEDGEPICK_ANY_TRIANGLE 1.0
+
+/* Places in the answer of an acceptance. The clauses have their first offender, as its place in the list that was handed in. */
+enum sedgepick_accept {
+    SEDGEPICK_ACCEPTED,      /* 1 where no clause has an offender, otherwise 0 */
+    SEDGEPICK_MOVED,         /* the first given point that is not the judged point of its number, all three doubles bit for bit (a NaN is like any other); `given` where there
+                                is none */
+    SEDGEPICK_ADDED,         /* judged points less given ones; 0 where they are fewer */
+    SEDGEPICK_FOLDED,        /* the first quad that does not turn left at its four nodes; `quad_count` where there is none */
+    SEDGEPICK_SHARP,         /* the first quad with a corner whose cosine is above `cosine` + 1e-9; `quad_count` where there is none */
+    SEDGEPICK_GIVEN_FLAT,    /* the first given triangle without area; `count` where there is none */
+    SEDGEPICK_LEFT_FLAT,     /* the first leftover triangle without area; `left_count` where there is none */
+    SEDGEPICK_THIN,          /* the first leftover triangle with a corner whose cosine is above `thin` + 1e-9; `left_count` where there is none, and where `thin` is 1 */
+    SEDGEPICK_UNEVEN_U,      /* the least edge whose sides do not balance: the smaller node, */
+    SEDGEPICK_UNEVEN_V,      /* and the larger; 0 and 0 where there is none */
+    SEDGEPICK_LOST,          /* the first joint that an edge of a given triangle is and no edge of a judged cell; `joint_count` where there is none */
+    SEDGEPICK_GROUPS,        /* components of the leftover triangles; their sizes, descending, stand first in `components` */
+    SEDGEPICK_ODD_GROUPS,    /* how many of them are odd */
+    SEDGEPICK_ACCEPT_NUMBERS /* how many they are: 13 */
+};
+
+/* Decides whether a finished mesh can be signed against the mesh that was given, whoever made it, in exact arithmetic.
+ *
+ * A yes means that the given points are the first of the judged ones, bit for bit, that every quad is convex and counterclockwise with no corner sharper than the
+ * limit, that no leftover triangle is thinner than its limit, and that every joint of the given triangles is an edge of a judged cell. And it means that quads and
+ * leftover triangles cover each place of the plane off their sides as often as the given triangles do, so that there is no gap and no overlap that was not given,
+ * and that their areas add up to the same, exactly.
+ *
+ * Limits: the nodes on the boundary are fixed, so a mesh with one more node there is refused at that side; a given triangle without area is refused. Nothing is said
+ * of points that no cell has, of z of added points, and of two points at one place. Where given triangles overlap, the judged cells may as often.
+ *
+ * given_points, triangles  the given mesh: 3 numbers a point, 3 node numbers a triangle; only read.
+ * points, quads, left      the judged mesh: 3 numbers a point, 4 node numbers a quad, 3 a leftover triangle; only read.
+ * joints        2 node numbers a joint, in either order; only read.
+ * components    1 number a leftover triangle (SEDGEPICK_ACCEPT_COMPONENTS): the sizes of their components come first, what stands behind is as it was.
+ * work          SEDGEPICK_ACCEPT_WORK numbers; zeros after an answer, the whole slice.
+ * parents       SEDGEPICK_ACCEPT_PARENTS numbers; zeros after an answer, the whole slice.
+ * given, count, point_count, quad_count, left_count, joint_count  how many of each, at most 1,048,576.
+ * cosine        the largest cosine of a quad's corner: 0.5 to 0.99. The limit is exact: this double and 1e-9.
+ * thin          the largest cosine of a leftover triangle's corner: 0.5 to 1, and 1 (SEDGEPICK_ANY_TRIANGLE) asks nothing. Exact in the same way.
+ * answer        13 numbers (SEDGEPICK_ACCEPT_NUMBERS), written only where 0 is returned; entries past them are as they were.
+ *
+ * Triangles may run either way: a given or leftover triangle that runs clockwise is turned over before its sides are counted. Sides balance where for each two
+ * nodes u and v the sides from u to v of given triangles and those from v to u of judged cells are as many as the sides from v to u of given triangles and those from
+ * u to v of judged cells.
+ *
+ * Slices are as above, but that those only read may share memory. 0 is returned, or a refusal, which touches nothing, the first that holds: SEDGEPICK_OVER_LIMIT (1),
+ * SEDGEPICK_BAD_QUALITY (14: a limit outside its range, or a NaN), SEDGEPICK_TOO_SHORT (4: any slice, the answer's too), SEDGEPICK_UNKNOWN_NODE (5: a node of a given
+ * triangle not below `given`, of a judged cell not below `point_count`), SEDGEPICK_REPEATED_NODE (6: in a triangle or quad), SEDGEPICK_FAR_POINT (7: a given or judged
+ * point), SEDGEPICK_BAD_JOINT (13: one node twice, or a node not below `given`). Fewer judged points than given ones is no refusal: the first that is missing is the
+ * one that moved.
+ *
+ * It is proved that the answer is that of a short definition for every input, that each test means its clause, both ways, and what a yes means as said above.
+ */
+size_t sedgepick_accept(
+    const double *given_points, size_t given_points_len,
+    const uint32_t *triangles, size_t triangles_len,
+    const double *points, size_t points_len,
+    const uint32_t *quads, size_t quads_len,
+    const uint32_t *left, size_t left_len,
+    const uint32_t *joints, size_t joints_len,
+    uint32_t *components, size_t components_len,
+    uint32_t *work, size_t work_len,
+    uint32_t *parents, size_t parents_len,
+    size_t given, size_t count, size_t point_count, size_t quad_count, size_t left_count, size_t joint_count,
+    double cosine, double thin,
     size_t *answer, size_t answer_len);
 
 #ifdef __cplusplus

@@ -57,11 +57,31 @@ A sheet says how good the quads of a list are, ours or not:
     >>> found.steps, found.without_metrics, found.jacobian
     ((0, 0, 0, 0, 0, 0, 0, 0, 0, 1), 1, Worst(quad=0, value=1.0))
 
+A finished mesh, ours or not, can be judged against the mesh that was given, in exact arithmetic; the verdict is true where every clause holds, names the first
+offender of each that does not, and prints as a sheet:
+
+    >>> verdict = sedgepick.accept(*square, mesh.points, mesh.quads, mesh.triangles)
+    >>> verdict.accepted, verdict.folded, verdict.uneven
+    (True, None, None)
+    >>> print(sedgepick.accept(*square, [(0, 0), (1, 0), (1, 1), (0.75, 0.5)], [(0, 1, 2, 3)], []))
+    NOT ACCEPTED: 1 quads and 0 leftover triangles for 2 triangles
+    4 points, of which 4 given and 0 added; 0 joints; numbers count from 0
+    given points kept                                  does not hold: point 3 is the first
+    quads convex                                       does not hold: quad 0 is the first
+    corners of quads, cosine up to 0.90630778703665    holds
+    given triangles have area                          holds
+    leftover triangles have area                       holds
+    sides balance: no gap, no overlap                  holds
+    corners left over, cosine up to 1.0                not asked
+    joints kept                                        holds
+    components left over                               0, 0 odd
+
 Threads: the library keeps nothing between calls and each call here lends memory of its own, so any number of threads may call `run_front` at once. The
 interpreter's lock is free while the library runs.
 
 Lists come back as numpy arrays where numpy is there, otherwise as lists of tuples.
 """
+from .acceptance import ANY_TRIANGLE, MOST_JUDGED, Judged, Verdict, accept
 from .front import (EVEN_COMPONENTS, EXHAUST, FAR, GRID_LINES, LARGEST_SIZE, LEAST_SIZE, MOST_CAPACITY, MOST_GIVEN, MOST_JOINTS, MOST_SLOTS, RANGES, REFUSALS, Counts, Mesh,
                     Quad, Quads, Quality, Refused, cosine_of, run_front)
 from .job import MOST_ALLOWANCE, MOST_MESHES, MOST_TRACE, Job, Slab
@@ -72,6 +92,6 @@ from .traces import Flip, Insertion, Placed, Replayed, entries, replay
 
 __version__ = VERSION
 __license__ = 'MIT'
-__all__ = ['Counts', 'EVEN_COMPONENTS', 'EXHAUST', 'FAR', 'Flip', 'GRID_LINES', 'Insertion', 'Job', 'KINDS', 'LARGEST_SIZE', 'LEAST_SIZE', 'MOST_ALLOWANCE', 'MOST_CAPACITY', 'MOST_GIVEN', 'MOST_JOINTS',
+__all__ = ['ANY_TRIANGLE', 'Counts', 'EVEN_COMPONENTS', 'EXHAUST', 'FAR', 'Flip', 'GRID_LINES', 'Insertion', 'Job', 'Judged', 'KINDS', 'LARGEST_SIZE', 'LEAST_SIZE', 'MOST_ALLOWANCE', 'MOST_CAPACITY', 'MOST_GIVEN', 'MOST_JOINTS', 'MOST_JUDGED',
            'MOST_MESHES', 'MOST_SLOTS', 'MOST_TRACE', 'Mesh', 'NoLibrary', 'Placed', 'Preview', 'Quad', 'Quads', 'Quality', 'RANGES', 'REFUSALS', 'Refused', 'Replayed', 'Sheet', 'Slab',
-           'Worst', 'commit', 'cosine_of', 'entries', 'preview', 'preview_front', 'replay', 'run_front', 'sheet']
+           'Verdict', 'Worst', 'accept', 'commit', 'cosine_of', 'entries', 'preview', 'preview_front', 'replay', 'run_front', 'sheet']

@@ -25,6 +25,7 @@ JOB = TRACED + [SIZES, LENGTH] + ANSWER
 PREVIEW = SLICES + STATED + [LENGTH, LENGTH] + ANSWER
 REPLAY = SLICES + [LENGTH] * 5 + ANSWER
 SHEET = [DOUBLES, LENGTH, NUMBERS, LENGTH, DOUBLES, LENGTH, LENGTH, LENGTH, SIZES, LENGTH]
+ACCEPT = [DOUBLES, LENGTH, NUMBERS, LENGTH] * 2 + [NUMBERS, LENGTH] * 5 + [LENGTH] * 6 + [REAL, REAL] + ANSWER
 
 loaded = None
 loading = threading.Lock()
@@ -66,7 +67,7 @@ def opened():
         library = ctypes.CDLL(path)
         check_version(library, path)
         for function, takes in ((library.sedgepick_run_front_with, RUN_FRONT), (library.sedgepick_job, JOB), (library.sedgepick_preview, PREVIEW),
-                                (library.sedgepick_replay, REPLAY), (library.sedgepick_sheet, SHEET)):
+                                (library.sedgepick_replay, REPLAY), (library.sedgepick_sheet, SHEET), (library.sedgepick_accept, ACCEPT)):
             function.argtypes, function.restype = takes, LENGTH
     except (OSError, AttributeError) as error:
         raise NoLibrary('%s does not load: %s' % (path, error))

@@ -46,6 +46,8 @@ class Install(unittest.TestCase):
             'slab 3: 2 quads, 4 triangles, stopped by its limit; charged 2, leaves 0'])
         self.assertEqual(self.built('examples/c/bounded.c', *words).splitlines()[1:], [
             'at most 2 attempts: 2 made, 2 quads, 4 triangles, ended by its limit', 'at most 20000 attempts: 4 made, 4 quads, 0 triangles'])
+        self.assertEqual(self.built('examples/c/accept.c', *words).splitlines(), [
+            'the square: accepted', 'one corner moved: not accepted, point 3 moved, quad 0 is not convex'])
         steps = self.built('examples/c/trace.c', *words).splitlines()
         self.assertEqual((len(steps), steps[-1].split(': ')[1]), (16, '4 quads, 6 triangles'))
 

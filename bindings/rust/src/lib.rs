@@ -97,6 +97,21 @@
 //! # Ok::<(), Refusal>(())
 //! ```
 //!
+//! A finished mesh, ours or not, can be judged against the mesh that was given, in exact arithmetic, see [`accept`]:
+//!
+//! ```
+//! use sedgepick::{run_front, Refusal, Stop};
+//!
+//! let points = [[0.0, 0.0, 0.0], [1.0, 0.0, 0.0], [1.0, 1.0, 0.0], [0.0, 1.0, 0.0]];
+//! let triangles = [[0, 1, 2], [0, 2, 3]];
+//! let mut mesh = run_front(&points, &triangles, 1.0, Stop::Exhaust)?;
+//! assert!(mesh.accept(&points, &triangles, &[])?.accepted());
+//! mesh.points[3] = [0.75, 0.5, 0.0];
+//! let verdict = mesh.accept(&points, &triangles, &[])?;
+//! assert_eq!((verdict.accepted(), verdict.moved, verdict.folded), (false, Some(3), Some(0)));
+//! # Ok::<(), Refusal>(())
+//! ```
+//!
 //! Meshes have an order of their own, in which an archive can keep them:
 //!
 //! ```
@@ -111,6 +126,7 @@
 //!
 //! A mesh must lie within 8 of zero in x and y; z is carried and never read. Larger meshes are scaled by their user, with the size.
 
+mod accept;
 mod filing;
 mod job;
 pub mod lent;
@@ -123,6 +139,7 @@ mod sheet;
 mod small;
 mod trace;
 
+pub use accept::{accept, Judged, Verdict, ANY_TRIANGLE, MOST_JUDGED, VERDICT_NUMBERS};
 pub use filing::{filing_order, Filed};
 pub use job::{Job, Over, Slab, MOST_ALLOWANCE, MOST_MESHES, MOST_TRACE};
 pub use preview::{preview, Cost, Kind, Shown};

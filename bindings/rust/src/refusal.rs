@@ -8,18 +8,20 @@ pub enum Refusal {
     /// Of a job: it has no mesh, over 16 or none left, its allowance is 0 or over 1,000,000, or more is left than the meshes before could leave.
     BadJob,
     /// Over 4,096 triangles or given points, or over a capacity limit (8,192 points, 16,384 slots). Of a small mesh: points other than 3, 4 or 5.
+    /// Of an acceptance: a list over 1,048,576.
     OverLimit,
     /// The size is neither zero nor from 1/64 to 8.
     BadSize,
     /// The stop rule is neither 0 nor 1.
     BadStop,
     /// A number of the quality set is out of its range or is a NaN, or the low side factor is above the high one.
+    /// Of an acceptance: a limit out of its range.
     BadQuality,
     /// A lent slice is shorter than stated, the capacity is below the given points, or the slots are below the triangles.
     TooShort,
-    /// A node number is not below the given points.
+    /// A node number is not below the given points. Of an acceptance: a node of a cell of the finished mesh is none of its points.
     UnknownNode,
-    /// A triangle has a node twice.
+    /// A triangle has a node twice, or in an acceptance a quad.
     RepeatedNode,
     /// An x or y is not finite or is beyond 8 in magnitude.
     FarPoint,

@@ -9,13 +9,16 @@ ghost use Rattle.filing.specs.Places.{key, Small, Filled};
 // What a node's 12 binary digits count to.
 const NODES: u32 = 4096;
 
+// What the lowest 8 of the first node's, which stand in the second word, count to.
+const PART: u32 = 256;
+
 // Place i gets the triangle of three nodes as it stands.
 fn put(w: &mut [u32], i: usize, a: u32, b: u32, c: u32)
-    requires { ⌜ (2 * i + 1 < length (now w)) × (a < 4096) × (b < 4096) ⌝ }
+    requires { ⌜ (2 * i + 1 < length (now w)) × (a < 4096) × (b < 4096) × (c < 4096) ⌝ }
     ensures { λ _. ⌜ Put (now (w .entry)) (now (w .exit)) i (key (new-tri a b c)) ⌝ }
 {
-    w[2 * i] = a * NODES + b;
-    w[2 * i + 1] = c;
+    w[2 * i] = a / PART;
+    w[2 * i + 1] = (a % PART * NODES + b) * NODES + c;
 }
 
 // Place i gets the triangle from its smallest node on.

@@ -1,4 +1,5 @@
 pub mod Handing
+pub mod Judging
 pub mod Meshes
 pub mod Replaying
 pub mod Showing

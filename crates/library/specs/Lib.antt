@@ -4,3 +4,4 @@ pub mod Filed
 pub mod Jobs
 pub mod Previews
 pub mod Replays
+pub mod Verdicts

@@ -1,10 +1,11 @@
-// The mesher, a mesh of a job, what an edge would give, the mesh of a trace, the quality sheet, the filing order and every small mesh for programs in C and Rust: numbers and slices only. include/sedgepick.h says the same to their authors.
+// The mesher, a mesh of a job, what an edge would give, the mesh of a trace, the quality sheet, the verdict on a finished mesh, the filing order and every small mesh for programs in C and Rust: numbers and slices only. include/sedgepick.h says the same to their authors.
 mod job;
 mod orders;
 mod preview;
 mod replays;
 mod sheets;
 mod small_meshes;
+mod verdict;
 
 use answer_numbers::ANSWER;
 use answer_numbers::short_answer;

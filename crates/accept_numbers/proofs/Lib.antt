@@ -1,0 +1,2 @@
+pub mod Cleans
+pub mod Telling

@@ -1,0 +1,3 @@
+-- What is asked and promised of triangles of lent slices that are read upright.
+pub mod Sides
+pub mod Promise
