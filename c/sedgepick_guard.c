@@ -59,6 +59,4 @@ GUARD(sedgepick_preview, PREVIEW)
 GUARD(sedgepick_filing_order, FILING_ORDER)
 GUARD(sedgepick_small_mesh, SMALL_MESH)
 GUARD(sedgepick_sheet, SHEET)
-#ifdef SEDGEPICK_MOST_JUDGED /* of headers that have the acceptance */
 GUARD(sedgepick_accept, ACCEPT)
-#endif

@@ -60,15 +60,17 @@ class Floats(Built):
         """From Python: the whole process under another mode, set by the C library."""
         points, triangles = grid(9, 9, 0.125)
         points = [(x + 0.04 * ((7 * i) % 11 - 5) / 5, y + 0.04 * ((5 * i) % 13 - 6) / 6) if 0 < x < 1.1 and 0 < y < 1.1 else (x, y) for i, (x, y, _) in enumerate(points)]
-        maths, usual = ctypes.CDLL('libm.so.6'), repr(sedgepick.run_front(points, triangles, 0.125))
+        maths, mesh = ctypes.CDLL('libm.so.6'), sedgepick.run_front(points, triangles, 0.125)
+        judged = lambda: repr(sedgepick.accept(points, triangles, mesh.points, mesh.quads.nodes, mesh.triangles))
+        usual, verdict = repr(mesh), judged()
         for mode in (0x400, 0x800, 0xc00):
             before = maths.fegetround()
             self.assertEqual(maths.fesetround(mode), 0)
             try:
-                found, after = sedgepick.run_front(points, triangles, 0.125), maths.fegetround()
+                found, again, after = sedgepick.run_front(points, triangles, 0.125), judged(), maths.fegetround()
             finally:
                 maths.fesetround(before)
-            self.assertEqual((repr(found), after), (usual, mode))
+            self.assertEqual((repr(found), again, after), (usual, verdict, mode))
 
 
 STUB = """#include <stddef.h>
@@ -79,6 +81,7 @@ size_t sedgepick_job(void) { return 0; }
 size_t sedgepick_preview(void) { return 0; }
 size_t sedgepick_replay(void) { return 0; }
 size_t sedgepick_sheet(void) { return 0; }
+size_t sedgepick_accept(void) { return 0; }
 """
 
 

@@ -1,7 +1,8 @@
 //! A library that returns numbers which these bindings do not know. `tools/test` links one whose functions all return 17; with the library itself these are passed over.
 
 use sedgepick::{
-    filing_order, preview, replay, run_front, sheet, small_mesh, Job, Options, Refusal, Stop,
+    accept, filing_order, preview, replay, run_front, sheet, small_mesh, Job, Judged, Options,
+    Refusal, Stop,
 };
 
 const POINTS: [[f64; 3]; 4] = [
@@ -30,6 +31,14 @@ fn an_unknown_number_is_an_error() {
     );
     assert_eq!(replay(&POINTS, &TRIANGLES, &[]).unwrap_err(), UNKNOWN);
     assert_eq!(sheet(&POINTS, &[[0, 1, 2, 3]]).unwrap_err(), UNKNOWN);
+    let judged = Judged {
+        given_points: &POINTS,
+        given_triangles: &TRIANGLES,
+        points: &POINTS,
+        triangles: &TRIANGLES,
+        ..Default::default()
+    };
+    assert_eq!(accept(&judged).unwrap_err(), UNKNOWN);
     assert_eq!(small_mesh(4, 0).unwrap_err(), UNKNOWN);
     assert_eq!(
         filing_order((&POINTS, &TRIANGLES), (&POINTS, &TRIANGLES)).unwrap_err(),
