@@ -359,10 +359,10 @@ static void test_job(void) {
     CHECK(same(&mesh, &alone[0]) && job[SEDGEPICK_JOB_CHARGED] == need && job[SEDGEPICK_JOB_DONE] == 4);
     sedgepick_mesh_free(&mesh);
     CHECK(sedgepick_mesh_run_job(points[0], POINTS, triangles[0], TRIANGLES, &options, job, &mesh) == SEDGEPICK_BAD_JOB);
-    CHECK(job[SEDGEPICK_JOB_CHARGED] == 0 && job[SEDGEPICK_JOB_DONE] == 4 && !mesh.points);
+    CHECK(job[SEDGEPICK_JOB_CHARGED] == need && job[SEDGEPICK_JOB_DONE] == 4 && !mesh.points);
 }
 
-/* 16 comes before 1; without it the number goes to the mesh. */
+/* 16 comes before 1 and writes nothing; without it the number goes to the mesh. */
 static void test_bad_jobs(void) {
     const uint32_t good[] = {0, 1, 2};
     const size_t most = SEDGEPICK_MOST_ALLOWANCE;
@@ -374,7 +374,7 @@ static void test_bad_jobs(void) {
         for (size_t given = 3; given < 5000; given += 4094) {
             size_t job[SEDGEPICK_JOB] = {bad[i][0], bad[i][1], bad[i][2], bad[i][3], 77};
             CHECK(sedgepick_mesh_run_job(square, given, good, 1, &options, job, &mesh) == SEDGEPICK_BAD_JOB);
-            CHECK(!memcmp(job, bad[i], sizeof bad[i]) && job[SEDGEPICK_JOB_CHARGED] == 0);
+            CHECK(!memcmp(job, bad[i], sizeof bad[i]) && job[SEDGEPICK_JOB_CHARGED] == 77);
         }
     for (int i = 0; i < 3; i++) {
         size_t job[SEDGEPICK_JOB] = {fine[i][0], fine[i][1], fine[i][2], fine[i][3], 77};

@@ -1,7 +1,8 @@
 /* Sedgepick: quads from the triangles of a plane mesh, by an advancing front; a verdict on finished meshes; and an order in which an archive can keep meshes.
  *
- * The functions are proved. They end on every input; a finished mesh is the one that a short definition fixes, bit for bit, and each of its quads is, in
- * exact arithmetic, convex, counterclockwise and without a corner under 24.99 degrees; the order is total on the meshes that it accepts. They allocate
+ * The functions are proved. They end on every input. A finished mesh is the one that a short definition fixes, bit for bit, and each of its quads is, in
+ * exact arithmetic, convex and counterclockwise. With the standard quality set no quad has a corner under 24.99 degrees; with any other set, the exact
+ * cosine of each corner is at most the set's largest cosine plus 1e-9. The order is total on the meshes that it accepts. The functions allocate
  * nothing, keep nothing between calls, and may be called from several threads at once on memory of their own.
  *
  * Link libsedgepick, which tools/install makes, or the bare target/staticlib/liblibrary.a (x86-64, written by `rt staticlib library`); sedgepick_mesh.h has a
@@ -28,9 +29,9 @@ extern "C" {
 
 /* The version of this header. */
 #define SEDGEPICK_VERSION_MAJOR 0
-#define SEDGEPICK_VERSION_MINOR 2
+#define SEDGEPICK_VERSION_MINOR 3
 #define SEDGEPICK_VERSION_PATCH 0
-#define SEDGEPICK_VERSION "0.2.0"
+#define SEDGEPICK_VERSION "0.3.0"
 
 /* The number of the interface, which is the shared library's too (libsedgepick.so.2). It grows where a function's parameters, a constant or a struct of these headers change;
  * a function more leaves it. sedgepick_abi() of sedgepick_mesh.h is that of the library that is linked. */
@@ -138,7 +139,7 @@ enum sedgepick_answer {
     SEDGEPICK_PLACEMENT,           /* attempts refused: no side nodes; an edge without length; an edge that flips took off the front */
     SEDGEPICK_INVALID_QUAD,        /* no pair of side nodes with a good quad */
     SEDGEPICK_RECOVERY,            /* a side that flips could not bring into the mesh */
-    SEDGEPICK_REGION,              /* the triangles inside the quad do not fill it */
+    SEDGEPICK_REGION,              /* the triangles inside the quad do not fill it, or a joint is inside it */
     SEDGEPICK_ODD_REGION,          /* they do, and without them some component would be odd */
     SEDGEPICK_MISMATCH_INSERTIONS, /* points added */
     SEDGEPICK_LIMIT,               /* 1 when a limit on attempts or triangles ended the run; that on attempts is 200 for each given triangle and 10,000, in a job not more than the
@@ -174,7 +175,7 @@ enum sedgepick_answer {
  * stop           stop rule: 0 or 1.
  * answer         15 numbers (SEDGEPICK_ANSWER), written only where 0 is returned; after a refusal all counts and lengths are zero, and the slice is as it was.
  *
- * Entries past a list's length are as they were. 1 to 7 and 13 to 16 touch no slice but a job's numbers. 8, 9 and 11 leave the points added, the quads written and the entries of the
+ * Entries past a list's length are as they were. 1 to 7 and 13 to 15 touch no slice but a job's numbers, 16 none at all. 8, 9 and 11 leave the points added, the quads written and the entries of the
  * trace made before them, clear both work slices and touch nothing else; with more capacity, more slots or a longer trace the same call goes further.
  */
 size_t sedgepick_run_front(
@@ -303,9 +304,9 @@ enum sedgepick_job_place {
  * are the first ones of that run. What a later mesh contains changes no earlier one.
  *
  * job  5 numbers (SEDGEPICK_JOB). The first four are the state, and are written as the state for the next mesh, the fifth as the attempts charged: also where the
- *      mesh is refused. 16 is tested before all else, leaves the four as they were and writes 0 charged. Fewer than 5 numbers are refused as 4 before that. An
- *      answer of fewer than 15 is 4 in its place, behind 16, 1, 2, 3 and 14. Where one of the two slices is too short nothing is written, whatever is
- *      returned, and the job does not go on.
+ *      mesh is refused. Three refusals write nothing at all, and the job does not go on. Fewer than 5 numbers are 4, before all else. A bad state is 16,
+ *      before every other number; the fifth number stays as it was too. An answer of fewer than 15 numbers is 4 then, whatever the mesh is.
+ *      SEDGEPICK_JOB_DONE tells whether the state moved.
  */
 size_t sedgepick_job(
     double *points, size_t points_len,
@@ -449,7 +450,9 @@ size_t sedgepick_small_mesh(uint32_t points, size_t place, uint32_t *list, size_
  *
  * Slices are as above, but that points and quads may share memory. 0 is returned, or a refusal, which touches nothing: SEDGEPICK_OVER_LIMIT (1),
  * SEDGEPICK_TOO_SHORT (4: points, quads, out or answer), SEDGEPICK_UNKNOWN_NODE (5: a corner) or SEDGEPICK_FAR_POINT (7: any of the given points), the first
- * that holds. On what a finished run handed back no quad is without metrics, and neither worst is beyond the run's quality set; that is proved.
+ * that holds. Of a run that returned 0, handed on as it came back (its points and quads, `given` and `count` from its answer) with room in `out` and in
+ * `answer`, the sheet is not refused, no quad is without metrics, and neither worst is beyond the run's quality set: `sheet-passes` of crates/run_sheets,
+ * proved from what the run promises.
  */
 size_t sedgepick_sheet(
     const double *points, size_t points_len,
@@ -509,7 +512,7 @@ enum sedgepick_accept {
  * thin          the largest cosine of a leftover triangle's corner: 0.5 to 1, and 1 (SEDGEPICK_ANY_TRIANGLE) asks nothing. Exact in the same way.
  * answer        13 numbers (SEDGEPICK_ACCEPT_NUMBERS), written only where 0 is returned; entries past them are as they were.
  *
- * Triangles may run either way: a given or leftover triangle that runs clockwise is turned over before its sides are counted. Sides balance where for each two
+ * Triangles may run either way: a given or leftover triangle that does not run counterclockwise is turned over before its sides are counted. Sides balance where for each two
  * nodes u and v the sides from u to v of given triangles and those from v to u of judged cells are as many as the sides from v to u of given triangles and those from
  * u to v of judged cells.
  *

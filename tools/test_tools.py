@@ -1,5 +1,5 @@
 #!/usr/bin/env python3
-"""Tests of tools/convert, tools/draw and tools/change-definition: python3 tools/test_tools.py"""
+"""Tests of tools/convert, tools/draw, tools/change-definition and tools/landing-note: python3 tools/test_tools.py"""
 import contextlib, glob, io, math, os, random, sys, tempfile, unittest
 import xml.etree.ElementTree as xml
 from importlib.machinery import SourceFileLoader
@@ -19,7 +19,7 @@ def script(name):
     return module
 
 
-CONVERT, DRAW, CHANGE = script('convert'), script('draw'), script('change-definition')
+CONVERT, DRAW, CHANGE, NOTE = script('convert'), script('draw'), script('change-definition'), script('landing-note')
 
 SQUARE = [(0.0, 0.0, 0.0), (1.0, 0.0, 0.0), (1.0, 1.0, 0.0), (0.0, 1.0, 0.0)]
 S_TEXT = """triangles points size stop
@@ -569,21 +569,17 @@ class Examples(Case):
 
 
 class Programs(Case):
-    """What the gate runs: one text of `main` in both programs, on the square and on a long text."""
+    """What the gate runs the program on: the square, and among the stored texts a long one."""
 
-    def file(self, crate, name):
-        return content(os.path.join(ROOT, 'crates', crate, name)).decode()
-
-    def test_one_main(self):
-        for name in ('src/main.rt', 'proofs/main/Proof.antt'):
-            self.assertEqual(self.file('sedgepick', name), self.file('sedgepick_long', name).replace('sedgepick_long', 'sedgepick'))
+    def file(self, *names):
+        return content(os.path.join(ROOT, *names)).decode()
 
     def test_square(self):
-        self.assertEqual(self.file('sedgepick', 'stdin'), S_TEXT)
+        self.assertEqual(self.file('crates/sedgepick/stdin'), S_TEXT)
 
     def test_long(self):
-        self.assertGreater(len(self.file('sedgepick_long', 'stdin')), 3800)
-        mesh = texts.read(Source('stdout', self.file('sedgepick_long', 'stdout').encode()))
+        self.assertGreater(len(self.file('answers/small/edge-long.in')), 3800)
+        mesh = texts.read(Source('stdout', self.file('answers/small/edge-long.out').encode()))
         self.assertGreater(mesh.counts['mismatch_insertions'], 0)
         self.assertGreater(len(mesh.triangles), 0)
         self.assertGreater(len(mesh.quads), 0)
@@ -599,6 +595,64 @@ class Changes(unittest.TestCase):
     def test_each_text_stands_once_in_the_definition(self):
         self.assertEqual(CHANGE.misplaced(), [])
         self.assertGreater(len(CHANGE.CHANGES), 50)
+
+
+class Landings(unittest.TestCase):
+    SPEC = """use lib.Dec.{leb}
+
+-- the first
+unfoldable pub one : N
+one = 1
+
+module _ (n : N) where
+  pub two : N
+  two =
+      -- inside
+      n
+
+pub record Both : Type 0 where
+  pub two : N
+"""
+    SOURCE = """pub fn long(a: u32) -> u32
+    requires { a < 3 }
+    ensures { first
+        and second }
+    ensures { third }
+{
+    a
+}
+
+fn inner() -> u32
+    ensures { fourth }
+{
+    0
+}
+
+pub fn bare(a: u32) -> u32 {
+    a
+}
+"""
+
+    def test_declarations(self):
+        self.assertEqual(NOTE.declared(self.SPEC), [('one', 'unfoldable pub one : N\none = 1\n'), ('two', 'pub two : N\ntwo =\nn\n'),
+                                                    ('Both', 'pub record Both : Type 0 where\npub two : N\n')])
+
+    def test_contracts(self):
+        self.assertEqual(list(NOTE.contracts(self.SOURCE, 'ensures', True)), [('long', 'ensures { first and second }\nensures { third }')])
+        self.assertEqual(list(NOTE.contracts(self.SOURCE, 'requires', True)), [('long', 'requires { a < 3 }')])
+        self.assertEqual(list(NOTE.contracts(self.SOURCE, 'ensures', False)), [('inner', 'ensures { fourth }')])
+
+    def test_moved(self):
+        before = {'a': [('X', '1')], 'b': [('X', '1')], 'c': [('X', '1')], 'd': [('X', '1')], 'e': [('X', '1'), ('Y', '2')]}
+        after = {'a': [('X', '1')], 'b': [('X', '2')], 'c': [('Y', '1')], 'e': [('X', '1'), ('Y', '3'), ('Z', '2')], 'f': [('X', '1')]}
+        self.assertEqual(NOTE.moved(before, after), ([('X', 'b')], [('X', 'f'), ('Y', 'e')], [('X', 'd')]))
+
+    def test_a_row_for_each_paper(self):
+        page = content(NOTE.PAGE).decode()
+        for number, before, after in NOTE.papers():
+            self.assertEqual(page.count('| %d %s | %s |' % (number, NOTE.TITLES[number], after.replace('+', ' with '))), 1)
+            self.assertIn('\n## Paper %d: ' % number, page)
+        self.assertEqual(sorted(number for number, _, _ in NOTE.papers()), list(range(1, 15)))
 
 
 if __name__ == '__main__':

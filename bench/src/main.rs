@@ -1,6 +1,7 @@
 //! Times of the port, linked from its static library, and of the patched Rust on the same meshes, in one run; with the word `hubs`, and a shape's name for
-//! one of them, on meshes around one node; with the word `largest`, and a shape's name, on the largest of them; with the word `filing`, those of the filing order; with the word `joints`, those of the port with and without joints.
+//! one of them, on meshes around one node; with the word `largest`, and a shape's name, on the largest of them; with the word `filing`, those of the filing order; with the word `joints`, those of the port with and without joints; with the word `accept`, and `meshes` or `hard` for one table of them, those of the acceptance.
 
+mod accept;
 mod filing;
 mod hubs;
 mod joints;
@@ -254,6 +255,7 @@ fn print_head(second: &str) {
 
 fn main() {
     match std::env::args().nth(1).as_deref() {
+        Some("accept") => return accept::run(std::env::args().nth(2)),
         Some("hubs") => return hubs::run(std::env::args().nth(2)),
         Some("largest") => return largest::run(std::env::args().nth(2)),
         Some("filing") => return filing::run(),

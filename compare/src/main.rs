@@ -1,7 +1,8 @@
 //! The port, linked from its static library, against the patched Rust on generated meshes: answers and every lent slice, bit for bit. `filing` compares the
 //! filing order with a plain one, `jobs` runs jobs of several meshes, `preview` asks what edges would give, `replay` replays traces, `sheet` compares the quality sheet with the
-//! reference's.
+//! reference's, `accept` the verdicts on whole meshes.
 
+mod accept;
 mod asked;
 mod cases;
 mod filing;
@@ -30,7 +31,11 @@ compare replay SEED COUNT [THREADS]
 compare filing SEED COUNT
   runs the filing order on COUNT generated pairs of meshes
 compare sheet SEED COUNT
-  makes the quality sheet of COUNT generated lists of quads";
+  makes the quality sheet of COUNT generated lists of quads
+compare accept SEED COUNT [THREADS]
+  judges what COUNT cases make, about seven meshes each: finished runs, whole and damaged in one place, cells at the limits, any lists, refused calls
+compare accepts FILE
+  makes the stored calls of an acceptance";
 
 /// Partings that are printed whole.
 const SHOWN: usize = 3;
@@ -121,6 +126,7 @@ enum Asked {
     Replays(u64, u64, u64),
     Filing(u64, u64),
     Sheets(u64, u64),
+    Accepts(u64, u64, u64),
 }
 
 fn asked() -> Option<Asked> {
@@ -131,6 +137,8 @@ fn asked() -> Option<Asked> {
     match (named.as_deref(), &numbers?[..]) {
         (Some("filing"), &[seed, count]) => Some(Asked::Filing(seed, count)),
         (Some("sheet"), &[seed, count]) => Some(Asked::Sheets(seed, count)),
+        (Some("accept"), &[seed, count]) => Some(Asked::Accepts(seed, count, 1)),
+        (Some("accept"), &[seed, count, threads]) => Some(Asked::Accepts(seed, count, threads)),
         (Some("jobs"), &[seed, count]) => Some(Asked::Jobs(seed, count, 1)),
         (Some("jobs"), &[seed, count, threads]) => Some(Asked::Jobs(seed, count, threads)),
         (Some("preview"), &[seed, count]) => Some(Asked::Previews(seed, count, 1)),
@@ -144,13 +152,16 @@ fn asked() -> Option<Asked> {
 }
 
 fn main() {
+    let words: Vec<String> = std::env::args().skip(1).collect();
     let good = match asked() {
+        Some(Asked::Accepts(seed, count, threads)) => accept::run(seed, count, threads),
         Some(Asked::Filing(seed, count)) => filing::run(seed, count),
         Some(Asked::Jobs(seed, count, threads)) => jobs::run(seed, count, threads),
         Some(Asked::Previews(seed, count, threads)) => preview::run(seed, count, threads),
         Some(Asked::Replays(seed, count, threads)) => replay::run(seed, count, threads),
         Some(Asked::Runs(seed, count, threads)) => runs(seed, count, threads),
         Some(Asked::Sheets(seed, count)) => sheet::run(seed, count),
+        None if words.len() == 2 && words[0] == "accepts" => accept::stored(&words[1]),
         None => {
             eprintln!("{USAGE}");
             std::process::exit(2);

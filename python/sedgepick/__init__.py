@@ -1,7 +1,8 @@
 """Quads from the triangles of a plane mesh, by an advancing front.
 
-The mesher is proved: a finished mesh is the one that a short definition fixes, bit for bit, and each of its quads is, in exact arithmetic, convex,
-counterclockwise and without a corner under 24.99 degrees. This package lends it memory.
+The mesher is proved: a finished mesh is the one that a short definition fixes, bit for bit, and each of its quads is, in exact arithmetic, convex
+and counterclockwise. With the standard quality set no quad has a corner under 24.99 degrees; with any other set, the exact cosine of each corner is at most
+the set's largest cosine plus 1e-9. This package lends it memory.
 
     >>> import sedgepick
     >>> mesh = sedgepick.run_front([(0, 0), (1, 0), (1, 1), (0, 1)], [(0, 1, 2), (0, 2, 3)], size=1.0, stop=0)
@@ -28,7 +29,7 @@ What an edge would give, were it the first that a run tries, can be asked before
     >>> sedgepick.preview(*square, edge=(1, 0), size=1.0)
     Preview(quad=Quad(nodes=(0, 1, 2, 3), edge=(0, 1), round=1, replaced=2), refused=None, insertions=0, flips=0)
     >>> print(sedgepick.preview(*square, edge=(1, 0), size=1.0, joints=[(0, 2)]))
-    refused, region: the triangles inside the quad do not fill it; no insertion, no flip
+    refused, region: the triangles inside the quad do not fill it, or a joint is inside it; no insertion, no flip
     >>> [str(shown) for shown in sedgepick.preview_front(*square, size=1.0).values()][0]
     'quad 0 1 2 3 in place of 2 triangles; no insertion, no flip'
 
@@ -57,6 +58,21 @@ A sheet says how good the quads of a list are, ours or not:
     >>> found.steps, found.without_metrics, found.jacobian
     ((0, 0, 0, 0, 0, 0, 0, 0, 0, 1), 1, Worst(quad=0, value=1.0))
 
+An archive can keep its meshes sorted; two are the same where their points agree and their triangles agree up to rotation and list order:
+
+    >>> turned = square[0], [(2, 3, 0), (1, 2, 0)]
+    >>> sedgepick.filing_order(square, turned), sedgepick.Filed(*square) == sedgepick.Filed(*turned)
+    (0, True)
+    >>> sedgepick.filing_order((square[0], square[1][:1]), square)
+    -1
+
+Acceptance runs can cover every list of one to three different triangles on 3, 4 or 5 points, by its place in their order:
+
+    >>> sedgepick.small_mesh(4, 13), sedgepick.small_mesh(4, 14)
+    ([(0, 1, 3), (0, 2, 3), (1, 2, 3)], None)
+    >>> [len(list(sedgepick.small_meshes(points))) for points in (3, 4, 5)]
+    [1, 14, 175]
+
 A finished mesh, ours or not, can be judged against the mesh that was given, in exact arithmetic; the verdict is true where every clause holds, names the first
 offender of each that does not, and prints as a sheet:
 
@@ -82,16 +98,20 @@ interpreter's lock is free while the library runs.
 Lists come back as numpy arrays where numpy is there, otherwise as lists of tuples.
 """
 from .acceptance import ANY_TRIANGLE, MOST_JUDGED, Judged, Verdict, accept
+from .filing import AFTER, BEFORE, SAME, Filed, filing_order
 from .front import (EVEN_COMPONENTS, EXHAUST, FAR, GRID_LINES, LARGEST_SIZE, LEAST_SIZE, MOST_CAPACITY, MOST_GIVEN, MOST_JOINTS, MOST_SLOTS, RANGES, REFUSALS, Counts, Mesh,
                     Quad, Quads, Quality, Refused, cosine_of, run_front)
 from .job import MOST_ALLOWANCE, MOST_MESHES, MOST_TRACE, Job, Slab
 from .library import NoLibrary, VERSION, commit
 from .previews import KINDS, Preview, preview, preview_front
 from .sheets import Sheet, Worst, sheet
+from .small import small_mesh, small_meshes
 from .traces import Flip, Insertion, Placed, Replayed, entries, replay
 
 __version__ = VERSION
 __license__ = 'MIT'
-__all__ = ['ANY_TRIANGLE', 'Counts', 'EVEN_COMPONENTS', 'EXHAUST', 'FAR', 'Flip', 'GRID_LINES', 'Insertion', 'Job', 'Judged', 'KINDS', 'LARGEST_SIZE', 'LEAST_SIZE', 'MOST_ALLOWANCE', 'MOST_CAPACITY', 'MOST_GIVEN', 'MOST_JOINTS', 'MOST_JUDGED',
-           'MOST_MESHES', 'MOST_SLOTS', 'MOST_TRACE', 'Mesh', 'NoLibrary', 'Placed', 'Preview', 'Quad', 'Quads', 'Quality', 'RANGES', 'REFUSALS', 'Refused', 'Replayed', 'Sheet', 'Slab',
-           'Verdict', 'Worst', 'accept', 'commit', 'cosine_of', 'entries', 'preview', 'preview_front', 'replay', 'run_front', 'sheet']
+__all__ = ['AFTER', 'ANY_TRIANGLE', 'BEFORE', 'Counts', 'EVEN_COMPONENTS', 'EXHAUST', 'FAR', 'Filed', 'Flip', 'GRID_LINES', 'Insertion', 'Job',
+           'Judged', 'KINDS', 'LARGEST_SIZE', 'LEAST_SIZE', 'MOST_ALLOWANCE', 'MOST_CAPACITY', 'MOST_GIVEN', 'MOST_JOINTS', 'MOST_JUDGED',
+           'MOST_MESHES', 'MOST_SLOTS', 'MOST_TRACE', 'Mesh', 'NoLibrary', 'Placed', 'Preview', 'Quad', 'Quads', 'Quality', 'RANGES', 'REFUSALS',
+           'Refused', 'Replayed', 'SAME', 'Sheet', 'Slab', 'Verdict', 'Worst', 'accept', 'commit', 'cosine_of', 'entries', 'filing_order', 'preview',
+           'preview_front', 'replay', 'run_front', 'sheet', 'small_mesh', 'small_meshes']

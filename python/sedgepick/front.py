@@ -97,7 +97,7 @@ class Counts:
     placement: int            # attempts refused: no side nodes
     invalid_quad: int         # no pair of side nodes with a good quad
     recovery: int             # a side that flips could not bring into the mesh
-    region: int               # the triangles inside the quad do not fill it
+    region: int               # the triangles inside the quad do not fill it, or a joint is inside it
     odd_region: int           # they do, and without them some component would be odd
     mismatch_insertions: int  # points added
     limit: int                # 1 when a limit ended the run

@@ -4,7 +4,7 @@ Looked for, in this order: the file that the environment variable SEDGEPICK_LIBR
 installed under; target/shared of a checkout, where tools/shared writes it."""
 import ctypes, os, threading
 
-VERSION = '0.2.0'
+VERSION = '0.3.0'
 ABI = 2  # the number of the interface, SEDGEPICK_ABI of the header
 SONAME = 'libsedgepick.so.%d' % ABI
 VARIABLE = 'SEDGEPICK_LIBRARY'
@@ -25,6 +25,8 @@ JOB = TRACED + [SIZES, LENGTH] + ANSWER
 PREVIEW = SLICES + STATED + [LENGTH, LENGTH] + ANSWER
 REPLAY = SLICES + [LENGTH] * 5 + ANSWER
 SHEET = [DOUBLES, LENGTH, NUMBERS, LENGTH, DOUBLES, LENGTH, LENGTH, LENGTH, SIZES, LENGTH]
+FILING_ORDER = [DOUBLES, LENGTH, NUMBERS, LENGTH, NUMBERS, LENGTH, LENGTH, LENGTH] * 2
+SMALL_MESH = [ctypes.c_uint32, LENGTH, NUMBERS, LENGTH]
 ACCEPT = [DOUBLES, LENGTH, NUMBERS, LENGTH] * 2 + [NUMBERS, LENGTH] * 5 + [LENGTH] * 6 + [REAL, REAL] + ANSWER
 
 loaded = None
@@ -67,7 +69,8 @@ def opened():
         library = ctypes.CDLL(path)
         check_version(library, path)
         for function, takes in ((library.sedgepick_run_front_with, RUN_FRONT), (library.sedgepick_job, JOB), (library.sedgepick_preview, PREVIEW),
-                                (library.sedgepick_replay, REPLAY), (library.sedgepick_sheet, SHEET), (library.sedgepick_accept, ACCEPT)):
+                                (library.sedgepick_replay, REPLAY), (library.sedgepick_sheet, SHEET), (library.sedgepick_filing_order, FILING_ORDER),
+                                (library.sedgepick_small_mesh, SMALL_MESH), (library.sedgepick_accept, ACCEPT)):
             function.argtypes, function.restype = takes, LENGTH
     except (OSError, AttributeError) as error:
         raise NoLibrary('%s does not load: %s' % (path, error))

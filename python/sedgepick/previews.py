@@ -10,7 +10,7 @@ KINDS = {
     'placement': 'no side nodes',
     'invalid_quad': 'no pair of side nodes with a good quad',
     'recovery': 'a side that flips could not bring in',
-    'region': 'the triangles inside the quad do not fill it',
+    'region': 'the triangles inside the quad do not fill it, or a joint is inside it',
     'odd_region': 'a component would be left odd',
 }
 OFF_FRONT, GIVES_QUAD, IS_REFUSED = 0, 1, 2

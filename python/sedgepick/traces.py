@@ -4,10 +4,11 @@ from array import array
 from dataclasses import dataclass
 from typing import NamedTuple
 from . import library
-from .front import MOST_CAPACITY, MOST_SLOTS, NO_NODE, Call, Memory, Quad, Quads, Refused, doubles, lent, node_numbers
+from .front import MOST_CAPACITY, MOST_SLOTS, Call, Memory, Quad, Quads, Refused, doubles, lent, node_numbers
 
 INSERTION, FLIP, QUAD = 1, 2, 4  # an entry's first word
 HEAD = 9                         # words of a quad's entry before its slots
+MOST_WORD = 2 ** 32 - 1
 
 
 class Insertion(NamedTuple):
@@ -81,14 +82,24 @@ class Replayed:
     components: object
 
 
+def whole_words(trace):
+    """The words of a trace as 32 bits each; ValueError for one that they cannot hold."""
+    words = array('I')
+    for place, word in enumerate(trace):
+        if not 0 <= word <= MOST_WORD or int(word) != word:
+            raise ValueError('word %d of the trace is %r, and words are whole numbers from 0 to %d' % (place, word, MOST_WORD))
+        words.append(int(word))
+    return words
+
+
 def replay(points, triangles, trace):
     """Replays the words of a trace on the mesh that its run was given. After all of them the lists are the run's; after the first entries alone they are those of the mesh
     as it was then, so a mesh can be stepped through as it grew.
 
     trace  words, of a run or from anywhere: an entry that cannot be made is refused with 12
 
-    Raises Refused, ValueError for lists of another shape, NoLibrary."""
-    words = array('I', [int(word) if 0 <= word <= NO_NODE and int(word) == word else NO_NODE for word in trace])
+    Raises Refused, ValueError for lists of another shape and for a word that is no whole number from 0 to 2^32 - 1, NoLibrary."""
+    words = whole_words(trace)
     given, count, inserted, placed = len(points), len(triangles), 0, 0
     at = 0
     while (one := entry(words, at)) is not None:

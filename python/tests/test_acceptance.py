@@ -1,8 +1,8 @@
 """Tests of the acceptance over the real library: each clause, each refusal, the sheet, long lists."""
-import doctest, math, unittest
+import ctypes, doctest, math, unittest
 from common import grid, make_library
 import sedgepick
-from sedgepick import acceptance
+from sedgepick import acceptance, library
 
 try:
     import numpy
@@ -155,6 +155,44 @@ class Calls(unittest.TestCase):
         self.assertEqual(len(lines), 11)
         self.assertEqual([line for line in lines if 'does not hold' in line],
                          ['sides balance: no gap, no overlap                  does not hold: edge 1-4 is the least'])
+
+
+class Lent(unittest.TestCase):
+    """The call itself: what it refuses for want of room, and what the lent slices hold afterwards."""
+
+    def call(self, short=None, cosine=0.9, given=len(POINTS)):
+        """(returned, components, work, parents, answer) over slices with garbage in them and room for one number more; one is too short, by its name."""
+        stated = acceptance.Judged(given, len(GIVEN), len(POINTS), len(QUADS), len(LEFT), 1, cosine, 1.0)
+        read = {'given_points': acceptance.lend_doubles(POINTS), 'triangles': acceptance.lend_nodes(GIVEN, 3, ''), 'points': acceptance.lend_doubles(POINTS),
+                'quads': acceptance.lend_quads(QUADS), 'left': acceptance.lend_nodes(LEFT, 3, ''), 'joints': acceptance.lend_nodes([(1, 4)], 2, '')}
+        rooms = dict(zip(('components', 'work', 'parents'), acceptance.room(stated)), answer=acceptance.NUMBERS)
+        written = {name: ((ctypes.c_size_t if name == 'answer' else ctypes.c_uint32) * (n + 1))(*[77] * (n + 1)) for name, n in rooms.items()}
+        lengths = {**{name: length for name, (_, length) in read.items()}, **{name: len(slice) for name, slice in written.items()}}
+        if short:
+            lengths[short] -= 1 if short in read else 2
+        words = [word for name, (slice, _) in read.items() for word in (slice, lengths[name])]
+        words += [word for name in ('components', 'work', 'parents') for word in (written[name], lengths[name])]
+        number = library.load().sedgepick_accept(*words, given, stated.triangles, stated.points, stated.quads, stated.left, 1, cosine, 1.0, written['answer'], lengths['answer'])
+        return number, *(list(written[name]) for name in ('components', 'work', 'parents', 'answer'))
+
+    def test_answer(self):
+        number, components, work, parents, answer = self.call()
+        self.assertEqual((number, components), (0, [2, 77, 77]))
+        self.assertEqual((set(work), set(parents)), ({0}, {0}))
+        self.assertEqual(answer, [1, 7, 0, 1, 1, 4, 2, 2, 0, 0, 1, 1, 0, 77])
+
+    def test_too_short(self):
+        for short in ('given_points', 'triangles', 'points', 'quads', 'left', 'joints', 'components', 'work', 'parents', 'answer'):
+            with self.subTest(short=short):
+                number, *slices = self.call(short)
+                self.assertEqual((number, {word for slice in slices for word in slice}), (4, {77}))
+                self.assertEqual(self.call(short, cosine=0.4)[0], 14)
+                self.assertEqual(self.call(short, cosine=0.4, given=2 ** 20 + 1)[0], 1)
+
+    def test_no_answer_before_others(self):
+        self.assertEqual(self.call('answer', given=5)[0], 4)
+        number, *slices = self.call(given=5)
+        self.assertEqual((number, {word for slice in slices for word in slice}), (5, {77}))
 
 
 @unittest.skipIf(numpy is None, 'numpy is not installed')

@@ -88,7 +88,7 @@ class Package(unittest.TestCase):
     def test_joint(self):
         shown = sedgepick.preview(SQUARE, HALVES, (0, 1), 1.0, joints=[(2, 0)])
         self.assertEqual((shown.quad, shown.refused, shown.off_front), (None, 'region', False))
-        self.assertEqual(str(shown), 'refused, region: the triangles inside the quad do not fill it; no insertion, no flip')
+        self.assertEqual(str(shown), 'refused, region: the triangles inside the quad do not fill it, or a joint is inside it; no insertion, no flip')
 
     def test_whole_front(self):
         for points, triangles, options in trials():

@@ -109,7 +109,7 @@ class Package(unittest.TestCase):
 
     def test_words_that_no_run_wrote(self):
         on = lambda words: sedgepick.replay(SQUARE, HALVES, words)
-        for words in (QUAD[:10], QUAD + [3], [2, 2, 0], [2, 0, 1], [3, 0, 2], [2, 0, 2 ** 32], [2, 0, -1], [2, 0, 0.5], [-1], sedgepick.Insertion(0, 0.5, 0.5).words(),
+        for words in (QUAD[:10], QUAD + [3], [2, 2, 0], [2, 0, 1], [3, 0, 2], [2, 0, 2 ** 32 - 1], sedgepick.Insertion(0, 0.5, 0.5).words(),
                       sedgepick.Insertion(0, math.nan, 0.5).words(), sedgepick.Insertion(7, 0.75, 0.5).words(), [4, 0, 1, 2, 3, 0, 1, 1, 2, 0, 0], [4, 0, 1, 2, 9, 0, 1, 1, 0]):
             self.refused(12, lambda: on(words))
         self.assertEqual(on([4, 0, 2, 0, 2, 9, 8, 6, 0]).quads[0], ((0, 2, 0, 2), (9, 8), 6, 0))
@@ -119,6 +119,12 @@ class Package(unittest.TestCase):
         for words in (QUAD[:10], [3], [1, 2]):
             with self.assertRaises(ValueError):
                 sedgepick.entries(words)
+
+    def test_words_that_32_bits_cannot_hold(self):
+        for words in ([2, 0, 2 ** 32], [2, 0, -1], [2, 0, 0.5], [2 ** 32 + 4] + QUAD[1:], [math.nan], [math.inf], [2 ** 70]):
+            with self.assertRaises(ValueError) as caught:
+                sedgepick.replay(SQUARE, HALVES, words)
+            self.assertIn('from 0 to 4294967295', str(caught.exception))
 
     def test_job(self):
         points, triangles = shaken(2)

@@ -5,7 +5,7 @@ use std::path::{Path, PathBuf};
 
 use crate::generators::{self, KINDS, SMALL, TEXT};
 use crate::random::Random;
-use crate::{call, damage, replays, text};
+use crate::{accept, call, damage, replays, text};
 
 /// FNV-1a, 64 bits.
 pub fn hash(bytes: &[u8]) -> u64 {
@@ -76,6 +76,7 @@ fn agrees(path: &Path) -> Result<Option<bool>> {
         Some("in") => text::reply(&given),
         Some("call") => call::reply(&given).ok_or_else(|| Error::other("not a call"))?,
         Some("replay") => replays::reply(&given).ok_or_else(|| Error::other("not a replay"))?,
+        Some("accepts") => return Ok(Some(accept::stored::reply(&given).as_ref() == Some(&given))),
         Some("list") => return crate::large::list_agrees(&given).map(Some),
         _ => return Ok(None),
     };

@@ -2,6 +2,7 @@
 
 #![allow(dead_code)]
 
+pub mod accept;
 pub mod account;
 pub mod call;
 pub mod generators;

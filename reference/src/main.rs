@@ -2,6 +2,8 @@
 //! the second end, and as patched, run on the program's text form and compared
 //! on generated meshes.
 
+#[allow(dead_code)]
+mod accept;
 mod account;
 mod call;
 mod compare;
@@ -56,6 +58,8 @@ const USAGE: &str = "usage:
   trace                                    the trace of the library's call on standard input
   replay                                   answer the replay on standard input
   replays SEED COUNT DIR                   write replays with their answers
+  accept                                   answer the calls of the acceptance on standard input, a line each
+  accepts SEED EACH DIR                    write calls of the acceptance with their answers, so many of each kind
   meshes SEED TRIANGLES [DIR]              make large meshes, print their hashes
   grids                                    the hashes that the crate `replay` holds
   small                                    the hashes that the crate `acceptance` holds
@@ -132,6 +136,10 @@ fn command(words: &[&str]) -> Result<()> {
         ["replay"] => on_input(replays::reply, "not a replay"),
         ["replays", seed, count, folder] => {
             replays::replays(number(seed)?, number(count)?, Path::new(folder))
+        }
+        ["accept"] => on_input(accept::stored::reply, "not calls of an acceptance"),
+        ["accepts", seed, each, folder] => {
+            accept::stored::write(number(seed)?, number(each)? as usize, Path::new(folder))
         }
         ["parts"] => on_input(
             |text| compare::parts(text).map(String::into_bytes),

@@ -1,7 +1,8 @@
 //! Quads from the triangles of a plane mesh, by an advancing front.
 //!
-//! The mesher is proved: a finished mesh is the one that a short definition fixes, bit for bit, and each of its quads is, in exact arithmetic, convex,
-//! counterclockwise and without a corner under 24.99 degrees. This crate lends it memory.
+//! The mesher is proved: a finished mesh is the one that a short definition fixes, bit for bit, and each of its quads is, in exact arithmetic, convex
+//! and counterclockwise. With the standard quality set no quad has a corner under 24.99 degrees; with any other set, the exact cosine of each corner is at most
+//! the set's largest cosine plus 1e-9. This crate lends it memory.
 //!
 //! ```
 //! use sedgepick::{run_front, Refusal, Stop};
@@ -235,7 +236,7 @@ pub struct Counts {
     pub invalid_quad: usize,
     /// A side that flips could not bring into the mesh.
     pub recovery: usize,
-    /// The triangles inside the quad do not fill it.
+    /// The triangles inside the quad do not fill it, or a joint is inside it.
     pub region: usize,
     /// They do, and without them some component would be odd.
     pub odd_region: usize,

@@ -16,7 +16,7 @@ pub enum Kind {
     InvalidQuad,
     /// A side that flips could not bring into the mesh.
     Recovery,
-    /// The triangles inside the quad do not fill it.
+    /// The triangles inside the quad do not fill it, or a joint is inside it.
     Region,
     /// They do, and without them some component would be odd.
     OddRegion,

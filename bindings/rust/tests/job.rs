@@ -3,6 +3,7 @@
 mod shapes;
 
 use sedgepick::lent::{self, Call, Further, Memory, State, Step};
+use sedgepick::raw::sedgepick_job;
 use sedgepick::{run_front_with, Job, Mesh, Options, Refusal, Slab, MOST_ALLOWANCE, MOST_MESHES};
 use shapes::grid;
 
@@ -170,4 +171,49 @@ fn states_that_no_job_reaches_are_refused_before_all_else() {
         let step = lend(fine, stop);
         assert_eq!((step.charged, step.next), (0, next));
     }
+}
+
+/// The exported call of a mesh without points or triangles, over so many of the job's numbers and of the answer's; what it returns, and what the two hold then.
+fn exported(
+    state: [usize; 5],
+    job_len: usize,
+    answer_len: usize,
+    stop: u32,
+) -> (usize, [usize; 5], [usize; 15]) {
+    let (mut job, mut answer) = (state, [7; 15]);
+    let words = std::ptr::NonNull::<u32>::dangling().as_ptr();
+    let floats = std::ptr::NonNull::<f64>::dangling().as_ptr();
+    // Nothing is lent but the two arrays, whose lengths are not passed.
+    #[rustfmt::skip]
+    let number = unsafe {
+        sedgepick_job(
+            floats, 0, words, 0, words, 0, words, 0, words, 0, words, 0, words, 0, floats, 0, words, 0,
+            0, 0, 0, 0, 0, 0.0, stop, 0.3, 0.9, 0.5, 2.2, 8, 0,
+            job.as_mut_ptr(), job_len, answer.as_mut_ptr(), answer_len,
+        )
+    };
+    (number, job, answer)
+}
+
+#[test]
+fn sixteen_and_slices_without_room_write_nothing() {
+    let (good, bad, answer) = ([2, 9, 1, 4, 77], [2, 9, 1, 5, 77], [7; 15]);
+    for stop in [0, 2] {
+        for length in 0..5 {
+            assert_eq!(exported(good, length, 15, stop), (4, good, answer));
+            assert_eq!(exported(bad, length, 0, stop), (4, bad, answer));
+        }
+        for length in [0, 14, 15] {
+            assert_eq!(exported(bad, 5, length, stop), (16, bad, answer));
+        }
+        for length in [0, 14] {
+            assert_eq!(exported(good, 5, length, stop), (4, good, answer));
+        }
+    }
+    assert_eq!(exported(good, 5, 15, 2), (3, [2, 9, 2, 8, 0], answer));
+    let (number, job, answer) = exported(good, 5, 15, 0);
+    assert_eq!(
+        (number, job, answer[..2].to_vec()),
+        (0, [2, 9, 2, 8, 0], vec![1, 0])
+    );
 }

@@ -1,7 +1,7 @@
 //! The call of a job's mesh: the port's, and what it must leave.
 
 use reference::input::{Input, Lent};
-use reference::job::{Job, Step};
+use reference::job::{Job, Step, BAD_JOB};
 use reference::patched::FrontResult;
 use reference::records::counts;
 use sedgepick::raw::sedgepick_job;
@@ -82,9 +82,13 @@ pub fn copy(before: &Left, number: usize) -> Left {
     }
 }
 
-/// What the slices must hold after the reference's step.
+/// What the slices must hold after the reference's step: after 16 what they held.
 pub fn after(before: &Left, step: Step) -> Left {
     let mut l = copy(before, 0);
+    if let Err(BAD_JOB) = step.ran {
+        l.number = BAD_JOB as usize;
+        return l;
+    }
     let Job {
         meshes,
         allowance,

@@ -142,7 +142,7 @@ impl Turn<'_> {
         (next, charged)
     }
 
-    /// A job's slice too short is 4 before all else, an answer's in the place of 4; nothing is written, whatever the number.
+    /// A job's slice too short is 4 before all else, an answer's is 4 behind 16, whatever the mesh is; nothing is written.
     fn short(&mut self, state: Job, slab: &Slab) {
         let beside = beside(state, &mut self.r);
         let state = self.r.pick(&[state, beside]);
@@ -154,11 +154,8 @@ impl Turn<'_> {
         self.judge(state, slab, &got, &want);
         let answer = self.r.below(ANSWER);
         let before = self.before(state, slab, JOB, answer);
-        let number = match slab.refusal(true) {
-            _ if state.is_bad() => BAD_JOB,
-            number => number.expect("a short answer is refused"),
-        };
-        let want = copy(&before, number as usize);
+        let number = if state.is_bad() { BAD_JOB as usize } else { 4 };
+        let want = copy(&before, number);
         let got = port(&slab.input, slab.lent, before);
         self.judge(state, slab, &got, &want);
     }

@@ -103,10 +103,10 @@ impl Slab {
         }
     }
 
-    /// The refusal before a run, a short slice's too, and that of a short answer where there is one.
-    pub fn refusal(&self, short_answer: bool) -> Option<u32> {
+    /// The refusal before a run, a short slice's too.
+    fn refusal(&self) -> Option<u32> {
         let number = self.input.refusal(self.lent);
-        let short = short_answer || self.tails.0.iter().any(|&tail| tail < 0);
+        let short = self.tails.0.iter().any(|&tail| tail < 0);
         match number {
             Some(number) if BEFORE_SLICES.contains(&number) => Some(number),
             _ if short => Some(4),
@@ -116,7 +116,7 @@ impl Slab {
 
     /// What the reference makes of it in a job.
     pub fn step(&self, job: Job) -> Step {
-        match self.refusal(false) {
+        match self.refusal() {
             Some(number) => job.refused(number),
             None => job.run(&self.input, self.lent),
         }

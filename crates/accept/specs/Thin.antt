@@ -17,9 +17,9 @@ use Rattle.definition.specs.Cells.{Tri, new-tri}
 use Rattle.definition.specs.Exact.{Arrow, exact-dot, squared, squared-length, next-side, last-side}
 use Rattle.laws.specs.Bools.{which}
 use Rattle.accept.specs.Accept.{Judged, tri-corners, Blunt-at, Blunt, turn, above, cosine-at-most, cosine-up-to, is-blunt, over, upright, uprights, verdict}
-use Rattle.accept.specs.Firsts.{Names-first, names-first}
-use Rattle.accept.specs.Tests.{blunt-decides}
+use Rattle.accept.specs.Firsts.{Names-first}
 use Rattle.accept.specs.Bare.{failing-map}
+use Rattle.accept.specs.Theorems.{thin-means}
 
 -- ---- a corner
 
@@ -67,16 +67,12 @@ pub same-thin : (j : Judged) → verdict (uprights j) .thin ≡ verdict j .thin
 unfolding verdict is-blunt
 same-thin j = failing-map (upright (j .points)) (is-blunt (uprights j)) (is-blunt j) (λ t. ap (λ b. not (j .thin ≺ 1·0) || b) (upright-corners (j .thin) (j .points) t)) 0 (j .left)
 
-named : (j : Judged) → Names-first (Blunt-at j) (j .left) (verdict j .thin)
-unfolding verdict
-named j = names-first (is-blunt j) _ (blunt-decides j) (j .left)
-
 -- So it means the clause of them as they are, both ways, and names the first that offends.
 pub thin-means-handed : (j : Judged) → Names-first (Blunt-at j) (j .left) (verdict (uprights j) .thin)
-thin-means-handed j = subst (Names-first (Blunt-at j) (j .left)) (sym (same-thin j)) (named j)
+thin-means-handed j = subst (Names-first (Blunt-at j) (j .left)) (sym (same-thin j)) (thin-means j)
 
 pub as-handed : (j : Judged) → Blunt (uprights j) → Blunt j
-as-handed j h = thin-means-handed j .none-holds (named (uprights j) .holds-none h)
+as-handed j h = thin-means-handed j .none-holds (thin-means (uprights j) .holds-none h)
 
 pub as-upright : (j : Judged) → Blunt j → Blunt (uprights j)
-as-upright j h = named (uprights j) .none-holds (thin-means-handed j .holds-none h)
+as-upright j h = thin-means (uprights j) .none-holds (thin-means-handed j .holds-none h)

@@ -16,7 +16,7 @@ use Rattle.definition.specs.Cells.{Tri, live-tris, tris-of, triangles}
 use Rattle.definition.specs.Attempt.{Attempt, placed, refused, ended}
 use Rattle.definition.specs.Front.{State, Progress, stuck, progressed, limited, stopped, counting, after, make-attempt, past-limit, attempt, front-loop, Result, ran, start, result, outcome, run-front}
 use Rattle.definition.specs.Call.{Asked, Lent, Lengths, finished, given-points, given-tris, given-locks, settings-within, lengths, call-within, call}
-use Rattle.laws.specs.Bools.{either, or-none, cond-ok}
+use Rattle.laws.specs.Bools.{which, never, either, or-none, cond-ok}
 use Rattle.account.specs.Rearranged.{same-length}
 use Rattle.account.specs.Parity.{triangles-same}
 use Rattle.account.specs.LiveTris.{live-tris-is}
@@ -30,11 +30,11 @@ pub record Going (most : ℕ) (st : State) : Type 0 where
   pub made : st .counts .attempts ≤ most
   pub no-limit : st .counts .limit ≡ 0
 
--- a limit: the attempt that it stopped is counted. It is the limit on attempts, or that on live triangles.
+-- a limit: the attempt that it stopped is counted. It is the limit on attempts, or, with no more attempts than theirs, that on live triangles.
 pub record Limited (most given : ℕ) (st : State) : Type 0 where
   pub counted : st .counts .attempts ≤ most + 1
   pub limit : st .counts .limit ≡ 1
-  pub which-one : (st .counts .attempts ≡ most + 1) ⊎ (max-triangles given < live-tris (st .mesh))
+  pub which-one : (st .counts .attempts ≡ most + 1) ⊎ ((st .counts .attempts ≤ most) × (max-triangles given < live-tris (st .mesh)))
 
 -- the counts that an attempt adds
 same-refused : (c : Counts) (n : Spent) (why : Refusal) → ((c ⊞ spending n ⊞ refused-by why) .attempts ≡ c .attempts) × ((c ⊞ spending n ⊞ refused-by why) .limit ≡ c .limit)
@@ -73,7 +73,10 @@ module _ (s : Settings) (given : ℕ) where
       (λ z. record {
         counted = omega (arith, h .made);
         limit = omega (arith, h .no-limit);
-        which-one = elim (either tried grown z) [ inl l ↦ inl (omega (arith, ltb-true most (counted .counts .attempts) l, h .made)) | inr l ↦ inr (ltb-true (max-triangles given) (live-tris (st .mesh)) l) ];
+        which-one = elim (which tried) [
+          | inl l ↦ inl (omega (arith, ltb-true most (counted .counts .attempts) l, h .made))
+          | inr l ↦ inr (omega (arith, ltb-false most (counted .counts .attempts) l), ltb-true (max-triangles given) (live-tris (st .mesh)) (elim (either tried grown z) [ inl k ↦ never tried k l | inr k ↦ k ]))
+        ];
       })
       (λ z. after-goes counted e _ (record { made = ltb-false most (counted .counts .attempts) (or-none tried grown z .0); no-limit = omega (arith, h .no-limit) }))
 
@@ -109,16 +112,16 @@ module _ (s : Settings) (lk : Edge → Bool) (ts : List Tri) (ps : List Node) wh
   unfolding run-front
   ended-how r e = finished-so s (length ts) r _ ending e
 
-  -- A run that a limit ended reports exactly its limit on attempts and one more, unless the live triangles passed theirs.
+  -- A run that a limit ended reports exactly its limit on attempts and one more, or no more than that limit, and then the live triangles passed theirs.
   pub at-the-limit : (r : Result) → run-front s lk ts ps ≡ ran r → r .counts .limit ≡ 1
-      → (r .counts .attempts ≡ s .attempts + 1) ⊎ ((st : State) × (r ≡ result st) × (max-triangles (length ts) < live-tris (st .mesh)))
+      → (r .counts .attempts ≡ s .attempts + 1) ⊎ ((st : State) × (r ≡ result st) × (r .counts .attempts ≤ s .attempts) × (max-triangles (length ts) < live-tris (st .mesh)))
   unfolding result
   at-the-limit r e f =
       let w = ended-how r e in
       let same = ap (λ x. x .counts) (w .1) in
       elim (w .2) [
         | inl g ↦ absurd (let z : _≡_ {A = ℕ} 0 1 = sym (g .no-limit) ∙ sym (ap (λ c. c .limit) same) ∙ f in omega arith)
-        | inr g ↦ elim (g .which-one) [ inl h ↦ inl (ap (λ c. c .attempts) same ∙ h) | inr h ↦ inr (w .0, w .1, h) ]
+        | inr g ↦ elim (g .which-one) [ inl h ↦ inl (ap (λ c. c .attempts) same ∙ h) | inr h ↦ inr (w .0, w .1, omega (arith, ap (λ c. c .attempts) same, h .0), h .1) ]
       ]
 
   -- No run makes more attempts than its limit: the stopping attempt is counted and not made.
@@ -130,13 +133,17 @@ module _ (s : Settings) (lk : Edge → Bool) (ts : List Tri) (ps : List Node) wh
       let b = ap (λ x. x .counts .limit) (w .1) in
       elim (w .2) [ inl g ↦ omega (arith, g .made) | inr g ↦ omega (arith, g .counted, g .limit) ]
 
+  -- A run that no limit ended reports no more attempts than its limit.
+  pub without-limit : (r : Result) → run-front s lk ts ps ≡ ran r → r .counts .limit ≡ 0 → r .counts .attempts ≤ s .attempts
+  without-limit r e f = omega (arith, made-within r e, f)
+
   -- one that want of lent memory ended began no more
   pub begun-within : (w : Want) (st : State) → rounds-of ≡ stopped w st → st .counts .attempts ≤ s .attempts
   begun-within w st e = let g : Going (s .attempts) st = subst (λ p. Ends (Going (s .attempts)) (Limited (s .attempts) (length ts)) p) e ending in g .made
 
 -- A run that the limit on attempts ended reports exactly one more; one that a limit ended with fewer has more leftover triangles than their limit.
 pub result-limit : (s : Settings) (lk : Edge → Bool) (ts : List Tri) (ps : List Node) (r : Result) → run-front s lk ts ps ≡ ran r → r .counts .limit ≡ 1
-    → (r .counts .attempts ≡ s .attempts + 1) ⊎ (max-triangles (length ts) < length (r .triangles))
+    → (r .counts .attempts ≡ s .attempts + 1) ⊎ ((r .counts .attempts ≤ s .attempts) × (max-triangles (length ts) < length (r .triangles)))
 unfolding result
 result-limit s lk ts ps r e f =
     elim (at-the-limit s lk ts ps r e f) [
@@ -144,14 +151,14 @@ result-limit s lk ts ps r e f =
       | inr h ↦
           let m = h .0 .mesh in
           let u : length (r .triangles) ≡ length (triangles m) = ap (λ r. length (r .triangles)) (h .1) in
-          inr (omega (arith, h .2, u, live-tris-is m, same-length (tris-of (m .live)) (triangles m) (triangles-same m)))
+          inr (h .2, omega (arith, h .3, u, live-tris-is m, same-length (tris-of (m .live)) (triangles m) (triangles-same m)))
     ]
 
 -- ---- a call
 
 -- A call that the limit on attempts ended reports exactly one more than that limit; one that a limit ended with fewer has more leftover triangles than theirs.
 pub limit-of-call : (most : ℕ) (a : Asked) (l : Lent) (c : Counts) (n : Lengths) → call-within most a l .answer ≡ finished c n → c .limit ≡ 1
-    → (c .attempts ≡ most + 1) ⊎ (4 * a .count + 100 < n .triangles)
+    → (c .attempts ≡ most + 1) ⊎ ((c .attempts ≤ most) × (4 * a .count + 100 < n .triangles))
 unfolding settings-within lengths max-triangles
 limit-of-call most a l c n done e =
     let b = behind most a l c n done in
@@ -159,11 +166,11 @@ limit-of-call most a l c n done e =
     let t = tris-number a l (b .passed) in
     elim (result-limit (settings-within most (length (l .trace)) a) (given-locks a l) (given-tris a l) (given-points a l) (b .run) (b .ended) (sym (ap (λ z. z .limit) k) ∙ e)) [
       | inl h ↦ inl (omega (arith, ap (λ z. z .attempts) k, h, t))
-      | inr h ↦ inr (omega (arith, h, ap (λ z. z .triangles) (b .lengths-are), t))
+      | inr h ↦ inr (omega (arith, ap (λ z. z .attempts) k, h .0), omega (arith, h .1, ap (λ z. z .triangles) (b .lengths-are), t))
     ]
 
 -- Under the usual limit: 200 times the triangles plus 10,001.
 pub limit-exact : (a : Asked) (l : Lent) (c : Counts) (n : Lengths) → call a l .answer ≡ finished c n → c .limit ≡ 1
-    → (c .attempts ≡ 200 * a .count + 10001) ⊎ (4 * a .count + 100 < n .triangles)
+    → (c .attempts ≡ 200 * a .count + 10001) ⊎ ((c .attempts ≤ 200 * a .count + 10000) × (4 * a .count + 100 < n .triangles))
 unfolding call max-attempts
 limit-exact a l c n done e = elim (limit-of-call (200 * a .count + 10000) a l c n done e) [ inl h ↦ inl (omega arith) | inr h ↦ inr h ]

@@ -1,7 +1,7 @@
 -- A call that finished: no refusal's condition held, and its slices hold the run's result.
 use mathlib.Core.Path.{_≡_, refl, sym, ap, _∙_, subst}
 use mathlib.Core.Bool.{Bool, true, false, not, _&&_, _||_}
-use mathlib.Core.Logic.{inl, inr}
+use mathlib.Core.Logic.{_≢_, inl, inr}
 use mathlib.Core.List.{List, _∷_}
 use mathlib.Core.Option.{none, some}
 use Prim.{absurd}
@@ -10,7 +10,7 @@ use native.Mathlib.Omega.{arith}
 use lib.Dec.{eqb, leb, ltb}
 use lib.ListN.{length}
 use lib.Ieee.{eq}
-use borrow.Author.Tests.{not-false, eqb-false, leb-false, ltb-false}
+use borrow.Author.Tests.{not-false, not-true, eqb-false, leb-false, ltb-false}
 use Rattle.definition.specs.Lists.{any, all, find, below}
 use Rattle.definition.specs.Floats.{0·0}
 use Rattle.definition.specs.Counts.{Counts}
@@ -19,7 +19,7 @@ use Rattle.definition.specs.Cells.{Tri, tri-nodes}
 use Rattle.definition.specs.Front.{Result, Outcome, ran, wanting, run-front}
 use Rattle.definition.specs.Call.{Asked, Lent, Lengths, finished, refusal, given-points, given-tris, given-locks, first-points, first-tris, settings-within, conditions, most-given, most-capacity, most-slots, slot-words, point-words, slot-floats, over-limit, bad-size, good-quality, bad-quality, bad-grid, bad-joints, too-short, unknown-node, twice, repeated-node, outside, far-point, grid-node, lengths, written, untouched, after-run, call-within}
 use Rattle.laws.specs.Bools.{which, or-none}
-use Rattle.laws.specs.Lists.{In, none-in, known, numbers-length, table-length}
+use Rattle.laws.specs.Lists.{In, find-in, all-in, none-in, known, numbers-length, table-length}
 use Rattle.account.specs.Triangles.{Distinct}
 use Rattle.account.specs.Start.{Proper}
 
@@ -59,6 +59,15 @@ module _ (most : ℕ) (a : Asked) (l : Lent) (c : Counts) (n : Lengths) where
         let g : refusal (f .0 .0) ≡ finished c n = rw (f .1, call-within) at h in
         absurd (let z : _≡_ {A = ℕ} 0 1 = cc in omega arith)
   ]
+
+-- no refusal before a run has a number of the run's own
+pub not-of-run : (a : Asked) (l : Lent) (k : ℕ) (b : Bool) → find (λ c. c .1) (conditions a l) ≡ some (k, b) → (k ≢ 8) × (k ≢ 9)
+unfolding conditions all
+not-of-run a l k b f =
+    let i = find-in (λ c. c .1) (k, b) (conditions a l) f .0 in
+    let no8 = all-in (λ c. not (eqb (c .0) 8)) (conditions a l) refl (k, b) i in
+    let no9 = all-in (λ c. not (eqb (c .0) 9)) (conditions a l) refl (k, b) i in
+    (eqb-false k 8 (not-true (eqb k 8) no8), eqb-false k 9 (not-true (eqb k 9) no9))
 
 -- ---- what the conditions say where none holds
 
@@ -116,6 +125,14 @@ module _ (a : Asked) (l : Lent) (passed : find (λ c. c .1) (conditions a l) ≡
   fits =
       let h = or-none (short-slice || ltb (a .capacity) (a .given)) (ltb (a .slots) (a .count)) long-enough in
       (or-none short-slice (ltb (a .capacity) (a .given)) (h .0) .1, h .1)
+
+  -- the slice of points has the stated capacity
+  pub points-long : 3 * a .capacity ≤ length (l .points)
+  unfolding too-short short-slice
+  points-long =
+      let h = or-none (short-slice || ltb (a .capacity) (a .given)) (ltb (a .slots) (a .count)) long-enough .0 in
+      let k = or-none short-slice (ltb (a .capacity) (a .given)) h .0 in
+      ltb-false (length (l .points)) (3 * a .capacity) (or-none _ _ (or-none _ _ (or-none _ _ (or-none _ _ (or-none _ _ (or-none _ _ (or-none _ _ k .0) .0) .0) .0) .0) .0) .0)
 
   -- the given points and triangles fit what was lent
   pub given-fit : a .given ≤ a .capacity

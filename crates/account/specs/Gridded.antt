@@ -71,7 +71,7 @@ module _ (s : Settings) (unsized : Unsized s) (ps : List Node) (near : All (λ p
   never-inserted : (begun m : Mesh) (p : Node) → begun .points ≡ ps → On-normal s begun m p → ⊥
   never-inserted begun m p e on = never _ (on .off) (on-target s unsized (begun .points) (on .a, on .b) (subst (λ l. All (λ p. outside p ≡ false) l) (sym e) near))
 
-  points-rule : Rule s (λ st es. st .mesh .points ≡ ps) (λ st es n m. (st .mesh .points ≡ ps) × (m .points ≡ ps)) (λ st. st .mesh .points ≡ ps)
+  pub points-rule : Rule s (λ st es. st .mesh .points ≡ ps) (λ st es n m. (st .mesh .points ≡ ps) × (m .points ≡ ps)) (λ st. st .mesh .points ≡ ps)
   unfolding counting
   points-rule = record {
     opens = λ st es ok h o. h;

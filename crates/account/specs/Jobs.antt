@@ -16,7 +16,7 @@ use Rattle.definition.specs.Lists.{find}
 use Rattle.definition.specs.Numbers.{Settings, max-attempts}
 use Rattle.definition.specs.Counts.{Counts}
 use Rattle.definition.specs.Front.{Progress, stuck, progressed, limited, stopped, ran, run-front}
-use Rattle.definition.specs.Call.{Asked, Lent, Lengths, finished, given-points, given-tris, given-locks, first-quads, conditions, settings-within, settings, lengths, after-run, call-within, call}
+use Rattle.definition.specs.Call.{Asked, Lent, Lengths, finished, given-points, given-tris, given-locks, first-quads, conditions, settings-within, settings, lengths, untouched, after-run, call-within, call}
 use Rattle.definition.specs.Job.{Job, most-meshes, most-allowance, share, entitled, bad-job, job-limit, rounds-of, attempts-made, charge, handed-on, Job-returned, after-mesh, run-mesh, job}
 use Rattle.laws.specs.Bools.{which, or-none}
 use Rattle.laws.specs.Lists.{known}
@@ -81,9 +81,10 @@ going-on j h =
     let d = or-none (eqb (j .meshes) 0 || ltb most-meshes (j .meshes)) (leb (j .meshes) (j .done)) (c .0) in
     leb-false (j .meshes) (j .done) (d .1)
 
-job-refused : (j : Job) (a : Asked) (l : Lent) → bad-job j ≡ true → (job j a l .charged ≡ 0) × (job j a l .next ≡ j)
+-- 16 comes before every other refusal, whatever the mesh states and lends: no slice is touched, nothing is charged, and the state is handed back as it was
+pub refused-first : (j : Job) (a : Asked) (l : Lent) → bad-job j ≡ true → job j a l ≡ record { returned = untouched 16 l; charged = 0; next = j }
 unfolding job
-job-refused j a l h = (rw h refl, rw h refl)
+refused-first j a l h = rw h refl
 
 -- a mesh is charged no more than it is entitled to, and hands on the rest
 pub job-handed : (j : Job) (a : Asked) (l : Lent) → bad-job j ≡ false → Handed j (job j a l)
@@ -120,9 +121,9 @@ unfolding all-charged
 charged-within [] j k h = omega arith
 charged-within (x ∷ xs) j k h = elim (which (bad-job j)) [
   | inl b ↦
-      let r = job-refused j (x .0) (x .1) b in
-      let next : all-charged (job j (x .0) (x .1) .next) xs ≤ j .left + k * share j = subst (λ z. all-charged z xs ≤ j .left + k * share j) (sym (r .1)) (charged-within xs j k h) in
-      omega (arith, r .0, next)
+      let r = refused-first j (x .0) (x .1) b in
+      let next : all-charged (job j (x .0) (x .1) .next) xs ≤ j .left + k * share j = subst (λ z. all-charged z xs ≤ j .left + k * share j) (sym (ap (λ z. z .next) r)) (charged-within xs j k h) in
+      omega (arith, ap (λ z. z .charged) r, next)
   | inr b ↦ one-more j (job j (x .0) (x .1)) xs k h (job-handed j (x .0) (x .1) b) (going-on j b) (λ n i g. charged-within xs (handed-on j n) i g)
 ]
 

@@ -9,13 +9,15 @@ use lib.ListN.{length}
 use borrow.Author.Tests.{le-ltb}
 use Rattle.definition.specs.Lists.{any, all, find, table, numbers, below}
 use Rattle.definition.specs.Plane.{Edge}
-use Rattle.definition.specs.Cells.{Quad, Live, Mesh, same-edge, has-edge-in, tri-edges, quad-edges, edges, is-locked}
+use Rattle.definition.specs.Cells.{Quad, Live, Mesh, key, same-edge, has-edge-in, tri-edges, quad-edges, edges, is-locked}
 use Rattle.definition.specs.Region.{fills, may-go, spares-locked, if-filled}
 use Rattle.definition.specs.Numbers.{max-attempts}
-use Rattle.definition.specs.Front.{Outcome, ran, wanting, run-front}
+use Rattle.definition.specs.Front.{Progress, Outcome, ran, wanting, new-mesh, outcome, run-front}
 use Rattle.definition.specs.Call.{Asked, Lent, Returned, given-points, given-tris, given-joints, given-locks, most-joints, over-limit, bad-size, bad-stop, bad-quality, too-short, unknown-node, repeated-node, far-point, bad-grid, bad-joint, bad-joints, conditions, settings-within, settings, written, untouched, after-run, call-within, call}
+use Rattle.definition.specs.Job.{Job, charge, handed-on, job-limit, rounds-of, after-mesh, run-mesh, bad-job, job}
+use Rattle.definition.specs.Preview.{show-edge, cleared, preview}
 use Rattle.definition.specs.Account.{Joints-survive, Keeps-joints}
-use Rattle.laws.specs.Bools.{same-bool, or-second}
+use Rattle.laws.specs.Bools.{which, same-bool, or-second}
 use Rattle.laws.specs.Lists.{In, in-any, any-in, all-from, in-flat-map, known}
 use Rattle.laws.specs.Cells.{same-self}
 use Rattle.account.specs.Slices.{read-quads, read-triangles}
@@ -111,21 +113,49 @@ module _ (a : Asked) (l : Lent) (n : ℕ) (js : List ℕ) (h : Same-joints a l n
       ap₂ (λ short bad. (1, over-limit a) ∷ (2, bad-size a) ∷ (3, bad-stop a) ∷ (14, bad-quality a) ∷ (4, short) ∷ (5, unknown-node a l) ∷ (6, repeated-node a l) ∷ (7, far-point a l) ∷ (15, bad-grid a l) ∷ (13, bad) ∷ []) short-same bad-same
 
   -- they lead to the same run,
-  pub same-run : run-front (settings-within (max-attempts (a .count)) (length (l .trace)) a′) (given-locks a′ l′) (given-tris a′ l′) (given-points a′ l′) ≡ run-front (settings-within (max-attempts (a .count)) (length (l .trace)) a) (given-locks a l) (given-tris a l) (given-points a l)
-  unfolding with-number with-joints settings settings-within given-points given-tris
-  same-run = ap (λ k. run-front (settings-within (max-attempts (a .count)) (length (l .trace)) a) k (given-tris a l) (given-points a l)) locks-same
+  pub same-run : (most : ℕ) → run-front (settings-within most (length (l .trace)) a′) (given-locks a′ l′) (given-tris a′ l′) (given-points a′ l′) ≡ run-front (settings-within most (length (l .trace)) a) (given-locks a l) (given-tris a l) (given-points a l)
+  unfolding with-number with-joints settings-within given-points given-tris
+  same-run most = ap (λ k. run-front (settings-within most (length (l .trace)) a) k (given-tris a l) (given-points a l)) locks-same
 
   after-same : (o : Outcome) → after-run l′ o ≡ returned-with js (after-run l o)
   unfolding after-run written with-joints returned-with
   after-same (ran r) = refl
   after-same (wanting w ps qs ws) = refl
 
-  -- and the calls return the same
+  -- and the calls return the same, whatever their limit on attempts,
+  pub same-joints-within : (most : ℕ) → call-within most a′ l′ ≡ returned-with js (call-within most a l)
+  unfolding call-within returned-with untouched with-number with-joints
+  same-joints-within most = elim (known (find (λ c. c .1) (conditions a l))) [
+    | inl f ↦ rw (conditions-same, f, call-within) (ap (after-run l′) (same-run most) ∙ after-same (run-front (settings-within most (length (l .trace)) a) (given-locks a l) (given-tris a l) (given-points a l)))
+    | inr f ↦ rw (conditions-same, f .1, call-within) refl
+  ]
+
+  -- so under the usual one;
   pub same-joints : call a′ l′ ≡ returned-with js (call a l)
-  unfolding call call-within settings returned-with untouched with-number with-joints
-  same-joints = elim (known (find (λ c. c .1) (conditions a l))) [
-    | inl f ↦ rw (conditions-same, f, call, call-within) (ap (after-run l′) same-run ∙ after-same (run-front (settings-within (max-attempts (a .count)) (length (l .trace)) a) (given-locks a l) (given-tris a l) (given-points a l)))
-    | inr f ↦ rw (conditions-same, f .1, call, call-within) refl
+  unfolding call with-number
+  same-joints = same-joints-within (max-attempts (a .count))
+
+  mesh-same : (j : Job) (p : Progress) → after-mesh j l′ p ≡ record { returned = returned-with js (after-mesh j l p .returned); charged = after-mesh j l p .charged; next = after-mesh j l p .next }
+  unfolding after-mesh
+  mesh-same j p = ap (λ r. record { returned = r; charged = charge p; next = handed-on j (charge p) }) (after-same (outcome p))
+
+  -- a mesh of a job returns the same, is charged the same and hands on the same state;
+  pub same-joints-job : (j : Job) → job j a′ l′ ≡ record { returned = returned-with js (job j a l .returned); charged = job j a l .charged; next = job j a l .next }
+  unfolding job run-mesh job-limit returned-with untouched with-number with-joints settings-within given-points given-tris
+  same-joints-job j = elim (which (bad-job j)) [
+    | inl b ↦ rw b refl
+    | inr b ↦ elim (known (find (λ c. c .1) (conditions a l))) [
+      | inl f ↦ rw (b, conditions-same, f, run-mesh) (ap (λ k. after-mesh j l′ (rounds-of (settings-within (job-limit j a) (length (l .trace)) a) k (given-tris a l) (given-points a l))) locks-same ∙ mesh-same j _)
+      | inr f ↦ rw (b, conditions-same, f .1, run-mesh) refl
+    ]
+  ]
+
+  -- and a preview shows the same
+  pub same-joints-preview : (u v : ℕ) → preview a′ l′ u v ≡ record { shown = preview a l u v .shown; lent = with-joints js (preview a l u v .lent) }
+  unfolding preview cleared with-number with-joints settings settings-within given-points given-tris
+  same-joints-preview u v = elim (known (find (λ c. c .1) (conditions a l))) [
+    | inl f ↦ rw (conditions-same, f, preview) (ap (λ k. record { shown = show-edge (settings a) (new-mesh (settings a) k (given-tris a l) (given-points a l)) (key u v); lent = cleared l′ }) locks-same)
+    | inr f ↦ rw (conditions-same, f .1, preview) refl
   ]
 
 -- ---- without a joint

@@ -21,6 +21,7 @@ pub mod Locks
 pub mod Fronts
 pub mod Run
 pub mod Start
+pub mod ValidWalks
 -- what a run keeps
 pub mod Counting
 pub mod Parity
@@ -29,6 +30,7 @@ pub mod Quads
 pub mod Geometry
 pub mod Locked
 pub mod FlipEdges
+pub mod NeverFlipped
 pub mod Births
 pub mod Placed
 pub mod SameRound
@@ -42,6 +44,7 @@ pub mod Joints
 pub mod Weights
 pub mod Areas
 pub mod Gridded
+pub mod GridEnds
 pub mod Profile
 -- edges that were refused
 pub mod Roles
@@ -58,9 +61,11 @@ pub mod Rounds
 pub mod Walks
 pub mod Attempts
 pub mod Trials
+pub mod InTurn
 pub mod Smaller
 pub mod Jobs
 pub mod Previews
+pub mod PreviewRoom
 pub mod Listed
 pub mod LiveTris
 pub mod Meshes
@@ -70,3 +75,9 @@ pub mod Reach
 pub mod Redo
 pub mod Played
 pub mod Replays
+pub mod Stages
+-- a run without its trace
+pub mod Quiet
+pub mod Untraced
+pub mod Traceless
+pub mod NoTrace

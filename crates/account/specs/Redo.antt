@@ -246,12 +246,12 @@ module _ (s s₀ : Settings) (b : Float) (first : Mesh) (points : s .capacity �
   along-flat o n target share p e =
       subst (λ z. (z ≡ flat (z .x) (z .y)) × T (fits binary64 (z .x)) × T (fits binary64 (z .y))) (sym e) (refl, add-fits binary64 _ _, add-fits binary64 _ _)
 
-  flip-redoable : (m m′ : Mesh) (e : Edge) (quads : List Quad) → Valid m → In e (all-edges m) → flip m e ≡ some m′ → Redoable s₀ b first m quads → Redoable s₀ b first m′ quads
+  pub flip-redoable : (m m′ : Mesh) (e : Edge) (quads : List Quad) → Valid m → In e (all-edges m) → flip m e ≡ some m′ → Redoable s₀ b first m quads → Redoable s₀ b first m′ quads
   unfolding set-tris set-cell with-live noting quads-placed
   flip-redoable m m′ e quads ok i f h =
       further m m′ (was-flipped e) quads quads h (ap (λ n. n .history) (flip-made m e m′ f .after)) (ap (λ n. n .room) (flip-made m e m′ f .after)) (redo-flip s₀ b m m′ e ok i f) tt (append-nil quads)
 
-  split-redoable : (start m : Mesh) (x : Live) (t : Tri) (p : Node) (quads : List Quad) → Valid m → Splitting s start m x t p → Redoable s₀ b first m quads
+  pub split-redoable : (start m : Mesh) (x : Live) (t : Tri) (p : Node) (quads : List Quad) → Valid m → Splitting s start m x t p → Redoable s₀ b first m quads
       → Redoable s₀ b first (split-triangle m (x .slot) t p) quads
   unfolding split-triangle push-cell set-cell with-live with-point noting quads-placed
   split-redoable start m x t p quads ok w h =
@@ -260,7 +260,7 @@ module _ (s s₀ : Settings) (b : Float) (first : Mesh) (points : s .capacity �
       (redo-split-at s₀ b m x t p ok (w .at) (w .cell) (w .held) (omega (arith, w .point-left)) (omega (arith, w .slots-left)))
       (along-flat _ _ _ _ p (n .place)) (append-nil quads)
 
-  quad-redoable : (P : ℕ → Mesh → Type 0) (k : ℕ) (m : Mesh) (q : Quad) (quads : List Quad) (w : Made s P k m q) → Valid (w .mesh) → Redoable s₀ b first (w .mesh) quads
+  pub quad-redoable : (P : ℕ → Mesh → Type 0) (k : ℕ) (m : Mesh) (q : Quad) (quads : List Quad) (w : Made s P k m q) → Valid (w .mesh) → Redoable s₀ b first (w .mesh) quads
       → Redoable s₀ b first m (quads ++ (q ∷ []))
   unfolding replaced push-cell remove-cells with-live noting quads-placed
   quad-redoable P k m q quads w ok h =

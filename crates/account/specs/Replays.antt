@@ -64,7 +64,7 @@ left-by k b st e =
     ap f e
 
 -- with room the words are those of all that happened
-with-room : (room : ℕ) (vs : List Event) → 0 < room → words-in room vs ≡ trace vs
+pub with-room : (room : ℕ) (vs : List Event) → 0 < room → words-in room vs ≡ trace vs
 unfolding words-in
 with-room zero vs h = absurd (omega arith)
 with-room (suc room) vs h = refl
@@ -96,7 +96,7 @@ module _ (a : Asked) (l exit : Lent) (words : ℕ) (t : Told) (k : Lent) (w : Re
   runs s lk = rw (w .opened, replay) (λ i. after-replay k (replay-words again (same-first s lk i) (same-words i)))
 
   -- the words of a state's mesh are replayed to that mesh
-  ends-in : (s : Settings) (lk : Edge → Bool) (st : State) → 0 < s .room → take words (exit .trace) ≡ traced (st .mesh)
+  pub ends-in : (s : Settings) (lk : Edge → Bool) (st : State) → 0 < s .room → take words (exit .trace) ≡ traced (st .mesh)
       → Redoable again bucket (first s lk) (st .mesh) (st .quads) → replay t k ≡ rebuilt-as k (result st)
   unfolding replay-words traced
   ends-in s lk st room e h =

@@ -18,23 +18,20 @@ kind-number OddRegion = 5
 abbrev pub twelve : ℕ → ℕ → Cost → Quad → List ℕ
 twelve what kind c q = what ∷ kind ∷ c .insertions ∷ c .flips ∷ quad-words q
 
--- zeros where nothing is attempted, and where there is no quad
-abbrev pub free : Cost
-free = record { insertions = 0; flips = 0 }
-
+-- zeros where there is no quad
 abbrev pub no-quad : Quad
 no-quad = record { n0 = 0; n1 = 0; n2 = 0; n3 = 0; edge = (0, 0); round = 0; replaced = 0 }
 
 -- the numbers of what is shown: 0 not on the front, 1 a quad, 2 the attempt is refused; a refusal has none
 abbrev pub shown-numbers : Shown → List ℕ
-shown-numbers off-front = twelve 0 0 free no-quad
+shown-numbers (off-front c) = twelve 0 0 c no-quad
 shown-numbers (shown-quad q c) = twelve 1 0 c q
 shown-numbers (shown-kind why c) = twelve 2 (kind-number why) c no-quad
 shown-numbers (shown-refusal k) = []
 
 -- what is returned: a refusal's number, and 0 where something is shown
 abbrev pub refusal-number : Shown → ℕ
-refusal-number off-front = 0
+refusal-number (off-front c) = 0
 refusal-number (shown-quad q c) = 0
 refusal-number (shown-kind why c) = 0
 refusal-number (shown-refusal k) = k

@@ -1,18 +1,12 @@
-// The state of a job in a slice, and the number of a mesh without room for its answer.
-use crate::short_answer;
+// The state of a job in a slice.
 use allowances::Job;
-use allowances::bad_job;
-use refusals::Room;
-use refusals::Stated;
 ghost use mathlib.Core.Path.{_≡_};
 ghost use mathlib.Core.List.{[], _∷_};
 ghost use lib.ListN.{length};
 ghost use Prim.Native.Nat.{_≤_};
-ghost use Rattle.definition.specs.Call.{Lent, onto};
-ghost use Rattle.refusals.specs.Stated.{Lends, asked};
-ghost use Rattle.refusals.specs.Refusals.{first-refusal};
+ghost use Rattle.definition.specs.Call.{onto};
 ghost use Rattle.allowances.specs.States.{job-of};
-ghost use Rattle.answer_numbers.specs.Jobs.{state-in, short-number};
+ghost use Rattle.answer_numbers.specs.Jobs.{state-in};
 
 // Numbers of a job's slice: the four of its state, and the attempts charged.
 pub const JOB: usize = 5;
@@ -40,21 +34,4 @@ pub fn write_job(job: &mut [usize], next: Job, charged: usize)
     job[2] = next.done;
     job[3] = next.left;
     job[4] = charged;
-}
-
-// The number of a mesh whose answer is too short: 16, or that of the call.
-pub fn short_mesh(
-    points: &[f64],
-    triangles: &[u32],
-    joints: &[u32],
-    state: Job,
-    a: Stated,
-    n: Room,
-) -> usize
-    ensures { λ r. ⌜ ((l : Lent) → Lends l (now (points .entry)) (now (triangles .entry)) (now (joints .entry)) n → r ≡ short-number (job-of state) (first-refusal (asked a) l)) ⌝ }
-{
-    if bad_job(state) {
-        return 16;
-    }
-    short_answer(points, triangles, joints, a, n)
 }

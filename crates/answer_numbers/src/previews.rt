@@ -50,10 +50,6 @@ pub fn put_shown(answer: &mut [usize], shown: Shown) -> usize
     requires { ⌜ 12 ≤ length (now answer) ⌝ }
     ensures { λ r. ⌜ (r ≡ refusal-number (shown-of shown)) × (now (answer .exit) ≡ onto (shown-numbers (shown-of shown)) (now (answer .entry))) ⌝ }
 {
-    let free = Cost {
-        insertions: 0,
-        flips: 0,
-    };
     let no_quad = Born {
         n0: 0,
         n1: 0,
@@ -65,8 +61,8 @@ pub fn put_shown(answer: &mut [usize], shown: Shown) -> usize
         replaced: 0,
     };
     match shown {
-        Shown::OffFront => {
-            write_shown(answer, 0, 0, free, no_quad);
+        Shown::OffFront(cost) => {
+            write_shown(answer, 0, 0, cost, no_quad);
             return 0;
         }
         Shown::Quad(quad, cost) => {

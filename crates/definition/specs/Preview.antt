@@ -6,7 +6,7 @@ use lib.Dec.{eqb}
 use Rattle.definition.specs.Lists.{find}
 use Rattle.definition.specs.Floats.{0·0}
 use Rattle.definition.specs.Numbers.{Settings}
-use Rattle.definition.specs.Counts.{Refusal, Spent, number}
+use Rattle.definition.specs.Counts.{Refusal, Spent, nothing-spent, number}
 use Rattle.definition.specs.Plane.{Edge}
 use Rattle.definition.specs.Cells.{Quad, Mesh, key, is-front}
 use Rattle.definition.specs.Attempt.{Attempt, placed, refused, ended, try-quad}
@@ -18,9 +18,9 @@ pub record Cost : Type 0 where
   pub insertions : ℕ
   pub flips : ℕ
 
--- not on the front; the quad, in round 1; what the attempt is refused under; or a refusal's number
+-- not on the front, at no cost; the quad, in round 1; what the attempt is refused under; or a refusal's number
 pub data Shown : Type 0 where
-  off-front : Shown
+  off-front : Cost → Shown
   shown-quad : Quad → Cost → Shown
   shown-kind : Refusal → Cost → Shown
   shown-refusal : ℕ → Shown
@@ -35,9 +35,9 @@ shown (placed n m q) = shown-quad q (cost n)
 shown (refused why n m) = shown-kind why (cost n)
 shown (ended w n m) = shown-refusal (number w)
 
--- the attempt on an edge of the mesh, if it is on the front
+-- the attempt on an edge of the mesh, if it is on the front; otherwise nothing is inserted and nothing flipped
 unfoldable pub show-edge : Settings → Mesh → Edge → Shown
-show-edge s m e = let tried = shown (try-quad s m e) in cond (not (eqb (e .0) (e .1)) && is-front m e) tried off-front
+show-edge s m e = let tried = shown (try-quad s m e) in cond (not (eqb (e .0) (e .1)) && is-front m e) tried (off-front (cost nothing-spent))
 
 -- both work slices cleared, all else as it was
 unfoldable pub cleared : Lent → Lent

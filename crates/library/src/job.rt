@@ -1,12 +1,11 @@
 // A mesh of a job, its state in a slice of its own.
+use allowances::bad_job;
 use answer_numbers::ANSWER;
 use answer_numbers::jobs::JOB;
-use answer_numbers::jobs::short_mesh;
 use answer_numbers::jobs::state_in;
 use answer_numbers::jobs::write_job;
 use answer_numbers::write_answer;
 use jobs::run_mesh;
-use refusals::Room;
 use refusals::Stated;
 use rules::Quality;
 ghost use mathlib.Core.Bool.{not};
@@ -16,7 +15,7 @@ ghost use Rattle.mesher.specs.Promise.{lent-of};
 ghost use Rattle.library.specs.Exported.{set-of};
 ghost use Rattle.library.specs.Jobs.{Exported-job};
 
-// The number of the refusal is returned, 0 where the run finished. The state to hand on and the attempts charged come to the front of the job's slice, also where the mesh is refused; then the numbers of a finished run to the front of the answer.
+// The number of the refusal is returned, 0 where the run finished. A state that 16 refuses and an answer without room leave every slice as it was. Otherwise the state to hand on and the attempts charged come to the front of the job's slice, also where the mesh is refused; then the numbers of a finished run to the front of the answer.
 fn meshed(
     points: &mut [f64],
     triangles: &[u32],
@@ -45,15 +44,11 @@ fn meshed(
         return 4;
     }
     let state = state_in(job);
+    if bad_job(state) {
+        return 16;
+    }
     if answer.len() < ANSWER {
-        let room = Room {
-            quads: quads.len(),
-            out: triangles_out.len(),
-            components: components.len(),
-            work: work.len(),
-            floats: float_work.len(),
-        };
-        return short_mesh(points, triangles, joints, state, stated, room);
+        return 4;
     }
     let m = run_mesh(
         points,

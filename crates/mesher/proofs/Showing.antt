@@ -14,7 +14,7 @@ use borrow.Author.Tests.{eq-eqb, ne-eqb}
 use Rattle.definition.specs.Lists.{find, table, below}
 use Rattle.definition.specs.Floats.{0·0}
 use Rattle.definition.specs.Numbers.{max-attempts}
-use Rattle.definition.specs.Counts.{Spent, Refusal, Placement, Shape, Recovery, Region, OddRegion, Want, of-points, of-slots, of-trace, number}
+use Rattle.definition.specs.Counts.{Spent, nothing-spent, Refusal, Placement, Shape, Recovery, Region, OddRegion, Want, of-points, of-slots, of-trace, number}
 use Rattle.definition.specs.Plane.{Node, point}
 use Rattle.definition.specs.Cells.{Quad, Mesh, key, new-quad, born, is-front, this-round}
 use Rattle.definition.specs.Attempt.{Attempt, placed, refused, ended, try-quad}
@@ -273,7 +273,7 @@ module _ (a : Asked) (l : Lent) (z : first-refusal a l ≡ 0) where
       | inr e ↦ e
     ]
 
-    pub shows-none : is-front (first-of a l) (u, v) ≡ false → defined.off-front ≡ show-edge (settings a) (first-of a l) (u, v)
+    pub shows-none : is-front (first-of a l) (u, v) ≡ false → defined.off-front (cost nothing-spent) ≡ show-edge (settings a) (first-of a l) (u, v)
     unfolding show-edge
     shows-none e = rw (ne-eqb u v (λ f. omega (arith, f, up)), e) refl
 
@@ -282,7 +282,7 @@ module _ (a : Asked) (l : Lent) (z : first-refusal a l ≡ 0) where
     shows-attempt e = rw (ne-eqb u v (λ f. omega (arith, f, up)), e) refl
 
   -- a node twice is no edge
-  pub shows-no-edge : (u v : ℕ) → u ≡ v → defined.off-front ≡ show-edge (settings a) (first-of a l) (key u v)
+  pub shows-no-edge : (u v : ℕ) → u ≡ v → defined.off-front (cost nothing-spent) ≡ show-edge (settings a) (first-of a l) (key u v)
   unfolding show-edge key
   shows-no-edge u v e = rw (eq-eqb (key u v .0) (key u v .1) (omega (arith, e))) refl
 

@@ -32,7 +32,7 @@ cost-of c = record { insertions = c .insertions; flips = c .flips }
 
 -- what is shown
 abbrev pub shown-of : Shown → defined.Shown
-shown-of shows.OffFront = defined.off-front
+shown-of (shows.OffFront c) = defined.off-front (cost-of c)
 shown-of (shows.Quad q c) = defined.shown-quad (born-of q) (cost-of c)
 shown-of (shows.Refused k c) = defined.shown-kind (kind-of k) (cost-of c)
 shown-of (shows.Refusal k) = defined.shown-refusal k

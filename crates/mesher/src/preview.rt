@@ -27,9 +27,9 @@ pub struct Cost {
     pub flips: usize,
 }
 
-// Not on the front; the quad; what the attempt is refused under; or a refusal's number.
+// Not on the front, at no cost; the quad; what the attempt is refused under; or a refusal's number.
 pub enum Shown {
-    OffFront,
+    OffFront(Cost),
     Quad(Born, Cost),
     Refused(Kind, Cost),
     Refusal(usize),

@@ -24,10 +24,11 @@ ghost use mathlib.Core.Path.{_≡_};
 ghost use mathlib.Core.List.{[]};
 ghost use Prim.Native.Nat.{_+_, _≤_, _<_};
 ghost use lib.ListN.{length};
+ghost use Rattle.definition.specs.Counts.{nothing-spent};
 ghost use Rattle.definition.specs.Cells.{key};
 ghost use Rattle.definition.specs.Call.{Lent, settings};
 ghost use Rattle.definition.specs.Attempt.{try-quad};
-ghost use Rattle.definition.specs.Preview.{preview, shown, show-edge};
+ghost use Rattle.definition.specs.Preview.{off-front, cost, preview, shown, show-edge};
 ghost use Rattle.cells.specs.declared.counters.Counters.{Counters};
 ghost use Rattle.outcomes.specs.Ends.{AttemptTo};
 ghost use Rattle.refusals.specs.Stated.{asked};
@@ -141,6 +142,17 @@ fn try_on(
     shown_by(t, u, v)
 }
 
+// Not on the front: nothing is inserted and nothing flipped.
+fn off_front() -> Shown
+    ensures { λ r. ⌜ shown-of r ≡ off-front (cost nothing-spent) ⌝ }
+{
+    let free = Cost {
+        insertions: 0,
+        flips: 0,
+    };
+    Shown::OffFront(free)
+}
+
 // What the edge u-v shows, the smaller node first.
 fn show_sorted(
     points: &mut [f64],
@@ -156,7 +168,7 @@ fn show_sorted(
     ensures { λ r. ⌜ ((l : Lent) → CanShow (now (points .entry)) (now (triangles .entry)) (now (joints .entry)) (now (work .entry)) (asked stated) l → (now (points .exit) ≡ now (points .entry)) × (shown-of r ≡ show-edge (settings (asked stated)) (first-of (asked stated) l) (u, v))) ⌝ }
 {
     if v >= stated.given {
-        return Shown::OffFront;
+        return off_front();
     }
     build(
         work,
@@ -169,7 +181,7 @@ fn show_sorted(
     if is_front(work, stated.slots, stated.capacity, u, v) {
         return try_on(points, joints, work, stated, u, v);
     }
-    Shown::OffFront
+    off_front()
 }
 
 // What the edge between u and v shows.
@@ -191,7 +203,7 @@ fn show_edge(
     if v < u {
         return show_sorted(points, triangles, joints, work, stated, v, u);
     }
-    Shown::OffFront
+    off_front()
 }
 
 // What the edge between u and v would give, in either order of the two and whatever they are. Nothing is asked beforehand; both work slices are zero then and every other slice is as it was, and a refusal before the attempt touches nothing.

@@ -102,8 +102,8 @@ module _ (y : Quality) where
 -- ---- the theorem
 
 module _
-    {given : List Node} {tris left : List Tri} {stop most : ℕ} {y : Quality} {c : Counts} {sizes : List ℕ} (n k : ℕ) (ps : List Float) (qs : List ℕ) (out : List Float)
-    (a : Account given tris stop y most c (first-points n ps) (first-quads k qs) left sizes) (h : Handed (listed n k ps qs out)) where
+    {given : List Node} {tris left : List Tri} {stop most capacity slots : ℕ} {y : Quality} {c : Counts} {sizes : List ℕ} (n k : ℕ) (ps : List Float) (qs : List ℕ) (out : List Float)
+    (a : Account given tris stop y most capacity slots c (first-points n ps) (first-quads k qs) left sizes) (h : Handed (listed n k ps qs out)) where
   abbrev l : Listed
   l = listed n k ps qs out
 

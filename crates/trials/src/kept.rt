@@ -129,7 +129,7 @@ fn put(
 // So many as are wanted are kept, and x is below the last one's score.
 pub fn outdone(scores: &[f64; ROOM], count: usize, pairs: usize, x: f64) -> bool
     requires { ⌜ (count ≤ pairs) × (pairs ≤ room) ⌝ }
-    ensures { λ r. ⌜ (r ≡ true → Outdone (now (scores .entry)) count pairs x) ⌝ }
+    ensures { λ r. ⌜ (r ≡ true → Outdone (now (scores .entry)) count pairs x) × (Outdone (now (scores .entry)) count pairs x → r ≡ true) ⌝ }
 {
     if count < pairs {
         return false;

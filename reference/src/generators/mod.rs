@@ -4,6 +4,7 @@ mod extremes;
 mod grids;
 pub mod hubs;
 pub mod joints;
+pub mod judged;
 pub mod large;
 pub mod on_grid;
 pub mod sets;

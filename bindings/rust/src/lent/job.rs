@@ -40,7 +40,7 @@ pub struct Step {
     pub next: State,
 }
 
-/// The next mesh of a job, as `run_front_with`, with no more attempts than it is entitled to. 16 comes before all else and hands the state back as it was.
+/// The next mesh of a job, as `run_front_with`, with no more attempts than it is entitled to. 16 comes before all else, writes nothing and hands the state back as it was.
 pub fn job(
     state: State,
     triangles: &[u32],

@@ -38,11 +38,11 @@ returns-2 c =
 
 returns-3 : tie.Need-returns-3
 returns-3 c =
-    let t = c .before .before .before .before .before .before in
-    λ l h. (refl, shows-no-edge (stated t) l (h .passed) (t .args .u) (t .args .v) (omega (arith, c .if2 .left, c .before .if1 .left)))
+    let t = c .before .before .before .before .before .before .before in
+    λ l h. (refl, c .off-front .ensures ∙ shows-no-edge (stated t) l (h .passed) (t .args .u) (t .args .v) (omega (arith, c .before .if2 .left, c .before .before .if1 .left)))
 
 pub show-edge-spec : {M : Type 1} → statement M
 show-edge-spec =
     tie.close
     (tie.spec
-    show-sorted-requires (λ c. search needs) (λ c. search needs) returns show-sorted-requires-2 (λ c. search needs) (λ c. search needs) returns-2 returns-3)
+    show-sorted-requires (λ c. search needs) (λ c. search needs) returns show-sorted-requires-2 (λ c. search needs) (λ c. search needs) returns-2 (λ c κs. search needs) returns-3)

@@ -35,8 +35,8 @@ front f l h =
 
 returns : tie.Need-returns
 returns c =
-    let t = c .before .before .before .before .before .before in
-    λ l h. (refl, shows-none (stated t) l (h .passed) (t .args .u) (t .args .v) (t .pre .1) (off-front (stated t) l (h .passed) (t .args .u) (t .args .v) (t .pre .1) (c .if1 .taken)))
+    let t = c .before .before .before .before .before .before .before in
+    λ l h. (refl, c .off-front .ensures ∙ shows-none (stated t) l (h .passed) (t .args .u) (t .args .v) (t .pre .1) (off-front (stated t) l (h .passed) (t .args .u) (t .args .v) (t .pre .1) (c .before .if1 .taken)))
 
 build-requires : tie.Need-build-requires
 build-requires c κs =
@@ -75,16 +75,16 @@ returns-2 c =
 
 same-length-3 : tie.Need-same-length-3
 same-length-3 c =
-    c .before .before .before .before .before .build .kept .0
+    c .before .before .before .before .before .before .build .kept .0
 
 returns-3 : tie.Need-returns-3
 returns-3 c =
-    let f = c .before in
+    let f = c .before .before in
     let t = start (built f) in
-    λ l h. (refl, shows-none (stated t) l (h .passed) (t .args .u) (t .args .v) (t .pre .1) (front f l h ∙ c .if2 .left))
+    λ l h. (refl, c .off-front2 .ensures ∙ shows-none (stated t) l (h .passed) (t .args .u) (t .args .v) (t .pre .1) (front f l h ∙ c .before .if2 .left))
 
 pub show-sorted-spec : {M : Type 1} → statement M
 show-sorted-spec =
     tie.close
     (tie.spec
-    returns build-requires is-front-requires try-on-requires same-length same-length-2 returns-2 same-length-3 returns-3)
+    (λ c κs. search needs) returns build-requires is-front-requires try-on-requires same-length same-length-2 returns-2 (λ c κs. search needs) same-length-3 returns-3)

@@ -6,16 +6,16 @@ use Rattle.answer_numbers.proofs.previews.put_shown.Statement.{statemen
 use Rattle.answer_numbers.proofs.previews.put_shown.Tie as tie
 
 returns : tie.Need-returns
-returns c = rw (c .before .before .before .before .enum-told .given .1) (refl, c .before .before .write-shown .ensures)
+returns c = rw (c .before .before .before .before .before .shown .given .1) (refl, c .before .before .write-shown .ensures)
 
 returns-2 : tie.Need-returns-2
-returns-2 c = rw (c .before .before .before .before .before .shown .given .1) (refl, c .before .before .write-shown2 .ensures)
+returns-2 c = rw (c .before .before .before .before .before .shown2 .given .1) (refl, c .before .before .write-shown2 .ensures)
 
 returns-3 : tie.Need-returns-3
-returns-3 c = rw (c .before .before .before .before .before .before .shown2 .given .1) (refl, rw (c .before .before .before .kind-number .ensures) at (c .before .before .write-shown3 .ensures))
+returns-3 c = rw (c .before .before .before .before .before .before .shown3 .given .1) (refl, rw (c .before .before .before .kind-number .ensures) at (c .before .before .write-shown3 .ensures))
 
 returns-4 : tie.Need-returns-4
-returns-4 c = rw (c .before .shown3 .given .1) (refl, none-written (c .before .before .before .before .args .answer .now))
+returns-4 c = rw (c .before .shown4 .given .1) (refl, none-written (c .before .before .before .before .args .answer .now))
 
 pub put-shown-spec : {M : Type 1} → statement M
 put-shown-spec =

@@ -27,7 +27,7 @@ returns-2 c =
     let m = k .before .before .before .before .before in
     let a = m .before .before in
     let p = a .pre .1 .0 in
-    kept-outdone _ _ _ _ _ (a .pre .0 .2) (k .outdone .ensures (c .if1 .taken)) _ _ _ _
+    kept-outdone _ _ _ _ _ (a .pre .0 .2) (k .outdone .ensures .0 (c .if1 .taken)) _ _ _ _
     (sym (m .quad-metrics-by .ensures (p .edge) (p .side)) ∙ ap metrics-of-enum (k .before .before .before .m .given .1))
 
 returns-3 : tie.Need-returns-3

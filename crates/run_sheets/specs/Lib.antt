@@ -1,0 +1,2 @@
+-- The sheet of a run.
+pub mod Runs
