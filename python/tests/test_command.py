@@ -25,10 +25,9 @@ class Formats(Case):
             names.remove('l-slab-meshio.med')
         for name in names:
             with self.subTest(name):
-                for raw, cells in ([], (73, 0)), (['--raw'], (68, 10)):
-                    self.good(os.path.join(FILES, name), '-o', self.out, *raw)
-                    _, quads, triangles = self.mesh()
-                    self.assertEqual((len(quads), len(triangles)), cells)
+                self.good(os.path.join(FILES, name), '-o', self.out)
+                _, quads, triangles = self.mesh()
+                self.assertEqual((len(quads), len(triangles)), (73, 0))
 
     def test_written_forms(self):
         for suffix in ('msh', 'vtk', 'vtu', 'inp', 'obj', 'bdf', 'mesh', 'vol.gz') + ('med', 'xdmf') * HDF:
