@@ -193,7 +193,8 @@ pub fn accept(judged: &Judged) -> Result<Verdict, Refusal> {
             answer.len(),
         )
     };
-    Refusal::check(number).map(|()| verdict(judged, &answer, components))
+    Refusal::check(number)?;
+    Ok(verdict(judged, &answer, components))
 }
 
 /// The verdict that the numbers say.
