@@ -475,7 +475,7 @@ size_t sedgepick_sheet(
 /* Places in the answer of an acceptance. The clauses have their first offender, as its place in the list that was handed in. */
 enum sedgepick_accept {
     SEDGEPICK_ACCEPTED,      /* 1 where no clause has an offender, otherwise 0 */
-    SEDGEPICK_MOVED,         /* the first given point that is not the judged point of its number, all three doubles bit for bit (a NaN is like any other); `given` where there
+    SEDGEPICK_MOVED,         /* the first given point that is not the judged point of its number, all three doubles bit for bit (every NaN in z is one value); `given` where there
                                 is none */
     SEDGEPICK_ADDED,         /* judged points less given ones; 0 where they are fewer */
     SEDGEPICK_FOLDED,        /* the first quad that does not turn left at its four nodes; `quad_count` where there is none */
