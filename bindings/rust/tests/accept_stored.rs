@@ -4,6 +4,8 @@
 mod export;
 
 use export::sedgepick_accept;
+// Its build script links the library.
+use sedgepick as _;
 
 /// Every word of a lent slice before a call, and the numbers of an answer.
 const BEFORE: u32 = 77;
