@@ -159,9 +159,10 @@ fn growth(rows: &[(usize, f64)]) {
 fn hard() {
     println!("\n| quads that need big numbers | quads | ms | us a corner |");
     println!("|---|---|---|---|");
-    let kinds: [(&str, fn(usize) -> Judged); 2] = [
+    let kinds: [(&str, fn(usize) -> Judged); 3] = [
         ("usual doubles", meshes::flat),
         ("longest numbers", meshes::longest),
+        ("at the cosine limit", meshes::at_limit),
     ];
     for (name, make) in kinds {
         for n in HARD {

@@ -141,29 +141,42 @@ pub fn left(cells: usize) -> Judged {
     repeated(&given, &mesh, cells / given.1.len())
 }
 
-/// Quads with a corner that turns left by less than floats can tell.
-pub fn flat(count: usize) -> Judged {
+/// Quads with a corner beside the line between its neighbours: so near that every float product of it cancels.
+fn beside_line(count: usize, off: impl Fn(usize) -> f64) -> Judged {
     let mut j = Judged::default();
     for k in 0..count {
-        let (x, y) = (
-            (k % 1000) as f64 / 128.0 - 4.0 + 1e-3,
-            (k / 1000) as f64 / 128.0 - 4.0,
-        );
-        let (a, b) = ([x, y], [x + 0.009, y + 0.001]);
-        let mut m = [0, 1].map(|i| a[i] + 0.5 * (b[i] - a[i]));
-        m[1] = m[1].next_down().next_down().next_down();
-        j.quad([a, m, b, [x + 0.004, y + 0.006]]);
+        let (x, y) = (1.0 + k as f64 / 3e5, 0.3 + k as f64 / 7e5);
+        let e = off(k);
+        j.quad([[-x, -y], [e, -e], [x, y], [-y, x]]);
     }
     j
 }
 
-/// The same where the whole numbers have all their digits: usual coordinates beside the least double.
+/// Usual doubles: the corner is about 1e-18 off the line.
+pub fn flat(count: usize) -> Judged {
+    beside_line(count, |k| 1e-18 * (1.0 + k as f64 / 3e5))
+}
+
+/// The longest whole numbers: the corner is off the line by the least doubles.
 pub fn longest(count: usize) -> Judged {
+    beside_line(count, |k| f64::from_bits(1 + k as u64 % 7))
+}
+
+/// A corner whose cosine is some units below the limit, beside the least double.
+pub fn at_limit(count: usize) -> Judged {
     let mut j = Judged::default();
+    let cosine = (COSINE + 1e-9) * (1.0 - 4e-16);
+    let sine = (1.0 - cosine * cosine).sqrt();
     for k in 0..count {
-        let x = 1.0 + k as f64 / 1e6;
+        let (u, v) = (1.0 + k as f64 / 3e5, 1.1 + k as f64 / 4e5);
         let least = f64::from_bits(1 + k as u64 % 7);
-        j.quad([[-x, least], [least, -least], [x, least], [-least, x]]);
+        let end = [v * cosine, v * sine * (1.0 + 1e-15)];
+        j.quad([
+            [-0.0, least],
+            [u, least],
+            [0.8 * (u + end[0]), 0.8 * end[1]],
+            end,
+        ]);
     }
     j
 }
