@@ -168,9 +168,17 @@ impl Handed {
         self.pairs().iter().any(bad).then_some(13)
     }
 
-    /// The first given point that is not the judged point of its number, bit for bit.
+    /// The first given point that is not the judged point of its number, bit for bit; every NaN is one value.
     fn moved(&self) -> Option<usize> {
-        let bits = |p: &[f64; 3]| p.map(f64::to_bits);
+        let bits = |p: &[f64; 3]| {
+            p.map(|x| {
+                if x.is_nan() {
+                    f64::NAN.to_bits()
+                } else {
+                    x.to_bits()
+                }
+            })
+        };
         let judged = self.nodes();
         let same = |(i, p)| judged.get(i).is_some_and(|q| bits(q) == bits(p));
         self.given_nodes()

@@ -67,11 +67,11 @@ pub fn area(nodes: &[[f64; 3]], t: &[u32; 3]) -> Whole {
     a.to(&b).cross(&a.to(&c))
 }
 
-/// The triangle, turned over where it runs clockwise.
+/// The triangle, turned over unless it runs counterclockwise: one without area too.
 pub fn upright(nodes: &[[f64; 3]], t: &[u32; 3]) -> [u32; 3] {
     match area(nodes, t).sign() {
-        Ordering::Less => [t[0], t[2], t[1]],
-        _ => *t,
+        Ordering::Greater => *t,
+        _ => [t[0], t[2], t[1]],
     }
 }
 
