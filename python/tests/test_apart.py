@@ -60,9 +60,9 @@ class Limits(Apart):
         self.says(more, 'tag.msh', MSH % (500000000, 500000000))
         for kind in ('NSET', 'ELSET'):
             self.says(more, 'steps.inp', INP % 'a' + '*%s, %s=n, GENERATE\n1, 400000000, 1\n' % (kind, kind))
-        self.says('takes over 64 MB of memory', 'tag.msh', MSH % (20000000, 20000000), limits=apart.Limits(10.0, 64))
+        self.says('takes over 64 MB of memory', 'tag.msh', MSH % (60000000, 60000000), limits=apart.Limits(10.0, 64))
         self.assertEqual(len(files.read(self.put('tag.msh', MSH % (200000, 200000))).points), 4)
-        self.refused('takes over 64 MB', self.put('tag.msh', MSH % (20000000, 20000000)), '-o', self.out, '--read-memory', '64')
+        self.refused('takes over 64 MB', self.put('tag.msh', MSH % (60000000, 60000000)), '-o', self.out, '--read-memory', '64')
 
     def test_a_file_of_gigabytes(self):
         """It is not copied to its end."""

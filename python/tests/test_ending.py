@@ -88,7 +88,7 @@ class Ending(Case):
         with open(told) as file:
             pid = int(file.read())
         ran.send_signal(signal.SIGTERM)
-        self.ends(ran, 143, 'stopped; nothing is written')
+        self.ends(ran, 143, 'stopped; nothing is written', most=25.0)  # METIS sleeps for a minute
         with self.assertRaises(ProcessLookupError):
             os.kill(pid, 0)
 

@@ -82,6 +82,8 @@ size_t sedgepick_preview(void) { return 0; }
 size_t sedgepick_replay(void) { return 0; }
 size_t sedgepick_sheet(void) { return 0; }
 size_t sedgepick_accept(void) { return 0; }
+size_t sedgepick_filing_order(void) { return 0; }
+size_t sedgepick_small_mesh(void) { return 0; }
 """
 
 
