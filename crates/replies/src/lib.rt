@@ -120,9 +120,9 @@ fn meshed(h: Header, tris: &[u32], bits: &[u64], out: &mut [u8]) -> usize
 }
 
 // The reply to a text, at the front of `out`; how many bytes it has.
-pub fn reply(text: &[u8], out: &mut [u8]) -> usize
-    requires { ⌜ most-written ≤ length (now out) ⌝ }
+pub fn reply(text: &[u8], out: &mut [u8; WRITTEN]) -> usize
     ensures { λ r. ⌜ Answered (now (out .entry)) (now (out .exit)) (reply (now (text .entry))) r ⌝ }
+    ensures { λ r. ⌜ length (now (out .exit)) ≡ 26624 ⌝ }
 {
     let mut tris = [0u32; 192];
     let mut bits = [0u64; 192];
