@@ -1,8 +1,6 @@
 //! Times of the acceptance: meshes of the library, tiled up to the longest lists, and quads that floats can tell nothing of; beside them, in the same run, what
 //! bench/accept.py times: numpy in floats, meshio reading a file, Gmsh checking one.
 
-#[path = "../../compare/src/accept/export.rs"]
-mod export;
 mod meshes;
 
 use std::io::Write;
@@ -10,8 +8,8 @@ use std::path::Path;
 use std::process::Command;
 
 use crate::{best, clock};
-use export::sedgepick_accept;
 use meshes::Judged;
+use sedgepick::raw::sedgepick_accept;
 
 /// Judged cells of the meshes.
 const CELLS: [usize; 4] = [1_000, 10_000, 100_000, 1_000_000];

@@ -1,11 +1,6 @@
 //! Stored calls of the acceptance by the linked library: the number, the answer and every lent slice. reference/README.md has their form.
 
-#[path = "../../../compare/src/accept/export.rs"]
-mod export;
-
-use export::sedgepick_accept;
-// Its build script links the library.
-use sedgepick as _;
+use sedgepick::raw::sedgepick_accept;
 
 /// Every word of a lent slice before a call, and the numbers of an answer.
 const BEFORE: u32 = 77;

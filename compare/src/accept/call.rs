@@ -3,9 +3,8 @@
 use reference::accept::{Handed, Lent};
 use reference::generators::judged::Finished;
 use reference::input::{Input, LARGEST};
+use sedgepick::raw::sedgepick_accept;
 use sedgepick::{run_front_with, Options, Quality, Stop};
-
-use super::export::sedgepick_accept;
 
 /// The number that the library returns for a call over these slices.
 pub fn port(h: &Handed, lent: &mut Lent) -> usize {

@@ -2,7 +2,6 @@
 //! full of garbage.
 
 mod call;
-mod export;
 mod largest;
 mod shrink;
 
