@@ -28,6 +28,7 @@ pub enum Refusal {
     /// In the grid profile: an x or y of a given point is no multiple of 1/1024, or the size is not zero.
     OffGrid,
     /// A joint is one node twice, a node of it is not below the given points, or there are over 256 joints.
+    /// An acceptance takes as many joints as any list of it has entries.
     BadJoint,
     /// An insertion, with the point capacity used up.
     NoPoint,
