@@ -20,8 +20,8 @@ use Rattle.definition.specs.Insertion.{Inserted, nowhere, inserted, full, point
 use Rattle.definition.specs.Trials.{trials}
 use Rattle.definition.specs.Attempt.{refused, Stance, Sides, found, missing, overfull, sides-by, sides-from, side-nodes, try-both, try-first, try-trials, target-of, stance, try-along, lies-left, try-seed, try-owner, try-quad}
 use Rattle.laws.specs.Bools.{which}
-use Rattle.account.specs.Quiet.{quiet, quiet-room, quiet-owner, quiet-candidates, quiet-holder, quiet-clear, quiet-slot, quiet-lies, quiet-trials}
-use Rattle.account.specs.Untraced.{Not-trace, quiet-s, Heard, quiet-a, trials-so}
+use Rattle.consequences.specs.Quiet.{quiet, quiet-room, quiet-owner, quiet-candidates, quiet-holder, quiet-clear, quiet-slot, quiet-lies, quiet-trials}
+use Rattle.consequences.specs.Untraced.{Not-trace, quiet-s, Heard, quiet-a, trials-so}
 
 -- ---- an insertion
 

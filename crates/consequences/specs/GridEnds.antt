@@ -28,11 +28,11 @@ use Rattle.definition.specs.Account.{All}
 use Rattle.laws.specs.Bools.{cond-ok}
 use Rattle.laws.specs.Lists.{In, all-from, known}
 use Rattle.laws.specs.Slices.{points-onto}
 use Rattle.account.specs.Start.{Proper, start-valid}
 use Rattle.account.specs.Run.{Progress-ok, attempt-ok}
-use Rattle.account.specs.ValidWalks.{Leads, Closes, Steps, rounds-close}
+use Rattle.consequences.specs.ValidWalks.{Leads, Closes, Steps, rounds-close}
 use Rattle.account.specs.Gridded.{Unsized, stance-on-target, nothing-tried, points-rule, nothing-inserted}
 use Rattle.account.specs.Finished.{not-of-run, on-grid-so, points-long, given-fit, slots-limit, points-number, given-proper, given-within}
 
 -- ---- an attempt
 

@@ -18,10 +18,10 @@ use Rattle.definition.specs.Front.{State, Progress, stuck, progressed, limited,
 use Rattle.definition.specs.Call.{Asked, Lent, Returned, Answer, finished, refusal, given-points, given-tris, given-joints, given-locks, onto, too-short, unknown-node, repeated-node, far-point, bad-grid, bad-joints, conditions, settings-within, lengths, written, untouched, after-run, call-within}
 use Rattle.laws.specs.Bools.{which}
 use Rattle.laws.specs.Lists.{known}
-use Rattle.account.specs.Replays.{rebuilt-lengths, with-trace}
-use Rattle.account.specs.Quiet.{quiet, quiet-front-edge, quiet-front}
-use Rattle.account.specs.Untraced.{Not-trace, quiet-s, Heard, quiet-a}
-use Rattle.account.specs.Traceless.{quad-so}
+use Rattle.consequences.specs.Replays.{rebuilt-lengths, with-trace}
+use Rattle.consequences.specs.Quiet.{quiet, quiet-front-edge, quiet-front}
+use Rattle.consequences.specs.Untraced.{Not-trace, quiet-s, Heard, quiet-a}
+use Rattle.consequences.specs.Traceless.{quad-so}
 
 -- ---- states
 

@@ -23,12 +23,12 @@ use Rattle.definition.specs.Call.{Asked, Lent, Lengths, finished, refusal, give
 use Rattle.definition.specs.Replay.{whole, replay-words, Told, as-asked, rebuilt, Replay-returned, replay-conditions, after-replay, replay}
 use Rattle.laws.specs.Bools.{or-none}
 use Rattle.laws.specs.Lists.{In, no-some}
 use Rattle.account.specs.Slices.{read-points, read-quads, read-triangles, read-sizes, points-back, quads-back, numbers-back}
 use Rattle.account.specs.Finished.{behind, given-proper}
 use Rattle.account.specs.Start.{start-valid}
 use Rattle.account.specs.Run.{Rule, Progress-ok, front-loop-ok, run-ok}
 use Rattle.account.specs.Redo.{bare, Redoable, redo-rule, start-redoable}
-use Rattle.account.specs.Played.{played}
+use Rattle.consequences.specs.Played.{played}
 
 -- ---- a replay that is not refused by its opening tests
 

@@ -23,15 +23,15 @@ use Rattle.definition.specs.Front.{State, Progress, stuck, progressed, limited,
 use Rattle.definition.specs.Call.{Asked, Lent, given-points, given-tris, given-locks, onto, conditions, settings-within, settings, written, after-run, call-within}
 use Rattle.definition.specs.Replay.{Told, as-asked, replay}
 use Rattle.laws.specs.Lists.{In, flat-map-append}
 use Rattle.account.specs.Flips.{flip-made}
 use Rattle.account.specs.Valid.{Valid}
 use Rattle.account.specs.Start.{start-valid}
 use Rattle.account.specs.Steps.{Splitting, Made}
 use Rattle.account.specs.Run.{Rule, Progress-ok, front-loop-ok}
 use Rattle.account.specs.Finished.{given-proper}
-use Rattle.account.specs.NeverFlipped.{at-end}
+use Rattle.consequences.specs.NeverFlipped.{at-end}
 use Rattle.account.specs.Redo.{Redoable, flip-redoable, split-redoable, quad-redoable, start-redoable}
-use Rattle.account.specs.Replays.{Replaying, rebuilt-as, ends-in, with-room}
+use Rattle.consequences.specs.Replays.{Replaying, rebuilt-as, ends-in, with-room}
 
 -- ---- the steps of a run
 

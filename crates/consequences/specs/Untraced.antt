@@ -20,7 +20,7 @@ use Rattle.definition.specs.Trials.{Trial}
 use Rattle.definition.specs.Attempt.{Tried, made, failed, orphaned, lacking, flipping, recover-all, replaced, replace, try-region, try-recovered, open-sides, try-pair, Attempt, placed, refused, ended, try-pairs, try-trials}
 use Rattle.laws.specs.Bools.{which, never}
 use Rattle.laws.specs.Lists.{known}
-use Rattle.account.specs.Quiet.{quiet, quiet-room, quiet-owner, quiet-edge, quiet-crossing, quiet-region}
+use Rattle.consequences.specs.Quiet.{quiet, quiet-room, quiet-owner, quiet-edge, quiet-crossing, quiet-region}
 
 -- ---- flips
 

@@ -19,14 +19,14 @@ use Rattle.definition.specs.Call.{Asked, Lent, Lengths, finished, given-points,
 use Rattle.definition.specs.Account.{sum}
 use Rattle.laws.specs.Bools.{which, cond-ok}
 use Rattle.laws.specs.Lists.{flat-map-append}
 use Rattle.account.specs.Valid.{Valid}
 use Rattle.account.specs.Start.{Proper, start-valid}
 use Rattle.account.specs.Weights.{total-append}
 use Rattle.account.specs.Pairs.{pairs-of}
 use Rattle.account.specs.Trials.{Trials-exact, trials-exact}
-use Rattle.account.specs.ValidWalks.{Leads, Closes, Steps, rounds-close}
+use Rattle.consequences.specs.ValidWalks.{Leads, Closes, Steps, rounds-close}
 use Rattle.account.specs.Slices.{read-points, read-quads, read-triangles}
 use Rattle.account.specs.Finished.{behind, given-proper}
 
 -- ---- one attempt
 
