@@ -1,9 +1,8 @@
 """Mesh files and their formats: what meshio reads of one, in a child process that has limits."""
 import contextlib, errno, hashlib, io, os, stat, warnings
-import meshio
 import numpy
-from meshio import _helpers as meshio_forms
 from . import abaqus, apart, names, numbering
+from .msh import NEEDED, meshio, meshio_forms
 from .reading import Watched, confine, fault_words, lacking, one_hdf5, xml_words
 from .surfaces import Fault, Marked, Surface, visible
 
@@ -151,6 +150,8 @@ def read_here(path, form, take):
 
 
 def missing(error, form):
+    if error.name == 'meshio':
+        return NEEDED % form
     return ('meshio needs the Python module %s for %s files: install it (Debian: apt install python3-%s; elsewhere: pip install %s)'
             % (error.name, form, error.name.lower(), error.name))
 

@@ -1,10 +1,9 @@
 """Mesh files made by meshio, read back and compared; `outputs` gives them their names."""
 import os, re
-import meshio
 import numpy
-from meshio import _helpers as meshio_forms
 from . import names
 from .files import GOOD, form_of, missing, quiet, suffix_of
+from .msh import meshio, meshio_forms
 from .outputs import STDOUT, Folder
 from .surfaces import Fault, Marked
 
