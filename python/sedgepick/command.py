@@ -172,12 +172,12 @@ def told(work, name=''):
 
 def prepared(options, whole=False):
     """The file read, checked and cut into parts."""
-    from . import files, joints, losses, parts, quality, surfaces
+    from . import files, losses, parts, quality, surfaces
     work = Work(options, files.read(options.input, options.form, options.limits))
     surface = surfaces.checked(work.surface, options.flatten)
     cells = surface.triangles.cells
     work.given_components = int(quality.components(cells).max()) + 1
-    hard = joints.Hard() if options.free else losses.hard(surface)
+    hard = losses.hard(surface, options.free)
     work.plan = parts.planned(surface.points, cells, 0.0 if options.grid else options.size, hard, options.grid, whole, options.stop == 1)
     surface.notes += work.plan.told
     return work
@@ -255,21 +255,20 @@ def places(points, nodes):
 def written(work):
     """Numbers the nodes and writes the files."""
     import numpy
-    from . import groups, quality, verdicts, writing
+    from . import groups, planes, quality, verdicts, writing
     surface, result = work.surface, work.result
-    nodes = numpy.arange(len(work.points)) if work.options.keep_nodes else numpy.unique(numpy.concatenate([result.quads.ravel(), result.triangles.ravel()]))
-    work.number = numpy.full(len(work.points), -1)
-    work.number[nodes] = numpy.arange(len(nodes))
-    edges = quality.edge_keys(result.quads, result.triangles)
+    used = numpy.arange(len(work.points)) if work.options.keep_nodes else numpy.concatenate([cells.ravel() for cells in (result.quads, result.triangles, *groups.kept(surface))])
+    nodes, work.number = planes.numbered(surface, len(work.points), used)
+    edges = quality.edge_keys(result.quads, result.triangles, *groups.kept(surface))
     lines = groups.survivors(surface.lines, numpy.isin(quality.keys(surface.lines.cells), edges))
     vertices = groups.survivors(surface.vertices, work.number[surface.vertices.cells[:, 0]] >= 0)
     quads, left = groups.of_result(surface, work.points, result)
-    blocks = [('quad', groups.renumbered(quads, work.number, surface.clockwise)), ('triangle', groups.renumbered(left, work.number, surface.clockwise)),
+    blocks = [('quad', groups.with_kept(surface, groups.renumbered(quads, work.number, surface.clockwise), work.number)), ('triangle', groups.renumbered(left, work.number, surface.clockwise)),
               ('line', groups.renumbered(lines, work.number)), ('vertex', groups.renumbered(vertices, work.number))]
     sets = {name: work.number[own][work.number[own] >= 0] for name, own in surface.hard.items() if name != 'point of the geometry'}
     output = work.options.output
     made = work.outputs.room(output)
-    surface.notes += writing.make(made, output, work.options.to, work.points[nodes], blocks, surface.names, sets)
+    surface.notes += writing.make(made, output, work.options.to, planes.in_file(surface, work.points)[nodes], blocks, surface.names, sets, work.options.beams)
     verdicts.judge(work, made, nodes)
     if work.options.node_map:
         rows = ['%d,%s\n' % (i + 1, node + 1 if node < len(surface.points) else '') for i, node in enumerate(nodes)]

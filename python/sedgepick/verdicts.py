@@ -2,7 +2,7 @@
 import math
 from dataclasses import dataclass
 import numpy
-from . import losses, meshes, quality, slits, writing
+from . import losses, meshes, planes, quality, slits, writing
 from .acceptance import accept
 from .fitting import power_within
 from .front import FAR
@@ -82,10 +82,10 @@ def judge(work, path, nodes):
     turned = lambda cells: cells[:, ::-1] if surface.clockwise else cells
     found = meshes.read_written(path, form)
     if found is None:
-        found = points[nodes], turned(work.number[work.result.quads]), turned(work.number[work.result.triangles])
+        found = planes.in_file(surface, points)[nodes], turned(work.number[work.result.quads]), turned(work.number[work.result.triangles])
         surface.notes.append('%s cannot be read back: the verdict is on what was handed to its writer' % form)
-    points[nodes, :2] = found[0][:, :2]
-    quads, left = (turned(nodes[cells]) for cells in found[1:])
+    points = planes.read_back(surface, points, work.number, found[0])
+    quads, left = (planes.cells_back(work.number, nodes, turned(cells)[:len(own)], own) for cells, own in zip(found[1:], (work.result.quads, work.result.triangles)))
     given, rounded = points[:len(surface.points)], int((points[nodes, :2] != work.points[nodes, :2]).any(axis=1).sum())
     kept = [] if options.free or options.allow_loss else joints_of(surface)
     ask = lambda thin: judged(given, surface.triangles.cells, points, quads, left, kept, options.quality.largest_cosine, thin, work.number + 1)
