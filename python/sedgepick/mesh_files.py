@@ -4,7 +4,7 @@ import os, select, sys, time
 from dataclasses import dataclass, field
 from typing import Any
 import numpy
-from . import files, groups, meshes, meshing, quality, sheets, verdicts, writing
+from . import files, groups, meshes, meshing, planes, quality, sheets, verdicts, writing
 from .outputs import STDOUT, Folder
 from .surfaces import Fault, Surface
 
@@ -69,12 +69,12 @@ def check_losses(work: Work) -> None:
 def written(work: Work) -> None:
     """Numbers the nodes, makes the file and those beside it, and has the mesh judged."""
     surface, result, options = work.surface, work.result, work.options
-    nodes = numpy.arange(len(work.points)) if options.keep_nodes else numpy.unique(numpy.concatenate([result.quads.ravel(), result.triangles.ravel()]))
-    work.number = numpy.full(len(work.points), -1)
-    work.number[nodes] = numpy.arange(len(nodes))
+    cells = result.quads, result.triangles, *groups.kept(surface)
+    used = numpy.arange(len(work.points)) if options.keep_nodes else numpy.concatenate([own.ravel() for own in cells])
+    nodes, work.number = planes.numbered(surface, len(work.points), used)
     sets = {name: work.number[own][work.number[own] >= 0] for name, own in surface.hard.items() if name != 'point of the geometry'}
     made = work.outputs.room(options.output)
-    surface.notes += writing.make(made, options.output, options.to, work.points[nodes], blocks(work), surface.names, sets)
+    surface.notes += writing.make(made, options.output, options.to, planes.in_file(surface, work.points)[nodes], blocks(work), surface.names, sets, options.beams)
     judge(work, made, nodes)
     if options.node_map:
         rows = ['%d,%s\n' % (i + 1, node + 1 if node < len(surface.points) else '') for i, node in enumerate(nodes)]
@@ -85,11 +85,11 @@ def written(work: Work) -> None:
 def blocks(work: Work) -> list[tuple]:
     """(kind, cells with their groups) as they are written, under the numbers of the output."""
     surface, result = work.surface, work.result
-    edges = quality.edge_keys(result.quads, result.triangles)
+    edges = quality.edge_keys(result.quads, result.triangles, *groups.kept(surface))
     lines = groups.survivors(surface.lines, numpy.isin(quality.keys(surface.lines.cells), edges))
     vertices = groups.survivors(surface.vertices, work.number[surface.vertices.cells[:, 0]] >= 0)
     quads, left = groups.of_result(surface, work.points, result)
-    return [('quad', groups.renumbered(quads, work.number, surface.clockwise)), ('triangle', groups.renumbered(left, work.number, surface.clockwise)),
+    return [('quad', groups.with_kept(surface, groups.renumbered(quads, work.number, surface.clockwise), work.number)), ('triangle', groups.renumbered(left, work.number, surface.clockwise)),
             ('line', groups.renumbered(lines, work.number)), ('vertex', groups.renumbered(vertices, work.number))]
 
 
@@ -101,11 +101,12 @@ def judge(work: Work, path: str, nodes: Any) -> None:
     turned = lambda cells: cells[:, ::-1] if surface.clockwise else cells
     found = meshes.read_written(path, form)
     if found is None:
-        found = points[nodes], turned(work.number[work.result.quads]), turned(work.number[work.result.triangles])
+        found = planes.in_file(surface, points)[nodes], turned(work.number[work.result.quads]), turned(work.number[work.result.triangles])
         surface.notes.append('%s cannot be read back: the verdict is on what was handed to its writer' % form)
-    points[nodes, :2] = found[0][:, :2]
+    points = planes.read_back(surface, points, work.number, found[0])
+    quads, left = (planes.cells_back(work.number, nodes, turned(cells)[:len(own)], own) for cells, own in zip(found[1:], (work.result.quads, work.result.triangles)))
     rounded = int((points[nodes, :2] != work.points[nodes, :2]).any(axis=1).sum())
-    work.judged = judged = verdicts.settle(work, points, *(turned(nodes[cells]) for cells in found[1:]), work.number + 1)
+    work.judged = judged = verdicts.settle(work, points, quads, left, work.number + 1)
     if not judged.verdict.accepted:
         raise Fault('not accepted: %s. Nothing is written' % judged.first())
     if judged.excused:

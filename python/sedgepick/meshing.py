@@ -9,7 +9,7 @@ from functools import partial
 from typing import Any, Callable
 import numpy
 from numpy.typing import ArrayLike, NDArray
-from . import closing, finishing, groups as marks, joints, library, losses, parts, quality as measures, sizes, surfaces, verdicts
+from . import closing, finishing, groups as marks, library, losses, parts, quality as measures, sizes, surfaces, verdicts
 from .acceptance import Verdict
 from .front import EVEN_COMPONENTS, EXHAUST, Counts, Quality
 from .surfaces import Fault, Marked, Surface
@@ -261,7 +261,7 @@ def prepare(work: Work, whole: bool = False) -> None:
     work.surface = surface = surfaces.checked(work.surface, settings.flatten)
     cells = surface.triangles.cells
     work.given_components = int(measures.components(cells).max()) + 1
-    hard = joints.Hard() if settings.free else losses.hard(surface)
+    hard = losses.hard(surface, settings.free)
     work.plan = parts.planned(surface.points, cells, 0.0 if settings.grid else settings.size, hard, settings.grid, whole, settings.stop == EVEN_COMPONENTS)
     surface.notes += work.plan.told
 

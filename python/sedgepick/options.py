@@ -145,6 +145,7 @@ def arguments(words, description):
     add('--from', dest='form', metavar='FORMAT', help="meshio's name of IN's format, where the suffix does not say it or says one that is not read by itself")
     add('--to', metavar='FORMAT', help="meshio's name of OUT's format")
     add('--most-attempts', type=number_from(1, 1 << 40, int), metavar='N', help='all parts together make at most so many attempts, each its share; what they have then is finished and judged')
+    add('--beams', action='store_true', help='in a .inp write lines as B31 beam elements, too; without it they are node sets alone (docs/DECKS.md)')
     add('--read-seconds', type=number_from(0.1, 86400), default=60.0, metavar='S', help='reading a file may take so long; %(default)g if left out')
     add('--read-memory', type=number_from(16, 1 << 20, int), default=1024, metavar='MB', help='and so much memory; %(default)d if left out')
     add('--seconds', type=number_from(0.1, 1e6), metavar='S', help='the whole command may take so long; then it is ended, and nothing is written; of several files each, and the next is run')

@@ -2,9 +2,10 @@
 import os
 from dataclasses import dataclass
 from html import escape
-import meshio, numpy
+import numpy
 from . import closing, library, losses, meshing, picture, quality, sheets, slits
 from .front import Quality
+from .msh import meshio
 from .previews import KINDS
 from .surfaces import visible
 
