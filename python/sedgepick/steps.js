@@ -424,4 +424,4 @@ class Page {
   }
 }
 
-if (typeof document !== 'undefined') globalThis.page = new Page(DATA);
+if (typeof document !== 'undefined' && typeof DATA !== 'undefined') globalThis.page = new Page(DATA);

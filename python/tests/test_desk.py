@@ -1,0 +1,427 @@
+"""Tests of the desk: its server by plain requests, and its page in Chromium, driven as a person would."""
+import hashlib, http.client, json, os, re, shutil, signal, struct, subprocess, sys, tempfile, time, unittest
+from common import FILES, PACKAGES, ROOT, make_library
+
+try:
+    import meshio, numpy
+    from sedgepick.desk import fields, packing, server, tasks
+except ImportError:
+    meshio = None
+try:
+    from selenium import webdriver
+    from selenium.webdriver.chrome.options import Options
+    from selenium.webdriver.chrome.service import Service
+    from selenium.webdriver.common.action_chains import ActionChains
+    from selenium.webdriver.common.keys import Keys
+except ImportError:
+    webdriver = None
+
+SCRIPT = os.path.join(PACKAGES, 'sedgepick-desk')
+COLUMNS = os.path.join(FILES, 'columns.msh')
+JOINTS = os.path.join(ROOT, 'examples', 'joints.msh')
+CHROMIUM, DRIVER = shutil.which('chromium'), shutil.which('chromedriver')
+HOSTILE = '<img src=x onerror=globalThis.stolen=1>'
+
+
+def setUpModule():
+    if meshio is None:
+        raise unittest.SkipTest('numpy and meshio are not installed for %s' % sys.executable)
+    make_library()
+
+
+class Desk:
+    """The command itself, running."""
+
+    def __init__(self, *words):
+        self.child = subprocess.Popen([sys.executable, SCRIPT, '--no-browser', *words], stdout=subprocess.PIPE, stderr=subprocess.PIPE, text=True)
+        self.address = self.child.stdout.readline().split()[-1]
+        self.port, self.token = re.fullmatch(r'http://127\.0\.0\.1:(\d+)/([\w-]+)/', self.address).groups()
+
+    def end(self, number=signal.SIGTERM):
+        if self.child.stdout.closed:
+            return self.child.returncode
+        if self.child.poll() is None:
+            self.child.send_signal(number)
+        status = self.child.wait(20)
+        self.child.stdout.close()
+        self.errors = self.child.stderr.read()
+        self.child.stderr.close()
+        return status
+
+    def ask(self, method, path, body=None, token=None, **headers):
+        """(status, headers, content) of a request as the page makes it, or as a stranger would."""
+        link = http.client.HTTPConnection('127.0.0.1', int(self.port), timeout=60)
+        sent = {'Host': '127.0.0.1:' + self.port, **({'Origin': 'http://127.0.0.1:' + self.port} if method == 'POST' else {}), **headers}
+        link.putrequest(method, '/%s/%s' % (self.token if token is None else token, path), skip_host=True, skip_accept_encoding=True)
+        if body is not None and 'Content-Length' not in sent:
+            sent['Content-Length'] = str(len(body))
+        for name, words in sent.items():
+            if words is not None:
+                link.putheader(name.replace('_', '-'), words)
+        try:
+            link.endheaders(body)
+        except (BrokenPipeError, ConnectionResetError):
+            pass  # refused before all of it was sent
+        answer = link.getresponse()
+        found = answer.status, answer.headers, answer.read()
+        link.close()
+        return found
+
+    def facts(self, method, path, body=None, **headers):
+        status, _, content = self.ask(method, path, body, **headers)
+        return status, json.loads(content)
+
+    def upload(self, path, name=None):
+        with open(path, 'rb') as file:
+            return self.facts('POST', 'file', file.read(), X_Name=name or os.path.basename(path))
+
+    def settled(self, task, seconds=120):
+        end = time.monotonic() + seconds
+        while time.monotonic() < end:
+            found = self.facts('GET', 'task/' + task)[1]
+            if found['state'] != 'running':
+                return found
+            time.sleep(0.05)
+        raise AssertionError('the task goes on: %s' % found)
+
+    def begin(self, kind, file, values=None, joints=()):
+        return self.facts('POST', 'task', json.dumps({'kind': kind, 'file': file, 'values': values or {}, 'joints': list(joints)}).encode())
+
+    def data(self, task):
+        content = self.ask('GET', 'task/%s/data' % task)[2]
+        length = struct.unpack('<I', content[4:8])[0]
+        found = json.loads(content[8:8 + length])
+        kinds = {name: form for form, name in packing.KINDS.items()}
+        for name, (kind, at, count) in found['arrays'].items():
+            found[name] = numpy.frombuffer(content, kinds[kind], count, 8 + length + at)
+        return found
+
+
+class Case(unittest.TestCase):
+    words = ()
+
+    @classmethod
+    def setUpClass(cls):
+        cls.desk = Desk(*cls.words)
+
+    @classmethod
+    def tearDownClass(cls):
+        cls.desk.end()
+        if 'Traceback' in cls.desk.errors:
+            raise AssertionError(cls.desk.errors)
+
+
+class Requests(Case):
+    """Who is answered, and with what."""
+
+    def test_strangers(self):
+        ask = lambda **more: self.desk.ask('GET', 'about', **more)[0]
+        self.assertEqual(ask(), 200)
+        self.assertEqual(ask(token='x' * len(self.desk.token)), 404)
+        self.assertEqual(ask(token=''), 404)
+        for host in ('evil.example', 'evil.example:' + self.desk.port, '127.0.0.1', '127.0.0.1:1', '[::1]:' + self.desk.port, None):
+            self.assertEqual(ask(Host=host), 403, host)
+        self.assertEqual(ask(Host='localhost:' + self.desk.port), 200)
+        for origin in ('http://evil.example', 'null', 'http://127.0.0.1:1', 'https://127.0.0.1:' + self.desk.port):
+            self.assertEqual(ask(Origin=origin), 403, origin)
+        self.assertEqual(ask(Sec_Fetch_Site='cross-site'), 403)
+        self.assertEqual(self.desk.ask('POST', 'task', b'{}', Origin=None)[0], 403)
+        self.assertEqual(self.desk.ask('POST', 'task', b'{}', Origin='http://evil.example')[0], 403)
+
+    def test_loopback_alone(self):
+        with open('/proc/net/tcp') as file:
+            own = [line.split()[1] for line in file if line.split()[1].endswith(':%04X' % int(self.desk.port)) and line.split()[3] == '0A']
+        self.assertEqual(own, ['0100007F:%04X' % int(self.desk.port)])
+
+    def test_policy(self):
+        for path, kind in (('', 'text/html'), ('desk.js', 'text/javascript'), ('draw.js', 'text/javascript'), ('steps.js', 'text/javascript'), ('desk.css', 'text/css'), ('about', 'application/json')):
+            status, headers, content = self.desk.ask('GET', path)
+            self.assertEqual((status, headers['Content-Type'].split(';')[0], headers['X-Content-Type-Options'], headers['Referrer-Policy']), (200, kind, 'nosniff', 'no-referrer'))
+            policy = headers['Content-Security-Policy']
+            self.assertIn("default-src 'none'; script-src 'self'; style-src 'self'", policy)
+            self.assertNotIn('unsafe', policy)
+            self.assertTrue(content)
+
+    def test_no_path_of_the_page(self):
+        for path in ('../server.py', '..%2f..%2fserver.py', 'static/desk.js', '/etc/passwd', '%2e%2e/server.py', 'task/../../x', 'task/x', 'task/x/out/mesh', 'file', 'desk.js/', '.'):
+            self.assertEqual(self.desk.ask('GET', path)[0], 404, path)
+        for name in ('../../../../tmp/evil.msh', '/etc/evil.msh', '..\\evil.msh', '.msh/../x.msh'):
+            status, found = self.desk.upload(COLUMNS, name)
+            self.assertEqual(status, 200, found)
+            self.assertEqual(self.desk.settled(found['task'])['state'], 'done')
+            self.assertNotIn('/', self.desk.data(found['task'])['name'])
+        self.assertFalse(os.path.exists('/tmp/evil.msh'))
+
+    def test_uploads(self):
+        self.assertEqual(self.desk.ask('POST', 'file', None, X_Name='a.msh')[0], 411)
+        self.assertEqual(self.desk.ask('POST', 'file', None, X_Name='a.msh', Transfer_Encoding='chunked')[0], 411)
+        self.assertEqual(self.desk.ask('POST', 'file', b'x', X_Name='a.msh', Content_Length='9' * 12)[0], 413)
+        self.assertEqual(self.desk.ask('POST', 'file', b'x', X_Name='a.exe')[0], 415)
+        self.assertEqual(self.desk.ask('POST', 'task', b'x' * 100)[0], 400)
+        self.assertEqual(self.desk.ask('POST', 'task', b'[' * 100000)[0], 400)
+        self.assertEqual(self.desk.ask('POST', 'task', b'x', Content_Length='900000000')[0], 413)
+
+    def test_files_that_are_no_mesh(self):
+        for content, words in ((b'nonsense', 'cannot read'), (b'$MeshFormat\n4.1 0 8\n', 'ends too early|cannot read'), (bytes(range(256)) * 50, 'cannot read')):
+            status, found = self.desk.facts('POST', 'file', content, X_Name='broken.msh')
+            self.assertEqual(status, 200)
+            ended = self.desk.settled(found['task'])
+            self.assertEqual(ended['state'], 'refused')
+            self.assertRegex(ended['words'], words)
+        status, found = self.desk.upload(os.path.join(FILES, 'second-order.msh'))
+        self.assertIn('second order', self.desk.settled(found['task'])['words'])
+
+
+class Runs(Case):
+    """Files and runs, by requests."""
+
+    def opened(self, path=COLUMNS, name=None):
+        status, found = self.desk.upload(path, name)
+        self.assertEqual(status, 200, found)
+        ended = self.desk.settled(found['task'])
+        self.assertEqual(ended['state'], 'done', ended)
+        return found['file'], self.desk.data(found['task'])
+
+    def ran(self, file, values=None, joints=()):
+        status, found = self.desk.begin('mesh', file, values, joints)
+        self.assertEqual(status, 200, found)
+        ended = self.desk.settled(found['task'])
+        self.assertEqual(ended['state'], 'done', ended)
+        return found['task'], self.desk.data(found['task'])
+
+    def test_given(self):
+        """The arrays are the file's own, as meshio reads them."""
+        _, given = self.opened()
+        mesh = meshio.read(COLUMNS)
+        self.assertTrue(numpy.array_equal(given['points'].reshape(-1, 2), mesh.points[:, :2]))
+        cells = numpy.concatenate([block.data for block in mesh.cells if block.type == 'triangle'])
+        self.assertEqual(set(map(frozenset, given['triangles'].reshape(-1, 3).tolist())), set(map(frozenset, cells.tolist())))
+        with open(COLUMNS, 'rb') as file:
+            self.assertEqual(given['sha256'], hashlib.sha256(file.read()).hexdigest())
+        self.assertIn(['wall', 'line edges', 6], given['groups'])
+
+    def test_run_is_the_command(self):
+        """The mesh that is downloaded is, byte for byte, what the command writes with the same options; the sheet has both hashes."""
+        file, given = self.opened()
+        for values, words in (({}, ()), ({'finish': 'raw', 'thin': '0', 'size': '0.5'}, ('--raw', '--size', '0.5')), ({'format': '.inp', 'least_angle': '30', 'stop': '1'}, ('--least-angle', '30', '--stop', '1'))):
+            task, done = self.ran(file, values)
+            _, headers, mesh = self.desk.ask('GET', 'task/%s/out/mesh' % task)
+            with tempfile.TemporaryDirectory() as folder:
+                out = os.path.join(folder, 'columns-quads' + values.get('format', '.msh'))
+                subprocess.run([sys.executable, os.path.join(PACKAGES, 'sedgepick-mesh'), COLUMNS, '-o', out, '-q', *words], check=False, stderr=subprocess.DEVNULL)
+                with open(out, 'rb') as made:
+                    self.assertEqual(made.read(), mesh)
+            self.assertIn(os.path.basename(out), headers['Content-Disposition'])
+            sheet = self.desk.ask('GET', 'task/%s/out/sheet' % task)[2].decode()
+            for digest in (hashlib.sha256(mesh).hexdigest(), given['sha256']):
+                self.assertIn(digest, sheet)
+            self.assertIn(hashlib.sha256(mesh).hexdigest(), self.desk.ask('GET', 'task/%s/out/report' % task)[2].decode())
+            for clause in ('Given nodes are in place', 'Quads turn left at each node', 'The given region is covered once', 'Lines and borders are kept'):
+                self.assertIn('&#10003;</td><td>' + clause, sheet)
+            self.assertEqual(done['quads'], len(done['quads_of']) // 4)
+            lines = self.desk.ask('GET', 'task/%s/out/table' % task)[2].decode().splitlines()
+            self.assertGreaterEqual(len(lines), done['quads'])
+
+    def test_joints(self):
+        """An edge that is locked is an edge of the mesh that is written; without it, it is not."""
+        file, given = self.opened()
+        _, free = self.ran(file)
+        sides = lambda found: {frozenset(pair) for nodes, width in ((found['quads_of'], 4), (found['left_of'], 3)) for cell in nodes.reshape(-1, width).tolist()
+                               for pair in zip(cell, cell[1:] + cell[:1])}
+        every = {frozenset(pair) for cell in given['triangles'].reshape(-1, 3).tolist() for pair in zip(cell, cell[1:] + cell[:1])}
+        lost = sorted(sorted(pair) for pair in every - sides(free))[:12]
+        self.assertEqual(len(lost), 12)
+        task, done = self.ran(file, joints=lost)
+        self.assertTrue({frozenset(pair) for pair in lost} <= sides(done))
+        self.assertIn('line edges (joint): all 12 stand', done['losses'])
+        self.assertIn('joint', self.desk.ask('GET', 'task/%s/out/mesh' % task)[2].decode())
+        status, found = self.desk.begin('mesh', file, joints=[[0, 0]])
+        self.assertRegex(self.desk.settled(found['task'])['words'], 'no edge of the mesh')
+        for joints in ([[0]], [[0, -1]], [[0, 1 << 40]], ['ab'], [[0, True]]):
+            self.assertEqual(self.desk.begin('mesh', file, joints=joints)[0], 400)
+
+    def test_refusals_name_their_field(self):
+        file, _ = self.opened()
+        for values, field, words in (({'size': 'x'}, 'size', 'not a number'), ({'least_angle': '61'}, 'least_angle', 'from 8.11 to 60'), ({'pairs': '1.5'}, 'pairs', 'whole'), ({'grid': 'yes', 'size': '1'}, 'size', 'grid'),
+                                     ({'side_low': '3', 'side_high': '2'}, 'side_low', 'above'), ({'nothing': '1'}, 'nothing', 'no such'), ({'format': '.exe'}, 'format', 'choose')):
+            status, found = self.desk.begin('mesh', file, values)
+            self.assertEqual(status, 422)
+            self.assertRegex(found['fields'][field], words)
+        for values, field, words in (({'size': '1000'}, 'size', 'out of range'), ({'grid': 'yes'}, 'grid', 'off the grid'), ({'finish': 'raw', 'thin': '20'}, 'thin', 'not accepted: triangle')):
+            status, found = self.desk.begin('mesh', file, values)
+            ended = self.desk.settled(found['task'])
+            self.assertEqual((ended['state'], ended['field']), ('refused', field), ended)
+            self.assertRegex(ended['words'], words)
+            self.assertNotIn('--', ended['words'])
+
+    def test_front(self):
+        """Each edge with one triangle, with what the library says of it."""
+        file, given = self.opened()
+        status, found = self.desk.begin('front', file, {'least_jacobian': '0.8'})
+        self.assertEqual(self.desk.settled(found['task'])['state'], 'done')
+        front = self.desk.data(found['task'])
+        self.assertEqual({frozenset(pair) for pair in front['ends'].reshape(-1, 2).tolist()}, {frozenset(pair) for pair in given['front'].reshape(-1, 2).tolist()})
+        quads = front['refused'] == 0
+        self.assertTrue((front['jacobians'][quads] >= 0.8).all() and quads.any() and not quads.all())
+        self.assertEqual(len(front['words']), len(quads))
+
+    def test_two_at_once_and_a_limit(self):
+        file, _ = self.opened()
+        begun = [self.desk.begin('mesh', file) for _ in range(2)]
+        self.assertEqual([status for status, _ in begun], [200, 200])
+        found = [self.desk.settled(facts['task']) for _, facts in begun]
+        self.assertEqual([ended['state'] for ended in found], ['done', 'done'])
+        meshes = [self.desk.ask('GET', 'task/%s/out/mesh' % facts['task'])[2] for _, facts in begun]
+        self.assertEqual(meshes[0], meshes[1])
+        many = [self.desk.begin('mesh', file) for _ in range(tasks.MOST_AT_ONCE + 1)]
+        self.assertEqual([status for status, _ in many], [200] * tasks.MOST_AT_ONCE + [429])
+        self.assertIn('under way', many[-1][1]['words'])
+        for _, facts in many[:-1]:
+            self.desk.settled(facts['task'])
+
+    def test_hostile_names(self):
+        """Names of files and groups stand in the papers as text."""
+        with open(JOINTS) as file:
+            content = file.read().replace('"wall"', '"%s"' % HOSTILE)
+        with tempfile.TemporaryDirectory() as folder:
+            path = os.path.join(folder, 'a.msh')
+            with open(path, 'w') as file:
+                file.write(content)
+            file, _ = self.opened(path, HOSTILE + '.msh')
+        task, _ = self.ran(file)
+        for which in ('sheet', 'report'):
+            status, headers, content = self.desk.ask('GET', 'task/%s/show/%s' % (task, which))
+            self.assertNotIn('<img', content.decode())
+            self.assertIn('&lt;img', content.decode())
+            self.assertIn("default-src 'none'", headers['Content-Security-Policy'])
+            self.assertNotIn('script-src', headers['Content-Security-Policy'])
+        self.assertNotRegex(self.desk.ask('GET', 'task/%s/out/sheet' % task)[1]['Content-Disposition'].split(';')[1], '[<>]')
+        for name in ('-o', '--help', '--', '-'):
+            file, given = self.opened(JOINTS, name + '.msh')
+            self.assertEqual(self.ran(file)[1]['name'], name + '.msh')
+
+
+def alive(pid):
+    try:
+        with open('/proc/%d/stat' % pid) as file:
+            return file.read().rsplit(')', 1)[1].split()[0] != 'Z'
+    except OSError:
+        return False
+
+
+def offspring(desk):
+    """The children of the server, whichever of its threads started them."""
+    found = []
+    for thread in os.listdir('/proc/%d/task' % desk.child.pid):
+        with open('/proc/%d/task/%s/children' % (desk.child.pid, thread)) as file:
+            found += map(int, file.read().split())
+    return found
+
+
+class Ends(unittest.TestCase):
+    """How runs and the server end."""
+
+    @classmethod
+    def setUpClass(cls):
+        cls.folder = tempfile.mkdtemp()
+        cls.large = os.path.join(cls.folder, 'large.vtk')
+        write_grid(cls.large, 150, 130)
+
+    @classmethod
+    def tearDownClass(cls):
+        shutil.rmtree(cls.folder)
+
+    def start(self, *words):
+        desk = Desk(*words)
+        self.addCleanup(desk.end)
+        status, found = desk.upload(self.large)
+        self.assertEqual(desk.settled(found['task'])['state'], 'done')
+        begun = desk.begin('mesh', found['file'])[1]
+        end = time.monotonic() + 20
+        while desk.facts('GET', 'task/' + begun['task'])[1].get('stage') in ('starting', None) and time.monotonic() < end:
+            time.sleep(0.05)
+        return desk, begun['task'], offspring(desk)
+
+    def gone(self, pids):
+        end = time.monotonic() + 10
+        while any(map(alive, pids)) and time.monotonic() < end:
+            time.sleep(0.05)
+        self.assertEqual([pid for pid in pids if alive(pid)], [])
+
+    def test_stop(self):
+        desk, task, pids = self.start()
+        self.assertEqual(len(pids), 1)
+        status, found = desk.facts('POST', 'task/%s/stop' % task, b'{}')
+        self.assertEqual((status, found['state']), (200, 'stopped'))
+        self.gone(pids)
+        self.assertEqual(desk.ask('GET', 'task/%s/out/mesh' % task)[0], 409)
+
+    def limited(self, **limits):
+        """(how a run of the large mesh ended, its process) under such limits."""
+        desk = tasks.Desk(tasks.Limits(**limits))
+        self.addCleanup(desk.close)
+        document = desk.keep('large.vtk', '.vtk', lambda path: shutil.copy(self.large, path))
+        task = desk.start('mesh', document, {'values': {}, 'joints': []})
+        self.assertTrue(task.settled.wait(60))
+        self.gone([task.child.pid])
+        return task.told()
+
+    def test_time(self):
+        found = self.limited(seconds=1.0)
+        self.assertEqual(found['state'], 'stopped')
+        self.assertIn('over 1 s', found['words'])
+        self.assertLess(found['seconds'], 5)
+
+    def test_memory(self):
+        found = self.limited(megabytes=90)
+        self.assertEqual(found['state'], 'refused')
+        self.assertIn('over 90 MB of memory', found['words'])
+
+    def test_ended(self):
+        """By SIGTERM the server ends its runs and removes its folder."""
+        desk, task, pids = self.start()
+        places = [os.readlink('/proc/%d/cwd' % pid) for pid in pids]
+        self.assertEqual(desk.end(), 0)
+        self.gone(pids)
+        self.assertFalse(any(map(os.path.exists, places)))
+
+    def test_killed(self):
+        """Where the server is killed its runs end too, and the next desk removes its folder."""
+        desk, task, pids = self.start()
+        place = os.path.dirname(os.readlink('/proc/%d/cwd' % pids[0]))
+        desk.end(signal.SIGKILL)
+        self.gone(pids)
+        self.assertTrue(os.path.exists(place))
+        Desk().end()
+        self.assertFalse(os.path.exists(place))
+
+    def test_command_line(self):
+        run = lambda *words: subprocess.run([sys.executable, SCRIPT, '--no-browser', *words], capture_output=True, text=True, timeout=30)
+        for words, said in ((['nothing.msh'], 'nothing.msh'), (['a.exe'], 'suffix'), (['--port', '99999'], 'port')):
+            ran = run(*words)
+            self.assertEqual(ran.returncode, 1, ran.stderr)
+            self.assertIn(said, ran.stderr)
+            self.assertNotIn('Traceback', ran.stderr)
+        self.assertEqual(run('--help').returncode, 0)
+
+
+def write_grid(path, columns, rows):
+    """A rectangle of triangles as VTK."""
+    x, y = numpy.meshgrid(numpy.arange(columns + 1.0), numpy.arange(rows + 1.0))
+    x = x + 0.2 * numpy.sin(3 * y) * (x > 0) * (x < columns)
+    points = numpy.column_stack([x.ravel(), y.ravel(), numpy.zeros(x.size)])
+    a = (numpy.arange(rows)[:, None] * (columns + 1) + numpy.arange(columns)).ravel()
+    cells = numpy.concatenate([numpy.column_stack([a, a + 1, a + columns + 2]), numpy.column_stack([a, a + columns + 2, a + columns + 1])])
+    meshio.write(path, meshio.Mesh(points, [('triangle', cells)]), file_format='vtk')
+
+
+class Fields(unittest.TestCase):
+    def test_words(self):
+        """The usual values are no options but the one that differs with --raw; each other value is one."""
+        self.assertEqual(fields.words_of({}), ['--thin', '10'])
+        self.assertEqual(fields.words_of({'finish': 'raw', 'grid': 'yes', 'pairs': '9', 'thin': '0'}), ['--raw', '--thin', '0', '--grid', '--pairs', '9'])
+        self.assertEqual(fields.faults({}), {})
+
+
+if __name__ == '__main__':
+    unittest.main()
