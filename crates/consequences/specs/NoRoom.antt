@@ -1,4 +1,4 @@
--- When an insertion ends a run: 8 only where no point is free, and 9 only where a point is and two slots are not, so 8 is tested before 9.
+-- When an insertion ends a run: 8 only where no point is free, 9 only where a point is and two slots are not, 11 only where a point and two slots are, so 8 is tested before 9 and 9 before 11.
 use mathlib.Core.Bool.{cond}
 use mathlib.Core.Option.{Option, none, some}
 use Prim.{Unit, tt}
@@ -6,7 +6,7 @@ use Prim.Native.Nat.{ℕ, _+_, _≤_, _<_}
 use lib.Dec.{leb, ltb}
 use lib.ListN.{length}
 use lib.Ieee.{Float}
-use borrow.Author.Tests.{leb-true, leb-false, ltb-true}
+use borrow.Author.Tests.{leb-true, leb-false, ltb-true, ltb-false}
 use Rattle.definition.specs.Floats.{_⊗_}
 use Rattle.definition.specs.Numbers.{Settings, node-spacing}
 use Rattle.definition.specs.Counts.{of-points, of-slots, of-trace}
@@ -23,7 +23,7 @@ module _ (s : Settings) (m : Mesh) where
   Lacking (inserted v m′) = Unit {0}
   Lacking (full of-points) = s .capacity ≤ length (m .points)
   Lacking (full of-slots) = (length (m .points) < s .capacity) × (s .slots < m .used + 2)
-  Lacking (full of-trace) = Unit {0}
+  Lacking (full of-trace) = (length (m .points) < s .capacity) × (m .used + 2 ≤ s .slots)
 
   split-lacks : (p : Node) (id : ℕ) (c : Cell) → Lacking (split s m p id c)
   unfolding split
@@ -35,7 +35,7 @@ module _ (s : Settings) (m : Mesh) where
       (λ z. leb-true (s .capacity) (length (m .points)) z)
       (λ z. cond-ok Lacking (ltb (s .slots) (m .used + 2)) (full of-slots) entered
       (λ y. (leb-false (s .capacity) (length (m .points)) z, ltb-true (s .slots) (m .used + 2) y))
-      (λ y. cond-ok Lacking (in-room done) (inserted (length (m .points)) done) (full of-trace) (λ x. tt) (λ x. tt)))
+      (λ y. cond-ok Lacking (in-room done) (inserted (length (m .points)) done) (full of-trace) (λ x. tt) (λ x. (leb-false (s .capacity) (length (m .points)) z, ltb-false (s .slots) (m .used + 2) y))))
 
   clear-lacks : (p : Node) (spacing : Float) (o : Option Live) → Lacking (split-clear s m p spacing o)
   unfolding split-clear

@@ -8,7 +8,7 @@ use Prim.{absurd}
 use Prim.Native.Nat.{ℕ}
 use native.Mathlib.Omega.{arith}
 use Rattle.definition.specs.Lists.{find}
-use Rattle.definition.specs.Call.{Asked, Lent, bad-quality, unknown-node, conditions}
+use Rattle.definition.specs.Call.{Asked, Lent, bad-quality, unknown-node, far-point, bad-grid, conditions}
 use Rattle.laws.specs.Bools.{cond-ok, never}
 
 -- the number is not that of the condition found
@@ -42,3 +42,15 @@ module _ (a : Asked) (l : Lent) where
   unfolding conditions
   fourteen-before-four h =
       passed-by _ _ _ (λ e. omega (arith, e)) (passed-by _ _ _ (λ e. omega (arith, e)) (passed-by _ _ _ (λ e. omega (arith, e)) (stops-at _ _ _ (λ e. omega (arith, e)) h)))
+
+  -- a point too far: not 13
+  pub seven-before-thirteen : far-point a l ≡ true → Not-refused-with 13
+  unfolding conditions
+  seven-before-thirteen h =
+      passed-by _ _ _ (λ e. omega (arith, e)) (passed-by _ _ _ (λ e. omega (arith, e)) (passed-by _ _ _ (λ e. omega (arith, e)) (passed-by _ _ _ (λ e. omega (arith, e)) (passed-by _ _ _ (λ e. omega (arith, e)) (passed-by _ _ _ (λ e. omega (arith, e)) (passed-by _ _ _ (λ e. omega (arith, e)) (stops-at _ _ _ (λ e. omega (arith, e)) h)))))))
+
+  -- a point off the grid: not 13
+  pub fifteen-before-thirteen : bad-grid a l ≡ true → Not-refused-with 13
+  unfolding conditions
+  fifteen-before-thirteen h =
+      passed-by _ _ _ (λ e. omega (arith, e)) (passed-by _ _ _ (λ e. omega (arith, e)) (passed-by _ _ _ (λ e. omega (arith, e)) (passed-by _ _ _ (λ e. omega (arith, e)) (passed-by _ _ _ (λ e. omega (arith, e)) (passed-by _ _ _ (λ e. omega (arith, e)) (passed-by _ _ _ (λ e. omega (arith, e)) (passed-by _ _ _ (λ e. omega (arith, e)) (stops-at _ _ _ (λ e. omega (arith, e)) h))))))))
