@@ -66,7 +66,7 @@ class FirstUse(unittest.TestCase):
         """The crates that the library depends on are counted, those alone; nothing is proved twice."""
         lines = self.good('tools/library').stderr.splitlines()
         self.assertEqual([re.sub(r'(about )?\d+ min', 'N min', line) for line in lines[1:]],
-                         ['proved: crate 1 of 3 (one), N min left', 'proved: crate 2 of 3 (two), N min left', 'proved: crate 3 of 3 (library), N min in all'])
+                         ['proved: crate 1 of 3 (one), N min left', 'proved: crate 2 of 3 (two), N min left', 'proved: crate 3 of 3 (library), the archive is written, N min left'])
         self.assertIn('3 crates', lines[0])
         self.assertEqual((self.good('tools/library').stderr, self.calls()), ('', 1))
 
