@@ -29,7 +29,7 @@ class Limits:
     seconds: float = 60.0        # of the whole command
     read_seconds: float = 20.0   # of reading it
     memory: int = 1024           # megabytes, of reading it
-    attempts: int = 2000000      # of the run
+    attempts: int = 500000       # of the run
     at_once: int = 2             # requests that are worked on; one more is turned away
 
 
