@@ -40,6 +40,7 @@ typedef struct {
     uint64_t *locked;         /* sorted */
     size_t locked_count;
     unsigned char *at_lock;   /* of each node, whether it is the end of a locked edge */
+    unsigned callers;         /* the floating point that the caller has, MXCSR with its flags */
 } cover;
 
 /* cover.c */
