@@ -1,6 +1,7 @@
 #!/usr/bin/env python3
-"""Tests of tools/convert, tools/draw, tools/change-definition and tools/landing-note: python3 tools/test_tools.py"""
-import contextlib, glob, io, math, os, random, sys, tempfile, unittest
+"""Tests of tools/convert, tools/draw, tools/change-definition, tools/landing-note and tools/check-docs: python3 tools/test_tools.py"""
+import contextlib, glob, io, math, os, random, re, shutil, subprocess, sys, tempfile, unittest
+import unittest.mock
 import xml.etree.ElementTree as xml
 from importlib.machinery import SourceFileLoader
 from importlib.util import module_from_spec, spec_from_loader
@@ -20,6 +21,7 @@ def script(name):
 
 
 CONVERT, DRAW, CHANGE, NOTE = script('convert'), script('draw'), script('change-definition'), script('landing-note')
+DOCS = script('check-docs')
 
 SQUARE = [(0.0, 0.0, 0.0), (1.0, 0.0, 0.0), (1.0, 1.0, 0.0), (0.0, 1.0, 0.0)]
 S_TEXT = """triangles points size stop
@@ -595,6 +597,127 @@ class Changes(unittest.TestCase):
     def test_each_text_stands_once_in_the_definition(self):
         self.assertEqual(CHANGE.misplaced(), [])
         self.assertGreater(len(CHANGE.CHANGES), 50)
+
+
+class Docs(unittest.TestCase):
+    """Each check of tools/check-docs passes on the pages as they are, and notices a page that was changed for it."""
+
+    @classmethod
+    def setUpClass(cls):
+        cls.tree, cls.pages = DOCS.Tree(ROOT), DOCS.load_pages(ROOT)
+
+    def noticed(self, check, page, old, new, fault):
+        """With `old` of the page as `new` the check has one fault more, which matches."""
+        self.assertIn(old, self.pages[page])
+        before = check(self.tree, self.pages)
+        after = check(self.tree, dict(self.pages, **{page: self.pages[page].replace(old, new, 1)}))
+        more = [line for line in after if line not in before]
+        self.assertTrue(more, (page, new))
+        self.assertRegex(more[0], fault)
+
+    def test_pages_as_they_are(self):
+        self.assertEqual(DOCS.find_faults(self.tree, self.pages), [])
+
+    def test_links(self):
+        self.noticed(DOCS.check_links, 'README.md', '(docs/REFUSALS.md)', '(docs/REFUSAL.md)', 'no file docs/REFUSAL.md')
+        self.noticed(DOCS.check_links, 'README.md', 'REQUIREMENTS.md#quality-set', 'REQUIREMENTS.md#quality', 'no heading')
+        self.noticed(DOCS.check_links, 'docs/GRID.md', '(REQUIREMENTS.md#grid-profile)', '(#grid)', 'no heading')
+
+    def test_commands(self):
+        self.noticed(DOCS.check_commands, 'CONTRIBUTING.md', 'rt dev rules\n', 'rt dev joints\n', 'no test is named for the command rt dev joints')
+        self.noticed(DOCS.check_commands, 'CONTRIBUTING.md', 'rt must-fail rules\n', '', 'no page has the command rt must-fail rules')
+        with unittest.mock.patch.dict(DOCS.COMMANDS, {'rt fmt': {'tools/test': 'rt fmt', 'tools/none': 'x'}}):
+            self.assertIn('CONTRIBUTING.md: tools/test or tools/none does not run rt fmt', DOCS.check_commands(self.tree, self.pages))
+
+    def test_names(self):
+        for kind, old, new in [
+            ('a statement', '`exact-value`', '`exact-values`'),
+            ('a crate with a function', '`mesher::run_front`', '`mesher::run_fronts`'),
+            ('a function', '`segments_cross`', '`segments_crossed`'),
+            ('a file', '`root/specs/Nan.antt`', '`root/specs/Nans.antt`'),
+            ('a definition', '`Text.reply`', '`Text.replied`'),
+        ]:
+            with self.subTest(kind):
+                self.noticed(DOCS.check_names, 'docs/READING.md', old, new, 'no %s in the tree' % re.escape(new.strip('`')))
+        self.noticed(DOCS.check_names, 'docs/CHECK-TIME.md', '`rules/set_ignored`', '`rules/set_minded`', 'no rules/set_minded in the tree')
+        self.noticed(DOCS.check_names, 'docs/GRID.md', '`--grid`', '`--grids`', 'no --grids in the tree')
+        self.noticed(DOCS.check_names, 'docs/LIBRARY.md', '`sedgepick_sheet`', '`sedgepick_sheets`', 'no sedgepick_sheets in the tree')
+        self.noticed(DOCS.check_names, 'docs/LIBRARY.md', '`enum sedgepick_quad`', '`enum sedgepick_quads`', 'no enum sedgepick_quads in the tree')
+
+    def test_statements(self):
+        page = 'docs/REQUIREMENTS.md'
+        self.noticed(DOCS.check_statements, page, '`keeps-account` in', '`keeps-accounts` in', 'no keeps-accounts in crates/account/specs/Demand.antt')
+        self.noticed(DOCS.check_statements, page, 'crates/account/specs/Demand.antt', 'crates/account/specs/Demands.antt', 'no file crates/account/specs/Demands.antt')
+        births = self.pages[page][self.pages[page].index('### Births'):self.pages[page].index('### Trials')]
+        self.noticed(DOCS.check_statements, page, births, births[:births.index('Proved:')], 'nothing proves or tests Births')
+
+    def test_counts(self):
+        stated = DOCS.COUNT.search(self.pages['docs/ARCHITECTURE.md']).group(0)
+        self.noticed(DOCS.check_counts, 'docs/ARCHITECTURE.md', stated, '7<!--crates-->', '7 crates are stated, the tree has %d' % self.tree.counts()['crates'])
+        self.noticed(DOCS.check_counts, 'docs/ARCHITECTURE.md', stated, '7<!--crate-->', 'no count is called crate')
+
+    def test_put_right(self):
+        right = '%d<!--crates--> in `account/specs/Demand.antt`, `crates/account/specs/Demand.antt`' % self.tree.counts()['crates']
+        self.assertEqual(DOCS.put_right(self.tree, '7<!--crates--> in `exact/specs/Demand.antt`, `crates/exact/specs/Demand.antt`'), right)
+        self.assertEqual(DOCS.put_right(self.tree, right), right)
+        self.assertEqual(DOCS.put_right(self.tree, '`exact/another_standard` `exact/half_steps`'), '`rules/another_standard` `exact/half_steps`')
+        self.assertEqual(DOCS.put_right(self.tree, '`exact/high_word_first`, `traces/high_word_first`').count('traces/'), 1)
+
+    def test_words(self):
+        for words in ('document 01', 'Papers 2 and 8', 'Demand 3'):
+            self.noticed(DOCS.check_words, 'docs/GRID.md', 'The grid profile is', words + ' is', words[:-6] if 'and' in words else words)
+
+    def test_lengths(self):
+        self.noticed(DOCS.check_lengths, 'README.md', 'Sedgepick', 'x' * 8192, 'over 8192 bytes')
+        self.noticed(DOCS.check_lengths, 'docs/GRID.md', 'The grid profile is', 'x' * 121, '121|characters')
+
+    def test_lists(self):
+        self.noticed(DOCS.check_lists, 'docs/CHECK-TIME.md', '`rules/set_ignored`', '', 'the edit rules/set_ignored is missing')
+        self.noticed(DOCS.check_lists, 'docs/ARCHITECTURE.md', '`run_sheets` |', '|', 'the crate run_sheets is missing')
+        self.noticed(DOCS.check_lists, 'docs/REFUSALS.md', '| 15 | `OFF_GRID` |', '| 15 | |', 'refusal 15, OFF_GRID, is missing')
+
+
+@unittest.skipUnless(shutil.which('rt'), 'the kit is not installed')
+class Contributing(unittest.TestCase):
+    """The proof of CONTRIBUTING.md, from hole to green, and its edit, in a copy of the two crates that it needs."""
+
+    def setUp(self):
+        self.page = content(os.path.join(ROOT, 'CONTRIBUTING.md')).decode()
+        self.folder = tempfile.mkdtemp()
+        self.addCleanup(shutil.rmtree, self.folder)
+        for crate in ('definition', 'rules'):
+            shutil.copytree(os.path.join(ROOT, 'crates', crate), os.path.join(self.folder, 'crates', crate))
+        with open(os.path.join(self.folder, 'crates.txt'), 'w') as file:
+            file.write('definition:\nrules: definition\n')
+        self.proof = os.path.join(self.folder, 'crates', 'rules', 'proofs', 'standard_quality', 'Proof.antt')
+
+    def rt(self, *words):
+        ran = subprocess.run(['rt', *words], cwd=self.folder, stdout=subprocess.PIPE, stderr=subprocess.STDOUT, text=True)
+        return ran.returncode, ran.stdout
+
+    def block(self, kind):
+        return re.search('^```%s\n(.*?)^```' % kind, self.page, re.M | re.S).group(1)
+
+    def test_from_hole_to_green(self):
+        proved = content(self.proof).decode()
+        self.assertEqual(self.block('antt'), proved)
+        self.assertIn(self.block('rust').rstrip(), content(os.path.join(ROOT, 'crates/rules/src/lib.rt')).decode())
+        shutil.rmtree(os.path.dirname(self.proof))
+        status, told = self.rt('dev', 'rules')
+        self.assertEqual(status, 1)
+        printed = re.search(r'with these lines.*\n((?:    .*\n| *\n)+)', told).group(1)
+        self.assertIn('returns c = ?', printed)
+        os.mkdir(os.path.dirname(self.proof))
+        for text, words, said in [(printed.replace('\n    ', '\n').strip() + '\n', ['--allow-holes'], 'holes=1'), (proved, [], 'logic=proved')]:
+            with open(self.proof, 'w') as file:
+                file.write(text)
+            self.assertIn(said, self.rt('dev', 'rules', *words)[1])
+        self.assertEqual(self.rt('fmt', '--check')[0], 0)
+        self.assertEqual(self.rt('check', 'rules')[0], 0)
+        self.assertIn(self.block('edit'), content(os.path.join(ROOT, 'crates/rules/must-fail/another_standard.edit')).decode())
+        status, told = self.rt('must-fail', 'rules')
+        self.assertEqual(status, 0, told)
+        self.assertIn('must-fail rules/another_standard: refused', told)
 
 
 class Landings(unittest.TestCase):

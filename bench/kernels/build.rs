@@ -7,8 +7,9 @@ use std::{env, fs};
 
 /// The text of a function of the patched Rust, up to the brace that closes it.
 fn function<'a>(text: &'a str, name: &str) -> &'a str {
-    let start = text
-        .find(&format!("\nfn {name}("))
+    let start = ["\nfn ", "\npub fn ", "\npub(crate) fn "]
+        .iter()
+        .find_map(|before| text.find(&format!("{before}{name}(")))
         .unwrap_or_else(|| panic!("no function {name}"));
     let length = text[start..].find("\n}\n").expect("the function's end");
     &text[start..start + length + 3]

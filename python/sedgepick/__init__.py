@@ -4,6 +4,13 @@ The mesher is proved: a finished mesh is the one that a short definition fixes, 
 and counterclockwise. With the standard quality set no quad has a corner under 24.99 degrees; with any other set, the exact cosine of each corner is at most
 the set's largest cosine plus 1e-9. This package lends it memory.
 
+A slab of any unit and any size is one call, which runs it in parts where it is large, finishes what the runs leave and has the whole mesh judged; it needs numpy:
+
+    mesh = sedgepick.mesh(points, triangles, lines=walls, points_kept=columns)
+    mesh.quads, mesh.accepted
+
+One run of the proved mesher, within its range:
+
     >>> import sedgepick
     >>> mesh = sedgepick.run_front([(0, 0), (1, 0), (1, 1), (0, 1)], [(0, 1, 2), (0, 2, 3)], size=1.0, stop=0)
     >>> mesh.quads[0]
@@ -97,10 +104,12 @@ interpreter's lock is free while the library runs.
 
 Lists come back as numpy arrays where numpy is there, otherwise as lists of tuples.
 """
+from typing import TYPE_CHECKING
 from .acceptance import ANY_TRIANGLE, MOST_JUDGED, Judged, Verdict, accept
 from .filing import AFTER, BEFORE, SAME, Filed, filing_order
-from .front import (EVEN_COMPONENTS, EXHAUST, FAR, GRID_LINES, LARGEST_SIZE, LEAST_SIZE, MOST_CAPACITY, MOST_GIVEN, MOST_JOINTS, MOST_SLOTS, RANGES, REFUSALS, Counts, Mesh,
+from .front import (EVEN_COMPONENTS, EXHAUST, FAR, GRID_LINES, LARGEST_SIZE, LEAST_SIZE, MOST_CAPACITY, MOST_GIVEN, MOST_JOINTS, MOST_SLOTS, RANGES, REFUSALS, Counts,
                     Quad, Quads, Quality, Refused, cosine_of, run_front)
+from .front import Mesh as FrontMesh
 from .job import MOST_ALLOWANCE, MOST_MESHES, MOST_TRACE, Job, Slab
 from .library import NoLibrary, VERSION, commit
 from .previews import KINDS, Preview, preview, preview_front
@@ -108,10 +117,30 @@ from .sheets import Sheet, Worst, sheet
 from .small import small_mesh, small_meshes
 from .traces import Flip, Insertion, Placed, Replayed, entries, replay
 
+if TYPE_CHECKING:
+    from .meshing import Mesh, mesh
+    from .surfaces import Fault
+
 __version__ = VERSION
 __license__ = 'MIT'
-__all__ = ['AFTER', 'ANY_TRIANGLE', 'BEFORE', 'Counts', 'EVEN_COMPONENTS', 'EXHAUST', 'FAR', 'Filed', 'Flip', 'GRID_LINES', 'Insertion', 'Job',
+__all__ = ['AFTER', 'ANY_TRIANGLE', 'BEFORE', 'Counts', 'EVEN_COMPONENTS', 'EXHAUST', 'FAR', 'Fault', 'Filed', 'Flip', 'FrontMesh', 'GRID_LINES', 'Insertion', 'Job',
            'Judged', 'KINDS', 'LARGEST_SIZE', 'LEAST_SIZE', 'MOST_ALLOWANCE', 'MOST_CAPACITY', 'MOST_GIVEN', 'MOST_JOINTS', 'MOST_JUDGED',
            'MOST_MESHES', 'MOST_SLOTS', 'MOST_TRACE', 'Mesh', 'NoLibrary', 'Placed', 'Preview', 'Quad', 'Quads', 'Quality', 'RANGES', 'REFUSALS',
-           'Refused', 'Replayed', 'SAME', 'Sheet', 'Slab', 'Verdict', 'Worst', 'accept', 'commit', 'cosine_of', 'entries', 'filing_order', 'preview',
+           'Refused', 'Replayed', 'SAME', 'Sheet', 'Slab', 'Verdict', 'Worst', 'accept', 'commit', 'cosine_of', 'entries', 'filing_order', 'mesh', 'preview',
            'preview_front', 'replay', 'run_front', 'sheet', 'small_mesh', 'small_meshes']
+
+LATE = {'Fault': 'surfaces', 'Mesh': 'meshing', 'mesh': 'meshing'}  # what needs numpy is imported when it is asked for: the rest works without
+
+
+def __getattr__(name: str) -> object:
+    if name not in LATE:
+        raise AttributeError('module %r has no attribute %r' % (__name__, name))
+    from importlib import import_module
+    try:
+        found = getattr(import_module('.' + LATE[name], __name__), name)
+    except ModuleNotFoundError as missing:
+        if missing.name != 'numpy':
+            raise
+        raise AttributeError('sedgepick.%s needs numpy: install it (Debian: apt install python3-numpy)' % name) from None
+    globals()[name] = found
+    return found

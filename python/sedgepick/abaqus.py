@@ -1,6 +1,13 @@
-"""The sets of an Abaqus file. meshio 5.0.0 gives the ELSET of an *ELEMENT line to other cells where an earlier line has none, drops a set's cells in blocks that
-come behind it, and does not know sets of sets; so the sets are read here, and the rest by meshio."""
+"""Abaqus files. meshio 5.0.0 gives the ELSET of an *ELEMENT line to other cells where an earlier line has none, drops a set's cells in blocks that
+come behind it, and does not know sets of sets; so the sets are read here, and the rest by meshio. What is written is written here: elements of shells and beams, as
+CalculiX takes them, and each set once."""
+import re, unicodedata
 import numpy
+from .library import VERSION
+
+ELEMENTS = {'quad': 'S4', 'triangle': 'S3', 'line': 'B31'}  # shells and beams
+ROW = 12      # numbers in a line of a set; Abaqus and CalculiX take 16
+LONGEST = 80  # characters of a name
 
 
 def statements(lines):
@@ -74,3 +81,55 @@ def repaired(path, mesh):
     except (ValueError, IndexError, KeyError):
         pass
     return mesh
+
+
+def plain(name):
+    """A name as Abaqus and CalculiX take it without quotes: ASCII letters, digits, _ and -, a letter first."""
+    bare = unicodedata.normalize('NFKD', name).encode('ascii', 'ignore').decode() if not name.isascii() else name
+    bare = re.sub(r'[^A-Za-z0-9_-]+', '_', bare)
+    return (bare if bare[:1].isalpha() else 'set_' + bare)[:LONGEST]
+
+
+def labels(found):
+    """{name: name in the file}: no two are the same, also where capitals do not count, as in both programs."""
+    given, taken = {}, set()
+    for name in sorted(found, key=lambda name: (plain(name) != name, name)):  # those that need no change keep their names
+        label, number = plain(name), 1
+        while label.upper() in taken:
+            number += 1
+            label = '%s_%d' % (plain(name)[:LONGEST - 5], number)
+        taken.add(label.upper())
+        given[name] = label
+    return given
+
+
+def label_words(given):
+    """What became of the names that the format does not take; '' where it takes all."""
+    changed = ["'%s' is %s" % pair for pair in sorted(given.items()) if pair[0] != pair[1]]
+    return 'abaqus takes other names of groups: %s' % ', '.join(changed) if changed else ''
+
+
+def short(value):
+    """A coordinate in at most 20 characters, which is what CalculiX reads: the shortest that give the double back where there are such."""
+    return repr(value) if len(repr(value)) <= 20 else '%.13e' % value
+
+
+def rows_of(numbers):
+    """Numbers as the lines of a set."""
+    return [', '.join(map(str, numbers[i:i + ROW])) for i in range(0, len(numbers), ROW)]
+
+
+def write(path, mesh):
+    """Writes nodes, elements and sets; a deck includes the file (docs/DECKS.md). Each set is one *ELSET or *NSET."""
+    lines, first = ['** nodes, elements and sets, by sedgepick %s' % VERSION, '*NODE'], [1]
+    lines += ['%d, %s' % (i, ', '.join(map(short, point))) for i, point in enumerate(mesh.points.tolist(), 1)]
+    for block in mesh.cells:
+        lines += ['*ELEMENT, TYPE=' + ELEMENTS[block.type]]
+        lines += ['%d, %s' % (i, ', '.join(map(str, nodes))) for i, nodes in enumerate((block.data + 1).tolist(), first[-1])]
+        first.append(first[-1] + len(block.data))
+    for name, places in mesh.cell_sets.items():
+        lines += ['*ELSET, ELSET=' + name, *rows_of([start + place for start, own in zip(first, places) for place in own.tolist()])]
+    for name, nodes in mesh.point_sets.items():
+        lines += ['*NSET, NSET=' + name, *rows_of((nodes + 1).tolist())]
+    with open(path, 'w', encoding='ascii') as file:
+        file.write('\n'.join(lines) + '\n')

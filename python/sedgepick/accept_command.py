@@ -16,7 +16,7 @@ Exit status: 0 accepted, 1 not accepted, 2 wrong options or refused: a file that
 import argparse, json, os, sys
 from html import escape
 import numpy
-from . import NoLibrary, Refused, files, library, matching, meshes, quality, surfaces, verdicts
+from . import NoLibrary, Refused, files, library, matching, meshes, planes, quality, surfaces, verdicts
 from .options import PAGES, angle_of, number_from
 from .report import bodied, lines, many, tables
 
@@ -47,9 +47,12 @@ class Pair:
         self.options = options
         with named(options.given):
             self.surface = surfaces.checked(files.read(options.given, options.form))
+            if self.surface.quads:
+                raise surfaces.Fault('it has quads: what is judged stands for the triangles of a file without them')
         with named(options.judged):
             self.points, self.quads, self.left, *self.places, self.sha256 = meshes.read_any(options.judged, options.judged_from)
             check_nodes(self.points, self.quads, self.left)
+            self.points = planes.onto(self.surface, self.points)
         given = self.surface.points
         self.match = matching.near(given, self.points, options.near) if options.near else matching.by_bits(given, self.points)
         with named(options.judged):

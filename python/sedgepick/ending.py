@@ -41,7 +41,7 @@ def ended(work, seconds, say):
     try:
         return within(work, seconds, say) if seconds else work()
     except Stopped as stopped:
-        say('stopped; nothing is written')
+        say('stopped; nothing is written', stopped.status)
         leave_threads(stopped.status)
         return stopped.status
     finally:

@@ -1,20 +1,20 @@
 """Mesh files and their formats: what meshio reads of one, in a child process that has limits."""
 import contextlib, errno, hashlib, io, os, stat, warnings
-import meshio
 import numpy
-from meshio import _helpers as meshio_forms
-from . import abaqus, apart, names, numbering
-from .reading import Watched, confine, fault_words, lacking, one_hdf5, xml_words
+from . import abaqus, apart, names, numbering, unv
+from .msh import NEEDED, meshio, meshio_forms
+from .reading import Watched, bulk_before, confine, fault_words, lacking, one_hdf5, xml_words
 from .surfaces import Fault, Marked, Surface, visible
 
-WIDTHS = {'vertex': 1, 'line': 2, 'line3': 3, 'triangle': 3}
+WIDTHS = {'vertex': 1, 'line': 2, 'line3': 3, 'triangle': 3, 'quad': 4}
 SECOND_ORDER = {'triangle6', 'triangle7', 'quad8', 'quad9', 'triangle10'}
 XML = ('vtu', 'xdmf', 'dolfin-xml')
 HDF5 = ('med', 'hmf', 'h5m', 'cgns', 'xdmf')
 GOOD = '.msh (Gmsh), .vtk, .vtu, .inp (Abaqus, CalculiX), .med, .xdmf, .bdf'
 # formats that are read by their suffix: those that docs/COMMAND.md names and the tests try; others are read where --from names them
 READ = {'.msh': 'gmsh', '.vtk': 'vtk', '.vtu': 'vtu', '.inp': 'abaqus', '.med': 'med', '.xdmf': 'xdmf', '.xmf': 'xdmf', '.bdf': 'nastran', '.nas': 'nastran', '.fem': 'nastran',
-        '.mesh': 'medit', '.stl': 'stl', '.off': 'off', '.obj': 'obj'}
+        '.mesh': 'medit', '.stl': 'stl', '.off': 'off', '.obj': 'obj', '.unv': 'unv'}
+OWN = {'unv': unv.read}  # readers of formats that meshio does not read
 
 
 @contextlib.contextmanager
@@ -42,12 +42,12 @@ def suffix_of(path):
 
 
 def named_form(path, given):
-    known = set(meshio_forms.reader_map) | set(meshio_forms._writer_map)
+    known = set(meshio_forms.reader_map) | set(meshio_forms._writer_map) | set(OWN)
     if given:
         if given not in known:
             raise Fault('unknown format %s; the formats are: %s' % (given, ', '.join(sorted(known))))
         return given
-    found = meshio_forms.extension_to_filetypes.get(suffix_of(path))
+    found = meshio_forms.extension_to_filetypes.get(suffix_of(path)) or [form for form in OWN if READ.get(suffix_of(path)) == form]
     if not found:
         raise Fault("unknown format of %s: nothing is known of the suffix '%s'; rename it, say the format with --from or --to, or take one of %s"
                     % (os.path.basename(path), suffix_of(path), GOOD))
@@ -59,7 +59,7 @@ def reading_form(path, given):
     form = form_of(path, given)
     if not given and READ.get(suffix_of(path)) != form:
         raise Fault('%s files are read where --from %s says so: the readers of such formats are not tried here. Formats that are: %s' % (form, form, ', '.join(sorted(READ))))
-    if form not in meshio_forms.reader_map:
+    if form not in meshio_forms.reader_map and form not in OWN:
         raise Fault('meshio writes %s and does not read it; use one of %s' % (form, GOOD))
     return form
 
@@ -115,7 +115,7 @@ def taken(path, form, limits, take):
 
 def show_names(surface):
     """Names of groups as they may be shown and written: control characters escaped."""
-    own = [surface.hard, surface.names, *(marked.sets for marked in (surface.triangles, surface.lines, surface.vertices))]
+    own = [surface.hard, surface.names, *(marked.sets for marked in (surface.triangles, surface.quads, surface.lines, surface.vertices) if marked)]
     if all(name == visible(name) for names in own for name in names):
         return
     for names in own:
@@ -133,8 +133,8 @@ def read_here(path, form, take):
             if form in HDF5:
                 one_hdf5(path, form == 'xdmf')
             confine(path)
-            with Watched(path, '**' if form == 'abaqus' else None) as watched:
-                mesh = meshio.read(path, file_format=form)
+            with Watched(path, '**' if form == 'abaqus' else None, bulk_before(path) if form == 'nastran' else '') as watched:
+                mesh = OWN[form](path) if form in OWN else meshio.read(path, file_format=form)
                 mesh = abaqus.repaired(path, mesh) if form == 'abaqus' else mesh
                 numbering.check(path, form)
     except ModuleNotFoundError as error:
@@ -151,6 +151,8 @@ def read_here(path, form, take):
 
 
 def missing(error, form):
+    if error.name == 'meshio':
+        return NEEDED % form
     return ('meshio needs the Python module %s for %s files: install it (Debian: apt install python3-%s; elsewhere: pip install %s)'
             % (error.name, form, error.name.lower(), error.name))
 
@@ -167,18 +169,23 @@ def surface_of(mesh):
                     % (kinds[kind], kind))
     if not kinds.get('triangle'):
         raise Fault('no triangles; the file has %s. Mesh its surface with triangles first' % (', '.join('%d cells of type %s' % (n, k) for k, n in kinds.items()) or 'no cells'))
-    others = {kind: count for kind, count in kinds.items() if kind not in ('triangle', 'line', 'line3', 'vertex')}
+    others = {kind: count for kind, count in kinds.items() if kind not in ('triangle', 'quad', 'line', 'line3', 'vertex')}
     if others:
-        raise Fault('the file has %s beside its triangles, and they would be lost: write a file with the triangles alone'
+        raise Fault('the file has %s beside its triangles, and they would be lost: write a file with triangles and quads alone'
                     % ' and '.join('%d cells of type %s' % (count, kind) for kind, count in others.items()))
     points = numpy.array(mesh.points, dtype=float)
     if points.shape[1] == 2:
         points = numpy.column_stack([points, numpy.zeros(len(points))])
     sets = names.cell_sets(mesh)
-    triangles, lines, vertices = (gathered(mesh, sets, some, width) for some, width in ((('triangle',), 3), (('line', 'line3'), 2), (('vertex',), 1)))
-    for word, cells in (('triangle', triangles.cells), ('line', lines.cells), ('point', vertices.cells)):
+    triangles, quads, lines, vertices = (gathered(mesh, sets, some, width) for some, width in ((('triangle',), 3), (('quad',), 4), (('line', 'line3'), 2), (('vertex',), 1)))
+    for word, cells in (('triangle', triangles.cells), ('quad', quads.cells), ('line', lines.cells), ('point', vertices.cells)):
         check_nodes(word, cells, len(points))
-    return Surface('', points, triangles, lines, vertices, hard_nodes(mesh, triangles.cells), names.physical(mesh))
+    found = Surface('', points, triangles, lines, vertices, hard_nodes(mesh, numpy.concatenate([triangles.cells.ravel(), quads.cells.ravel()]), lines), names.physical(mesh))
+    if len(quads.cells):
+        found.quads = quads
+        found.notes.append('%s kept as %s; the verdict is on what is made of the triangles' % (('%d quads of the file are' % len(quads.cells), 'they are') if len(quads.cells) > 1 else ('a quad of the file is', 'it is')))
+    found.notes += getattr(mesh, 'told', [])
+    return found
 
 
 def check_nodes(word, cells, count):
@@ -198,7 +205,7 @@ def gathered(mesh, named, kinds, width):
     sets = {name: stack([rows[i] for i in places], numpy.zeros(0, dtype=bool)) for name, rows in named.items()}
     for name, (number, dimension) in names.physical(mesh).items():
         if name not in sets and 'gmsh:physical' in tags:
-            sets[name] = (tags['gmsh:physical'] == number) & (dimension == width - 1)
+            sets[name] = (tags['gmsh:physical'] == number) & (dimension == min(width - 1, 2))
     return Marked(cells, tags, sets)
 
 
@@ -208,14 +215,15 @@ def whole(numbers, count):
     return numpy.where(abs(numbers) < 2.0 ** 53, numbers, 0).astype(numpy.int64)
 
 
-def hard_nodes(mesh, triangles):
-    """Nodes that the file marks: points of Gmsh's geometry, and node sets that do not just have every node."""
+def hard_nodes(mesh, triangles, lines):
+    """Nodes that the file marks: points of Gmsh's geometry, and node sets that do not just have every node, or those of a group of lines once more."""
     used, hard = numpy.unique(triangles), {}
     place = (mesh.point_data or {}).get('gmsh:dim_tags')
     if place is not None:
         hard['point of the geometry'] = numpy.intersect1d(numpy.flatnonzero(numpy.asarray(place)[:, 0] == 0), used)
     for name, nodes in names.node_sets(mesh).items():
         nodes = numpy.intersect1d(nodes, used)
-        if 0 < len(nodes) < len(used):
+        again = name in lines.sets and numpy.array_equal(nodes, numpy.unique(lines.cells[lines.sets[name]]))
+        if 0 < len(nodes) < len(used) and not again:
             hard[name] = nodes
     return hard

@@ -45,3 +45,18 @@ def survivors(marked, found):
 def renumbered(marked, number, clockwise=False):
     cells = number[marked.cells]
     return Marked(cells[:, ::-1] if clockwise else cells, marked.tags, marked.sets)
+
+
+def kept(surface):
+    """[the file's own quads], or nothing."""
+    return [surface.quads.cells] if surface.quads else []
+
+
+def with_kept(surface, quads, number):
+    """The quads with those of the file behind them, as they stand in it."""
+    own = surface.quads
+    if not own:
+        return quads
+    none = lambda marked, values: numpy.zeros(len(marked.cells), dtype=values.dtype)
+    joined = lambda ours, theirs: {name: numpy.concatenate([ours.get(name, none(quads, values)), theirs.get(name, none(own, values))]) for name, values in {**ours, **theirs}.items()}
+    return Marked(numpy.concatenate([quads.cells, number[own.cells]]), joined(quads.tags, own.tags), joined(quads.sets, own.sets))

@@ -1,7 +1,7 @@
 """What a run lost of the file's lines, points and borders of surfaces; and the checks of its result."""
 from dataclasses import dataclass
 import numpy
-from . import quality
+from . import groups, quality
 from .front import GRID_LINES
 from .joints import Hard
 from .surfaces import Fault
@@ -35,14 +35,16 @@ def losses(surface, result):
     for label in sorted(set(labels[inside])):
         own = lines[inside & (labels == label)]
         found.append(Loss('line edges (%s)' % label, len(own), own[~numpy.isin(quality.keys(own), edges)]))
-    if (~inside).any():
-        surface.notes.append('%d line edges of the file are no edges of its triangles; they are left out' % (~inside).sum())
+    outside = ~inside & ~numpy.isin(quality.keys(lines), quality.edge_keys(numpy.zeros((0, 4)), *groups.kept(surface)))
+    if outside.any():
+        surface.notes.append('%d line edges of the file are no edges of its cells; they are left out' % outside.sum())
     vertices = surface.vertices.cells[:, 0]
     labels = numpy.array([surface.vertices.label(i) for i in range(len(vertices))], dtype=object)
     for label in sorted(set(labels)):
         own = numpy.intersect1d(vertices[labels == label], given)
         found.append(Loss('points (%s)' % label, len(own), numpy.setdiff1d(own, nodes)))
     for name, own in surface.hard.items():
+        own = numpy.intersect1d(own, given)
         found.append(Loss('points (%s)' % name, len(own), numpy.setdiff1d(own, nodes)))
     borders = border_edges(surface)
     own = numpy.column_stack([borders >> 32, borders & 0xffffffff])
@@ -50,11 +52,14 @@ def losses(surface, result):
     return [loss for loss in found if loss.total]
 
 
-def hard(surface):
-    """What should survive: lines, borders of surfaces, points."""
-    nodes = [surface.vertices.cells[:, 0], *surface.hard.values()]
+def hard(surface, free=False):
+    """What should survive: lines, borders of surfaces, points, and what other planes and the file's quads have; free: the last alone."""
+    joined = surface.joined or Hard(numpy.zeros(0, dtype=numpy.int64), numpy.zeros(0, dtype=numpy.int64))
+    if free:
+        return joined
+    nodes = [surface.vertices.cells[:, 0], *surface.hard.values(), joined.nodes]
     given = numpy.unique(surface.triangles.cells)
-    return Hard(numpy.unique(numpy.concatenate([quality.keys(surface.lines.cells), border_edges(surface)])), numpy.intersect1d(numpy.concatenate(nodes), given))
+    return Hard(numpy.unique(numpy.concatenate([quality.keys(surface.lines.cells), border_edges(surface), joined.edges])), numpy.intersect1d(numpy.concatenate(nodes), given))
 
 
 def border_edges(surface):
@@ -74,6 +79,8 @@ def verify(surface, points, result):
         raise Fault('the result is not conforming: %d edges have more than two cells' % (owners > 2).sum())
     if not numpy.array_equal(before[owners_before == 1], after[owners == 1]):
         raise Fault('the result has another boundary than the file')
+    if surface.joined and not numpy.isin(surface.joined.edges, after).all():
+        raise Fault('an edge that another plane or a quad of the file has is missing in the result')
     a, b, keys = quality.neighbours(given)
     cuts = keys[result.parts[a] != result.parts[b]]
     if not numpy.isin(cuts, after[owners == 2]).all():

@@ -1,9 +1,8 @@
 """The cells of any plane mesh file: its nodes, quads and triangles, as they stand in it."""
-import meshio
 import numpy
-from meshio import _helpers as meshio_forms
 from .apart import Limits
 from .files import quiet, taken
+from .msh import meshio, meshio_forms
 from .surfaces import Fault
 
 PLANE = ('quad', 'triangle', 'line', 'line3', 'vertex')

@@ -1,6 +1,5 @@
 """Groups by name, in and out. Gmsh has a number and a name for each, one a cell; Abaqus and MED have sets, of cells and of nodes; most other formats have a
 number for each cell and no names."""
-import re
 import numpy
 from .surfaces import Marked
 
@@ -51,11 +50,6 @@ def physical(mesh):
     return found
 
 
-def plain(name):
-    """A name as Abaqus takes it."""
-    return re.sub(r'[^\w.-]+', '_', name)
-
-
 def with_sets(marked):
     """The cells with a set for each of their numbers that has no name."""
     tag = next((name for name in TAGS if name in marked.tags), None)
@@ -94,6 +88,17 @@ def as_node_sets(blocks, sets):
                 if has.any():
                     sets[name] = numpy.union1d(sets.get(name, []), marked.cells[has, 0]).astype(numpy.int64)
     return [block for block in blocks if block[0] != 'vertex'], sets
+
+
+def with_line_nodes(blocks, sets, beams):
+    """(blocks, sets of nodes): each group of lines is a set of its nodes too, since supports and loads are given by nodes; lines stay cells where they are to be beams."""
+    sets = dict(sets)
+    for kind, marked in blocks:
+        if kind == 'line':
+            for name, has in with_all(with_sets(marked), 'lines').sets.items():
+                if has.any():
+                    sets[name] = numpy.union1d(sets.get(name, []), marked.cells[has]).astype(numpy.int64)
+    return [block for block in blocks if beams or block[0] != 'line'], sets
 
 
 def as_vertices(blocks, sets):

@@ -1,8 +1,8 @@
 """Nodes with a number each: a number that stands at two places is refused, where meshio would take one of them without a word."""
 import re
 import numpy
-from meshio.gmsh import _gmsh22, _gmsh40, _gmsh41
 from . import abaqus
+from .msh import GMSH_READERS
 from .reading import encoding_of
 from .surfaces import Fault
 
@@ -20,7 +20,7 @@ def refuse(numbers, places):
 
 def watch():
     """From now on meshio's readers of Gmsh's formats refuse such nodes."""
-    for module, less in ((_gmsh22, 0), (_gmsh40, 1), (_gmsh41, 1)):
+    for module, less in GMSH_READERS:
         module._read_nodes = watched(module._read_nodes, less)
 
 

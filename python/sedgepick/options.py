@@ -1,9 +1,10 @@
 """The options of sedgepick-mesh."""
 import argparse, math, shlex, sys
+from dataclasses import fields
 
 PAGES = ('.html', '.htm')
 # what a report is not, and would be taken for under such a name
-NO_REPORT = ('.pdf', '.json', '.csv', '.svg', '.png', '.jpg', '.jpeg', '.xml', '.doc', '.docx', '.odt', '.rtf', '.ps', '.tex', '.xls', '.xlsx', '.zip', '.md')
+NO_REPORT = ('.pdf', '.csv', '.svg', '.png', '.jpg', '.jpeg', '.xml', '.doc', '.docx', '.odt', '.rtf', '.ps', '.tex', '.xls', '.xlsx', '.zip', '.md')
 
 
 def size_of(word):
@@ -78,12 +79,12 @@ def check_written(parser, options):
     if not options.output:
         if not options.preview and not options.steps:
             parser.error('the following arguments are required: -o/--output (or --preview, or --steps)')
-        for name in ('report', 'sheet', 'node_map'):
+        for name in ('report', 'sheet', 'node_map', 'json'):
             if getattr(options, name):
                 parser.error('--%s is of a run: give -o too' % name.replace('_', '-'))
     for path in options.report:
         if path.lower().endswith(NO_REPORT):
-            parser.error('--report %s: a report is a page, .html, or text; it is not written as %s' % (path, path[path.rindex('.'):]))
+            parser.error('--report %s: a report is a page, .html, an object, .json, or text; it is not written as %s' % (path, path[path.rindex('.'):]))
     for path in options.preview:
         if not path.lower().endswith(('.svg', *PAGES)):
             parser.error('--preview %s: its name ends in .svg for the picture or in .html for the page' % path)
@@ -91,14 +92,35 @@ def check_written(parser, options):
         parser.error('--steps %s: it is a page, and its name ends in .html' % options.steps)
 
 
+class Parser(argparse.ArgumentParser):
+    """Tells wrong options as an object too, where one is asked for."""
+    wants_json = False
+
+    def error(self, message):
+        if self.wants_json:
+            from . import answers
+            answers.show(answers.text_of(answers.refusal(2, message)))
+        super().error(message)
+
+
+def check_streams(parser, options):
+    """That standard input and output are used once, and their formats said."""
+    if '-' in options.input and len(options.input) > 1:
+        parser.error('- is standard input, and is one mesh: give it by itself')
+    if '-' in options.input and not options.form:
+        parser.error('- reads standard input: --from says the format, such as gmsh, vtu or abaqus')
+    if options.json and options.output == '-':
+        parser.error('--json and -o - both write to standard output: write the mesh to a file, or the object by --report FILE.json')
+
+
 def arguments(words, description):
-    from . import slabs
+    from . import batches, slabs
     from .job import MOST_ALLOWANCE
     from .library import VERSION
-    parser = argparse.ArgumentParser(prog='sedgepick-mesh', description=description, formatter_class=argparse.RawDescriptionHelpFormatter)
+    parser = Parser(prog='sedgepick-mesh', description=description, formatter_class=argparse.RawDescriptionHelpFormatter)
     add = parser.add_argument
-    add('input', metavar='IN', nargs='+', help='a mesh file with triangles; with --job several')
-    add('-o', '--output', metavar='OUT', help='the mesh file to write; - is standard output, in the format that --to names; with --job a folder, where each file is written under its name, or a path in '
+    add('input', metavar='IN', nargs='+', help='a mesh file with triangles, or several; - is standard input, in the format that --from names')
+    add('-o', '--output', metavar='OUT', help='the mesh file to write; - is standard output, in the format that --to names; with several files a folder, where each is written under its name, or a path in '
         "which * stands for the name without its suffix: 'quads/*.vtu'; it may be left out with --preview and --steps")
     add('--preview', metavar='FILE', action='append', default=[], help='what each edge of the front would give, tried first: .svg a picture, .html a page with it, which says of '
         'an edge that is pointed at what it gives; may be given twice')
@@ -112,7 +134,8 @@ def arguments(words, description):
     add('--grid', action='store_true', help='the grid profile: every node lies on a fixed grid, no node is added, and the summed area of the cells is that of the '
         'triangles, exactly (docs/GRID.md); --size is 0')
     add('--stop', type=int, choices=(0, 1), default=0, help='0, the default: go on while an edge is open; 1: and leave only even components of triangles')
-    add('--report', metavar='FILE', action='append', default=[], help='a report: .html with the picture, otherwise text; may be given twice')
+    add('--report', metavar='FILE', action='append', default=[], help='a report: .html with the picture, .json as --json prints it, otherwise text; may be given twice')
+    add('--json', action='store_true', help='print an object on standard output in place of the summary: counts, verdict, hashes, warnings, versions; on a refusal its status and words')
     add('--sheet', metavar='FILE', action='append', default=[], help='the quality sheet of the quads: .csv a table, otherwise text; may be given twice')
     add('--allow-loss', action='store_true', help='write the mesh also where a line, a point or a border of the file could not be kept; what is lost is listed')
     add('--free', action='store_true', help="do not keep the file's lines, points and borders of surfaces at all; what is lost is listed")
@@ -121,13 +144,17 @@ def arguments(words, description):
     add('--flatten', action='store_true', help='set every z to 0')
     add('--from', dest='form', metavar='FORMAT', help="meshio's name of IN's format, where the suffix does not say it or says one that is not read by itself")
     add('--to', metavar='FORMAT', help="meshio's name of OUT's format")
+    add('--most-attempts', type=number_from(1, 1 << 40, int), metavar='N', help='all parts together make at most so many attempts, each its share; what they have then is finished and judged')
+    add('--beams', action='store_true', help='in a .inp write lines as B31 beam elements, too; without it they are node sets alone (docs/DECKS.md)')
     add('--read-seconds', type=number_from(0.1, 86400), default=60.0, metavar='S', help='reading a file may take so long; %(default)g if left out')
     add('--read-memory', type=number_from(16, 1 << 20, int), default=1024, metavar='MB', help='and so much memory; %(default)d if left out')
-    add('--seconds', type=number_from(0.1, 1e6), metavar='S', help='the whole command may take so long; then it is ended, and nothing is written')
+    add('--seconds', type=number_from(0.1, 1e6), metavar='S', help='the whole command may take so long; then it is ended, and nothing is written; of several files each, and the next is run')
     add('--jobs', type=count_of, metavar='N', help='parts run at once; all cores if left out')
+    add('--cluster', metavar='ADDRESS', help='run the parts, and of several files the files, on the Dask cluster whose scheduler is there, such as tcp://10.0.0.5:8786')
     add('-q', '--quiet', action='store_true', help='no summary on standard output')
     add('--version', action='version', version='sedgepick-mesh ' + VERSION)
     quality_options(parser)
+    parser.wants_json = '--json' in (sys.argv[1:] if words is None else words)
     options = parser.parse_args(words)
     if options.side_low > options.side_high:
         parser.error('--side-low %g is above --side-high %g' % (options.side_low, options.side_high))
@@ -137,12 +164,15 @@ def arguments(words, description):
     if options.job:
         slabs.check(parser, options)
     elif len(options.input) > 1:
-        parser.error('one mesh file is run at a time; --job ALLOWANCE runs several under one allowance of attempts')
+        batches.check(parser, options)
+    check_streams(parser, options)
     options.files, options.input = options.input, options.input[0]
     from .apart import Limits  # numpy, which --help does not need
     options.limits = Limits(options.read_seconds, options.read_memory)
     options.words = shlex.join(sys.argv[1:] if words is None else words)
     options.quality = quality_of(options)
+    from .meshing import THIN, Settings
     if options.thin is None:
-        options.thin = 0.0 if options.raw else 10.0
+        options.thin = 0.0 if options.raw else THIN
+    options.settings = Settings(**{column.name: getattr(options, column.name) for column in fields(Settings)})
     return options

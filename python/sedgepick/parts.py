@@ -64,6 +64,22 @@ class Plan:
         return Fitted(nodes, placed, placed.there(self.points[nodes]), numpy.searchsorted(nodes, own), scaled(self.size, placed), locked)
 
 
+@dataclass(frozen=True)
+class Task:
+    """The run of a part, which can be sent to another machine: `call` runs a mesh as best_run does."""
+    stop: int
+    quality: Quality
+    grid: bool
+    call: object
+    trace: bool = False
+
+    def __call__(self, own):
+        """(size, mesh, the sheet of its quads) of a part that is fitted."""
+        more = {'trace': True} if self.trace else {}
+        taken, mesh = self.call(own.points, own.triangles, own.size, self.stop, quality=self.quality, joints=own.joints, grid=self.grid, **more)
+        return taken, mesh, sheets.sheet(mesh.points, mesh.quads)
+
+
 @dataclass
 class Answer:
     """What a part's run gave."""
@@ -190,18 +206,24 @@ def each(plan, one, progress=None, jobs=None):
     return answers
 
 
-def ran(plan, stop, quality=Quality(), progress=None, jobs=None, call=best_run, trace=False):
-    """Runs the parts, each fitted into the library's range by itself; `call` runs one as best_run does. With their traces where these are asked for."""
-    more = {'trace': True} if trace else {}
+def answered(plan, own, taken, mesh, sheet):
+    """What a part's run gave, in the file's units."""
+    given, added = plan.points[own.nodes], mesh.points[len(own.nodes):]
+    return Answer(own.nodes, taken / own.placed.scale, mesh, own.placed.back(added), (own.placed.rounded(given), own.placed.rounded_back(added)),
+                  len(own.joints), own.placed.scale, sheet, own)
 
-    def one(which):
-        own = plan.fitted(which)
-        taken, mesh = call(own.points, own.triangles, own.size, stop, quality=quality, joints=own.joints, grid=plan.grid, **more)
-        given, added = plan.points[own.nodes], mesh.points[len(own.nodes):]
-        return Answer(own.nodes, taken / own.placed.scale, mesh, own.placed.back(added), (own.placed.rounded(given), own.placed.rounded_back(added)),
-                      len(own.joints), own.placed.scale, sheets.sheet(mesh.points, mesh.quads), own)
 
-    answers = each(plan, one, progress, jobs)
+def ran(plan, stop, quality=Quality(), progress=None, jobs=None, call=best_run, trace=False, cluster=None):
+    """Runs the parts, each fitted into the library's range by itself, here or on a cluster; `call` runs one as best_run does. With their traces where these are asked for."""
+    task = Task(stop, quality, plan.grid, call, trace)
+    if cluster:
+        fitted = [plan.fitted(which) for which in range(plan.count())]
+        answers = [answered(plan, own, *found) for own, found in zip(fitted, cluster.each(task, fitted, progress))]
+    else:
+        def one(which):
+            own = plan.fitted(which)
+            return answered(plan, own, *task(own))
+        answers = each(plan, one, progress, jobs)
     result = merged(len(plan.points), answers, plan.part, plan.cutter)
     result.grown = [(answer.own, answer.mesh) for answer in answers] if trace else ()
     result.notes = plan.notes

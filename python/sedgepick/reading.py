@@ -15,6 +15,7 @@ class Ending:
     """Lines that end: a reader that goes on and on behind the last one is stopped. It knows the line that was read last and, once it is closed, how far it was read."""
     line, words, beyond, at = 0, '', 0, 0
     comment = None  # what lines begin with that are passed over
+    before = ''     # a line that is read before the first
 
     def noted(self, words, following):
         """The words, or the first that `following` gives and that are no comment."""
@@ -29,6 +30,9 @@ class Ending:
         return words
 
     def readline(self, *size):
+        if self.before:
+            words, self.before = self.before, ''
+            return words
         return self.noted(super().readline(*size), super().readline)
 
     def __next__(self):
@@ -71,11 +75,16 @@ def encoding_of(path):
         return 'latin-1'
 
 
+def bulk_before(path):
+    """The line that begins the bulk data of a Nastran file, where it has none: Gmsh writes such, and meshio looks for it."""
+    return '' if re.search(rb'^\s*BEGIN\s+BULK', content_of(path), re.M | re.I) else 'BEGIN BULK\n'
+
+
 class Watched:
     """Files that are opened for reading while this is entered are watched; `file` is the last one of the path."""
 
-    def __init__(self, path, comment=None):
-        self.path, self.comment, self.file = os.path.abspath(path), comment, None
+    def __init__(self, path, comment=None, before=''):
+        self.path, self.comment, self.before, self.file = os.path.abspath(path), comment, before, None
 
     def __enter__(self):
         self.plain = builtins.open
@@ -86,7 +95,7 @@ class Watched:
             encoding = None if 'b' in mode else encoding_of(file)
             self.file = Bytes(file) if 'b' in mode else Text(file, encoding) if encoding else self.plain(file, mode, *more, **options)
             if isinstance(self.file, Text):
-                self.file.comment = self.comment
+                self.file.comment, self.file.before = self.comment, self.before
             return self.file
         builtins.open = opened
         return self

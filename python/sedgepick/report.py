@@ -2,9 +2,10 @@
 import os
 from dataclasses import dataclass
 from html import escape
-import meshio, numpy
-from . import closing, library, losses, picture, quality, sheets, slits
+import numpy
+from . import closing, library, losses, meshing, picture, quality, sheets, slits
 from .front import Quality
+from .msh import meshio
 from .previews import KINDS
 from .surfaces import visible
 
@@ -34,7 +35,7 @@ def summary(work):
     left, quads = len(result.triangles), len(result.quads)
     cells = ('%s: %s to %s and %s (%.1f %% quads), %s%s added, %s dropped, %s%.1f s'
              % (given.name, many(len(given.triangles.cells), 'triangle'), many(quads, 'quad'), many(left, 'triangle'), 100 * quads / max(quads + left, 1), least_words(work),
-                many(len(result.added), 'node'), many(orphans(work), 'node'), 'accepted, ' if work.verdict else '', work.seconds))
+                many(len(result.added), 'node'), many(meshing.dropped(work), 'node'), 'accepted, ' if work.verdict else '', work.seconds))
     return '\n'.join([cells] + ['; '.join(loss.words() for loss in work.losses)] * bool(work.losses))
 
 
@@ -61,13 +62,6 @@ def job_words(job):
     return 'job: %d of %d attempts charged in %d files, each with a share of %d' % (job.charged, job.allowance, job.done, job.share)
 
 
-def orphans(work):
-    """Nodes of the file's triangles, and added ones, that no cell has."""
-    used = numpy.unique(numpy.concatenate([work.result.quads.ravel(), work.result.triangles.ravel()]))
-    before = numpy.unique(work.surface.triangles.cells)
-    return len(before) + len(work.result.added) - len(used)
-
-
 def middle(points, cell):
     return points[cell, :2].mean(axis=0)
 
@@ -91,7 +85,7 @@ def sections(work):
     place = lambda row: (row[0], row[2] + ' at (%.6g, %.6g)' % tuple(row[1]))
     counted = [('quads', '%d (%.2f %% of the cells)' % (len(result.quads), 100 * len(result.quads) / max(len(result.quads) + len(result.triangles), 1))), ('triangles left over', '%d (%.1f %% of what the cells stand for, a quad counting as two)'
                                                % (len(result.triangles), 100 * len(result.triangles) / max(made, 1))),
-               ('nodes added', len(result.added)), ('nodes in no cell', '%d, %s' % (orphans(work), 'kept in the file' if work.options.keep_nodes else 'left out')),
+               ('nodes added', len(result.added)), ('nodes in no cell', '%d, %s' % (meshing.dropped(work), 'kept in the file' if work.options.keep_nodes else 'left out')),
                ('components of triangles', '%d before, %d after%s' % (work.given_components, len(after), ', the largest of %d' % max(after) if len(after) else ''))]
     lost = [(loss.what, loss.stand()) for loss in work.losses]
     if lost and not work.options.free:

@@ -1,6 +1,7 @@
 """The size of the quads' edges: docs/SIZE.md has the measurements behind the rule."""
 from . import quality
 from .front import LARGEST_SIZE, LEAST_SIZE, Refused, run_front
+from .job import MOST_ALLOWANCE, Job
 
 SHARES = (0.65, 0.60, 0.70, 0.55, 0.75)  # of the mean edge
 THIN = 10.0                              # degrees: a leftover triangle under it is thin
@@ -34,6 +35,20 @@ def first_run(points, triangles, size, stop, **more):
         except Refused as fault:
             refused = fault
     raise refused
+
+
+def share(most, parts):
+    """The attempts that each of so many parts may make, where they may make so many together."""
+    return min(most // parts, MOST_ALLOWANCE)
+
+
+def bounded_run(allowance, points, triangles, size, stop, **more):
+    """(size, mesh) of one run that makes at most so many attempts: a job of one mesh."""
+    size = single(points, triangles, size)
+    slab = Job(1, allowance).run(points, triangles, size, stop, **more)
+    if slab.refused:
+        raise slab.refused
+    return size, slab.mesh
 
 
 def best_run(points, triangles, size, stop, **more):

@@ -9,14 +9,15 @@ def check(parser, options):
         parser.error('a job has at most %d files, not %d' % (MOST_MESHES, len(options.input)))
     if options.output == '-':
         parser.error('--job takes no -o -: each file is written under its name')
-    for name, why in (('node_map', 'it is the table of one mesh'), ('sheet', 'it is that of one mesh; the report has one for each'), ('preview', 'it is that of one mesh'), ('steps', 'they are those of one mesh'), ('jobs', 'its files are run in turn')):
+    for name, why in (('node_map', 'it is the table of one mesh'), ('sheet', 'it is that of one mesh; the report has one for each'), ('preview', 'it is that of one mesh'), ('steps', 'they are those of one mesh'), ('jobs', 'its files are run in turn'),
+                      ('cluster', 'its files are run in turn'), ('most_attempts', 'its allowance bounds them')):
         if getattr(options, name):
             parser.error('--job takes no --%s: %s' % (name.replace('_', '-'), why))
 
 
 def worked(options):
     """The files in turn; the exit status."""
-    from . import library, report
+    from . import answers, library, report
     from .command import put, say, show, told
     from .job import Job
     from .outputs import Outputs
@@ -26,7 +27,10 @@ def worked(options):
         for work in works:
             work.outputs = outputs
             one(work, job)
-        put(outputs, options.report, lambda page: report.job_page(works, job) if page else report.job_text(works, job))
+        found = object_of(works, job)
+        objects = [path for path in options.report if path.lower().endswith('.json')]
+        put(outputs, [path for path in options.report if path not in objects], lambda page: report.job_page(works, job) if page else report.job_text(works, job))
+        put(outputs, objects, lambda page: answers.text_of(found))
         outputs.commit()
     for work in works:
         told(work, work.surface.name + ': ')
@@ -34,19 +38,33 @@ def worked(options):
             say('%s: %s' % (work.options.input, work.fault))
         show(options, ([] if work.fault else [report.summary(work)]) + [report.slab_words(work)])
     show(options, [report.job_words(job)])
-    return 1 if any(work.fault for work in works) else 3 if any(work.warnings for work in works) else 0
+    if options.json:
+        answers.show(answers.text_of(found))
+    return found['status']
+
+
+def object_of(works, job):
+    """What --json prints of the job."""
+    from . import answers, facts
+    found = [{**answers.refusal(1, work.fault, work.surface.name), 'job': facts.account_of(work.slab)} if work.fault else facts.facts_of(work) for work in works]
+    return answers.several(status_of([own['status'] for own in found]), found,
+                           job={'allowance': job.allowance, 'charged': job.charged, 'share': job.share, 'left': job.left})
+
+
+def status_of(statuses):
+    """The exit status of several files: 1 where one is not written, otherwise 3 where one has a warning."""
+    return 1 if any(status not in (0, 3) for status in statuses) else 3 if 3 in statuses else 0
 
 
 def read(options):
     """Every file read, checked and fitted before the first run: a fault of one stops the command."""
-    from . import writing
-    from .command import check_folders, prepared
+    from .command import check_outputs
+    from .mesh_files import prepared
     works = []
     for options.input, out in zip(options.files, outputs(options)):  # the file that a fault is told of
         own = copy.copy(options)
         own.output = out
-        check_folders(own)
-        writing.check_form(out, own.to)
+        check_outputs(own)
         work = prepared(own, whole=True)
         work.plan.fitted(0)
         works.append(work)
@@ -58,7 +76,8 @@ def outputs(options):
     from .surfaces import Fault
     folder, out = os.path.isdir(options.output), []
     if not folder and '*' not in os.path.basename(options.output):
-        raise Fault("-o %s: with --job it is a folder that is there, or a path in which * stands for the file's name without its suffix" % options.output)
+        raise Fault("-o %s: with %s it is a folder that is there, or a path in which * stands for the file's name without its suffix"
+                    % (options.output, '--job' if options.job else 'several files'))
     for options.input in options.files:
         name = os.path.basename(options.input)
         path = os.path.join(options.output, name) if folder else options.output.replace('*', os.path.splitext(name)[0])
@@ -72,8 +91,7 @@ def outputs(options):
 
 def one(work, job):
     """Runs a file as the next mesh of the job and writes what came of it, or notes why not."""
-    from . import parts
-    from .command import finished, written
+    from . import mesh_files, meshing
     from .front import Refused
     from .sizes import single
     from .surfaces import Fault
@@ -87,8 +105,9 @@ def one(work, job):
         return size, work.slab.mesh
 
     try:
-        finished(work, parts.ran(work.plan, work.options.stop, work.options.quality, call=call))
-        written(work)
+        meshing.run(work, call=call)
+        mesh_files.check_losses(work)
+        mesh_files.written(work)
     except (Fault, Refused, OSError) as fault:
         work.fault = str(fault)
         work.outputs.drop(work.options.output)

@@ -3,8 +3,6 @@ from dataclasses import dataclass, field
 import numpy
 from . import quality
 
-PLANE = 1e-9  # of the mesh's extent: what z may differ by
-
 
 class Fault(Exception):
     """What is wrong with the file, and what to do about it."""
@@ -50,6 +48,9 @@ class Surface:
     clockwise: bool = False        # every triangle was, and was turned
     notes: list = field(default_factory=list)
     sha256: str = ''               # of the bytes that were read
+    quads: object = None           # those of the file, which are kept as they are
+    place: object = None           # planes.Place, where the points are those of a sheet
+    joined: object = None          # what other planes and the quads have of the triangles; it is kept whatever else is not
 
 
 def point_words(points, node):
@@ -58,12 +59,14 @@ def point_words(points, node):
 
 def checked(surface, flatten=False):
     """The surface as it goes to the library: plane, each triangle once, counterclockwise, with an area; or a Fault."""
+    from . import planes  # which speaks of surfaces
     cells, points = surface.triangles.cells, surface.points
     used = numpy.unique(cells)
     wrong = numpy.flatnonzero(~numpy.isfinite(points[used]).all(axis=1))
     if len(wrong):
         raise Fault('node %d of %d lies at (%g, %g, %g), which is not finite (%d such): mend it' % (used[wrong[0]] + 1, len(points), *points[used[wrong[0]]], len(wrong)))
-    check_plane(surface, used, flatten)
+    planes.lay(surface, flatten)
+    cells, points = surface.triangles.cells, surface.points
     keep = numpy.sort(numpy.unique(numpy.sort(cells, axis=1), axis=0, return_index=True)[1])
     if len(keep) < len(cells):
         surface.notes.append('%d triangles stand in the file more than once; each is taken once' % (len(cells) - len(keep)))
@@ -75,18 +78,9 @@ def checked(surface, flatten=False):
         edge = owners[counts.argmax()]
         raise Fault('an edge has %d triangles, from %s to %s: not a plane mesh; take the surfaces apart, one file each'
                     % (counts.max(), point_words(points, edge >> 32), point_words(points, edge & 0xffffffff)))
+    if surface.quads or surface.place and len(surface.place.frames) > 1:
+        surface.joined = planes.joined(surface)
     return surface
-
-
-def check_plane(surface, used, flatten):
-    z = surface.points[used, 2]
-    extent = numpy.ptp(surface.points[used, :2], axis=0).max()
-    if flatten:
-        surface.points[:, 2] = 0.0
-    elif numpy.ptp(z) > PLANE * extent:
-        far = used[abs(z - z[0]).argmax()]
-        raise Fault('not plane: z is %.10g at node %d and %.10g at node %d; turn the surface into the xy-plane, or --flatten sets every z to 0'
-                    % (z[0], used[0] + 1, surface.points[far, 2], far + 1))
 
 
 def check_areas(surface):

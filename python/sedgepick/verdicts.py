@@ -1,8 +1,8 @@
 """The verdict on a mesh file: its cells against the given triangles, by the proved `accept`, exactly."""
 import math
-from dataclasses import dataclass
+from dataclasses import dataclass, replace
 import numpy
-from . import losses, meshes, quality, slits, writing
+from . import losses, quality, slits
 from .acceptance import accept
 from .fitting import power_within
 from .front import FAR
@@ -19,13 +19,15 @@ class Judged:
     left: object
     joints: object
     numbers: object      # of each point in the judged file, from 1; 0 where it is not there
+    counted: int = 1     # the number from which words count: 1 in files, 0 in arrays
+    excused: str = ''    # thin triangles, where the given mesh has such itself and they are not asked about
 
     def node(self, node):
         number = int(self.numbers[node])
-        return '%s at (%.10g, %.10g)' % ('node %d' % number if number else 'given node %d' % (node + 1), *self.points[node, :2])
+        return '%s at (%.10g, %.10g)' % ('node %d' % (number - 1 + self.counted) if number else 'given node %d' % (node + self.counted), *self.points[node, :2])
 
     def cell(self, word, cells, place, why):
-        return None if place is None else '%s %d %s: %s' % (word, place + 1, why, ', '.join(map(self.node, cells[place])))
+        return None if place is None else '%s %d %s: %s' % (word, place + self.counted, why, ', '.join(map(self.node, cells[place])))
 
     def edge(self, nodes, words):
         return None if nodes is None else words % tuple(map(self.node, nodes))
@@ -33,7 +35,7 @@ class Judged:
     def clauses(self):
         """[(clause, words on its first offender, or None where it holds)]"""
         found, lost = self.verdict, self.verdict.lost
-        return [('given nodes are in place', None if found.moved is None else 'given node %d is not' % (found.moved + 1)),
+        return [('given nodes are in place', None if found.moved is None else 'given node %d is not' % (found.moved + self.counted)),
                 ('given triangles have an area', self.cell('given triangle', self.triangles, found.given_flat, 'has none')),
                 ('quads turn left at each node', self.cell('quad', self.quads, found.folded, 'does not')),
                 ('no corner of a quad is too sharp', self.cell('quad', self.quads, found.sharp, 'has one')),
@@ -74,30 +76,18 @@ def judged(given_points, triangles, points, quads, left, joints, cosine, thin, n
     return Judged(verdict, numpy.asarray(triangles), numpy.asarray(points), numpy.asarray(quads), numpy.asarray(left), joints, numbers)
 
 
-def judge(work, path, nodes):
-    """Reads the file back, takes its nodes back to the given numbers and has it judged: a Fault where it is not accepted, a warning where thin triangles are the given
-    mesh's own."""
-    options, surface, points = work.options, work.surface, work.points.copy()
-    form = writing.writing_form(options.output, options.to)
-    turned = lambda cells: cells[:, ::-1] if surface.clockwise else cells
-    found = meshes.read_written(path, form)
-    if found is None:
-        found = points[nodes], turned(work.number[work.result.quads]), turned(work.number[work.result.triangles])
-        surface.notes.append('%s cannot be read back: the verdict is on what was handed to its writer' % form)
-    points[nodes, :2] = found[0][:, :2]
-    quads, left = (turned(nodes[cells]) for cells in found[1:])
-    given, rounded = points[:len(surface.points)], int((points[nodes, :2] != work.points[nodes, :2]).any(axis=1).sum())
-    kept = [] if options.free or options.allow_loss else joints_of(surface)
-    ask = lambda thin: judged(given, surface.triangles.cells, points, quads, left, kept, options.quality.largest_cosine, thin, work.number + 1)
-    verdict = ask(options.thin)
+def settle(work, points, quads, left, numbers, first=1):
+    """The verdict on cells that were made of a surface, counterclockwise, over its points and those added. Where thin triangles alone are against it and the given triangles are as
+    thin, it is that without the question, and the offender is excused."""
+    settings, surface = work.settings, work.surface
+    kept = [] if settings.free or settings.allow_loss else joints_of(surface)
+    ask = lambda thin: replace(judged(points[:len(surface.points)], surface.triangles.cells, points, quads, left, kept, settings.quality.largest_cosine, thin, numbers), counted=first)
+    found = ask(settings.thin)
     least = float(quality.least_angles(points, surface.triangles.cells).min())
-    if not verdict.verdict.accepted and least < options.thin and ask(0.0).verdict.accepted:
-        work.warnings.append('%s; the given triangles go down to %.3g degrees themselves, so it is written all the same (--thin %g)' % (verdict.first(), least, options.thin))
-        verdict = ask(0.0)
-    if not verdict.verdict.accepted:
-        raise Fault('not accepted: %s. Nothing is written' % verdict.first())
-    as_written = [('nodes', '%d of %d rounded by the format, and judged as it has them' % (rounded, len(nodes)))] if rounded else []
-    work.verdict = verdict.rows() + as_written + [('least angle asked of triangles', '%g degrees' % options.thin if options.thin else 'none')]
+    if found.verdict.accepted or least >= settings.thin:
+        return found
+    other = ask(0.0)
+    return replace(other, excused='%s; the given triangles go down to %.3g degrees themselves' % (found.first(), least)) if other.verdict.accepted else found
 
 
 def joints_of(surface):

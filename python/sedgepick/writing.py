@@ -1,10 +1,9 @@
 """Mesh files made by meshio, read back and compared; `outputs` gives them their names."""
-import os, re
-import meshio
+import os
 import numpy
-from meshio import _helpers as meshio_forms
-from . import names
+from . import abaqus, names
 from .files import GOOD, form_of, missing, quiet, suffix_of
+from .msh import meshio, meshio_forms
 from .outputs import STDOUT, Folder
 from .surfaces import Fault, Marked
 
@@ -13,7 +12,6 @@ WRITTEN = {'.msh': 'gmsh22', '.vtk': 'vtk42'}
 SETS = ('abaqus', 'med')  # formats with sets of cells and of nodes
 OPTIONS = {'gmsh22': {'binary': False}, 'xdmf': {'data_format': 'XML'}}  # one file; meshio's other ways put the numbers into a second one
 ONE_ARRAY = ('medit', 'su2', 'ugrid', 'netgen', 'avsucd', 'nastran', 'flac3d')  # formats that take one array of numbers
-INP = {'quad': 'S4', 'triangle': 'S3', 'line': 'B31'}  # element types of shells and beams
 ROUNDED = 1e-6  # of the extent: a file that moves a node farther does not hold the mesh
 TOLD = 1e-12    # of the extent: rounding below it is not told
 
@@ -32,12 +30,14 @@ def check_form(path, form):
     raise fault
 
 
-def make(made, path, form, points, blocks, named, point_sets):
-    """Makes the file of the cells (kind, Marked) that takes this path's name later, in a folder of its own, reads it back and compares; returns notes."""
+def make(made, path, form, points, blocks, named, point_sets, beams=False):
+    """Makes the file of the cells (kind, Marked) that takes this path's name later, in a folder of its own, reads it back and compares; returns notes.
+    `beams`: in an Abaqus file lines are elements, too."""
     form, notes = writing_form(path, form), []
     blocks = [block for block in blocks if len(block[1].cells)]
     if form in SETS:
         blocks, point_sets = names.as_node_sets(blocks, point_sets)
+        blocks, point_sets = names.with_line_nodes(blocks, point_sets, beams) if form == 'abaqus' else (blocks, point_sets)
     else:
         blocks, point_sets = names.as_vertices(blocks, point_sets), {}
     try:
@@ -61,7 +61,7 @@ def writing_form(path, form):
     return (not form and WRITTEN.get(suffix_of(path))) or form_of(path, form)
 
 
-def mesh_of(form, points, blocks, named, point_sets):
+def mesh_of(form, points, blocks, named, point_sets, notes):
     """(mesh, words on the numbers of groups) as meshio takes it for the format."""
     cells, words = [(kind, marked.cells) for kind, marked in blocks], []
     if form == 'med':
@@ -69,8 +69,11 @@ def mesh_of(form, points, blocks, named, point_sets):
         names.med_groups(mesh, blocks, point_sets)
     elif form == 'abaqus':
         full = [(kind, names.with_all(names.with_sets(marked), 'lines' if kind == 'line' else 'surface')) for kind, marked in blocks]
-        sets = {names.plain(name): [numpy.flatnonzero(marked.sets.get(name, [])) for _, marked in full] for name in sorted({name for _, marked in full for name in marked.sets})}
-        mesh = meshio.Mesh(points, cells, cell_sets=sets, point_sets={names.plain(name): nodes for name, nodes in point_sets.items()})
+        every = {name for _, marked in full for name, has in marked.sets.items() if has.any()}
+        given = abaqus.labels(every | set(point_sets))
+        notes += filter(None, [abaqus.label_words(given)])
+        sets = {given[name]: [numpy.flatnonzero(marked.sets.get(name, [])) for _, marked in full] for name in sorted(every)}
+        mesh = meshio.Mesh(points, cells, cell_sets=sets, point_sets={given[name]: nodes for name, nodes in sorted(point_sets.items()) if len(nodes)})
     elif form == 'gmsh22':
         tags, found = names.gmsh_groups(blocks, named)
         mesh = meshio.Mesh(points, cells, cell_data=tags, field_data=found)
@@ -82,12 +85,13 @@ def mesh_of(form, points, blocks, named, point_sets):
 
 def written(path, form, points, blocks, named, point_sets, notes):
     """None, or why the file does not hold the mesh."""
-    mesh, words = mesh_of(form, points, blocks, named, point_sets)
+    mesh, words = mesh_of(form, points, blocks, named, point_sets, notes)
     try:
         with quiet() as said:
-            meshio.write(path, mesh, file_format=form, **OPTIONS.get(form, {}))
-        if form == 'abaqus':
-            for_calculix(path, points)
+            if form == 'abaqus':
+                abaqus.write(path, mesh)
+            else:
+                meshio.write(path, mesh, file_format=form, **OPTIONS.get(form, {}))
     except ModuleNotFoundError as error:
         return missing(error, form)
     except OSError:
@@ -115,12 +119,12 @@ def parted(path, form, given, blocks, words, notes):
             return 'of %d cells of type %s it holds %d' % (len(marked.cells), kind, sum(map(len, found)))
         if not numpy.array_equal(numpy.concatenate(found), marked.cells):
             return 'cells of type %s come back with other nodes' % kind
-    far = abs(mesh.points[:, :2] - points[:, :2]).max()
-    if far > ROUNDED * numpy.ptp(points[:, :2], axis=0).max():
-        return 'coordinates come back up to %.3g away' % far
-    changed = int((mesh.points[:, :2] != points[:, :2]).sum())
-    if changed and far > TOLD * numpy.ptp(points[:, :2], axis=0).max():
-        notes.append('%s rounds %d of %d coordinates, by up to %.3g' % (form, changed, 2 * len(points), far))
+    there = numpy.column_stack([mesh.points, numpy.zeros((len(points), 3 - mesh.points.shape[1]))]) if numpy.ptp(points[:, 2]) else mesh.points[:, :2]
+    ways, extent = abs(there - points[:, :there.shape[1]]), numpy.ptp(points, axis=0).max()
+    if ways.max() > ROUNDED * extent:
+        return 'coordinates come back up to %.3g away' % ways.max()
+    if ways.max() > TOLD * extent:
+        notes.append('%s rounds %d of %d coordinates, by up to %.3g' % (form, (ways > 0).sum(), ways.size, ways.max()))
     if words:
         notes.append(names_words(form, given, mesh, words))
     return None
@@ -136,20 +140,3 @@ def names_words(form, given, mesh, words):
         if all(kind in came and numpy.array_equal(came[kind], numbers) for kind, numbers in wanted.items()):
             return '%s holds no names of groups; in its numbers (%s) %s' % (form, name, ', '.join(words))
     return '%s holds no groups; left out are %s' % (form, ', '.join(word.split(' is ', 1)[1] for word in words))
-
-
-def for_calculix(path, points):
-    """What CalculiX takes in place of what meshio writes: element types of shells and beams, and coordinates of at most 20 characters, the shortest that
-    give the double back where there are such."""
-    with open(path) as file:
-        head, rest = file.read().split('*NODE\n', 1)
-    elements = rest[rest.index('*ELEMENT'):]
-    kinds = {'CAX4P': 'quad', 'R3D3': 'triangle', 'B31H': 'line'}
-    change = lambda found: '*ELEMENT, TYPE=' + INP.get(kinds.get(found[1], ''), found[1])
-    nodes = ''.join('%d, %s\n' % (i, ', '.join(map(short, point))) for i, point in enumerate(points.tolist(), 1))
-    with open(path, 'w') as file:
-        file.write(head + '*NODE\n' + nodes + re.sub(r'\*ELEMENT, TYPE=(\w+)', change, elements))
-
-
-def short(value):
-    return repr(value) if len(repr(value)) <= 20 else '%.13e' % value

@@ -12,10 +12,12 @@ sys.path.insert(0, PACKAGES)
 
 def make_library():
     """The shared library of the archive, or the end of the tests with words."""
+    os.environ.pop('SEDGEPICK_LIBRARY', None)
+    if os.environ.get('SEDGEPICK_TESTS_MADE'):  # by tools/python-tests, once for all
+        return
     made = subprocess.run([os.path.join(ROOT, 'tools', 'shared'), ARCHIVE], capture_output=True, text=True)
     if made.returncode:
         sys.exit('the tests need the proved library: %s' % made.stderr.strip())
-    os.environ.pop('SEDGEPICK_LIBRARY', None)
 
 
 def grid(columns, rows, step=1.0):

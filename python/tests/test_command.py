@@ -359,10 +359,10 @@ class Bad(Case):
 
     def test_meshes(self):
         bad = lambda points, cells: self.stored(points, cells)
-        self.refused('not plane: z is .*--flatten', bad(self.SQUARE[:3] + [(0, 1, 0.5)], [('triangle', [(0, 1, 2), (0, 2, 3)])]), '-o', self.out)
+        self.refused('not plane: .*--flatten', bad(self.SQUARE[:3] + [(0, 1, 0.5)], [('triangle', [(0, 1, 2), (0, 2, 3)])]), '-o', self.out)
         self.refused('triangle 2 has no area', bad(self.SQUARE + [(2, 2, 0)], [('triangle', [(0, 1, 3), (0, 2, 4)])]), '-o', self.out)
         self.refused('has no area', bad(self.SQUARE, [('triangle', [(0, 1, 1)])]), '-o', self.out)
-        self.refused('cells of type quad beside', bad(self.SQUARE, [('triangle', [(0, 1, 2)]), ('quad', [(0, 1, 2, 3)])]), '-o', self.out)
+        self.refused('cells of type tetra beside', bad(self.SQUARE + [(0, 0, 1)], [('triangle', [(0, 1, 2)]), ('tetra', [(0, 1, 2, 4)])]), '-o', self.out)
         self.refused('an edge has 3 triangles', bad(self.SQUARE + [(0.5, -1, 0)], [('triangle', [(0, 1, 2), (0, 1, 3), (1, 0, 4)])]), '-o', self.out)
         self.refused(r'node 1 of 4 lies at \(nan, 0, 0\), which is not finite', bad([(float('nan'), 0, 0)] + self.SQUARE[1:], [('triangle', [(0, 1, 2)])]), '-o', self.out)
 

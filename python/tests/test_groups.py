@@ -61,7 +61,7 @@ class Names(Case):
 
     def test_from_each_format_to_each(self):
         """Groups of cells, lines and points go from file to file; a run that makes no quads keeps every cell."""
-        none = ['--least-jacobian', '1', '--least-angle', '60']
+        none = ['--least-jacobian', '1', '--least-angle', '60', '--beams']  # without beams a .inp has no lines, and their group is one of nodes
         want = {'slab': 642, 'wall': 6, 'column': 12}
         for first in NAMED:
             self.good(COLUMNS, '-o', self.path('a.' + first), *none)
@@ -83,7 +83,7 @@ class Names(Case):
 
     def test_cells_without_a_group_have_a_set(self):
         points, triangles = grid(3, 3)
-        self.good(self.stored(points, [('triangle', triangles), ('line', [(0, 1), (1, 2)])]), '-o', self.path('a.inp'), '--stop', '0')
+        self.good(self.stored(points, [('triangle', triangles), ('line', [(0, 1), (1, 2)])]), '-o', self.path('a.inp'), '--stop', '0', '--beams')
         with open(self.path('a.inp')) as file:
             self.assertEqual(sorted(set(re.findall(r'ELSET=(\w+)', file.read()))), ['lines', 'surface'])
 
@@ -116,13 +116,13 @@ class Names(Case):
 
 
 class Programs(Case):
-    def reads(self, path):
-        return self.good(COLUMNS, '-o', self.path(path))
+    def reads(self, path, *more):
+        return self.good(COLUMNS, '-o', self.path(path), *more)
 
     @unittest.skipUnless(shutil.which('ccx'), 'CalculiX is not installed')
     def test_calculix(self):
         """A slab on its columns under 10 kN on the square metre: what the columns carry is the load, but for what lies on their own nodes."""
-        self.reads('quads.inp')
+        self.reads('quads.inp', '--beams')
         with open(self.path('deck.inp'), 'w') as file:
             file.write('*INCLUDE, INPUT=quads.inp\n*MATERIAL, NAME=C30\n*ELASTIC\n33e9, 0.2\n*SHELL SECTION, ELSET=slab, MATERIAL=C30\n0.25\n'
                        '*BEAM SECTION, ELSET=wall, MATERIAL=C30, SECTION=RECT\n0.2, 0.2\n0., 0., 1.\n*BOUNDARY\ncolumn, 1, 3\n'

@@ -1,5 +1,5 @@
 """Tests of the files that are written: regular files alone, whole or not at all, and none left under a temporary name."""
-import os, resource, shutil, stat, subprocess, sys, tempfile, unittest
+import json, os, resource, shutil, stat, subprocess, sys, tempfile, unittest
 from case import COMMAND, Case, meshio, set_up
 from common import FILES
 
@@ -74,10 +74,15 @@ class Places(Case):
         self.assertEqual((ran.returncode, ran.stderr, os.listdir(self.folder)), (0, '', ['out.msh']))
 
     def test_reports_are_what_their_names_say(self):
-        for name in ('r.pdf', 'r.json', 'R.PDF', 'r.csv'):
+        for name in ('r.pdf', 'R.PDF', 'r.csv'):
             ran = self.run_command(L_SLAB, '-o', self.out, '--report', self.path(name))
             self.assertEqual((ran.returncode, os.listdir(self.folder)), (2, []), ran.stderr)
-            self.assertIn('a report is a page, .html, or text', ran.stderr)
+            self.assertIn('a report is a page, .html, an object, .json, or text', ran.stderr)
+        self.good(L_SLAB, '-o', self.out, '--report', self.path('r.json'), '--report', self.path('r.txt'))
+        with open(self.path('r.json')) as file:
+            self.assertEqual(json.load(file)['quads'], 73)
+        with open(self.path('r.txt')) as file:
+            self.assertTrue(file.read().startswith('sedgepick-mesh: report'))
 
 
 ALL = ('out.msh', 'r.html', 'r.txt', 's.csv', 'm.csv', 'p.svg', 'steps.html')

@@ -106,8 +106,9 @@ class Job(Case):
     def test_options(self):
         slab = given('l-slab-41.msh')
         for words, said in ((['--job', '0', *slab], 'out of range'), (['--job', '1000001', *slab], 'out of range'), (['--job', '1.5', *slab], 'whole number'),
-                            (['--job', '9', *slab * 17], 'at most 16 files, not 17'), (slab * 2, '--job ALLOWANCE runs several'),
-                            (['--job', '9', *slab, '--node-map', 'map'], 'takes no --node-map'), (['--job', '9', *slab, '--jobs', '2'], 'takes no --jobs')):
+                            (['--job', '9', *slab * 17], 'at most 16 files, not 17'), (['--job', '9', *slab, '-', '--from', 'gmsh'], 'give it by itself'),
+                            (['--job', '9', *slab, '--node-map', 'map'], 'takes no --node-map'), (['--job', '9', *slab, '--jobs', '2'], 'takes no --jobs'),
+                            (['--job', '9', *slab, '--most-attempts', '5'], 'takes no --most-attempts'), (['--job', '9', *slab, '--cluster', 'tcp://x'], 'takes no --cluster')):
             ran = self.run_command(*words, '-o', self.out)
             self.assertEqual((ran.returncode, os.listdir(self.out)), (2, []), ran.stderr)
             self.assertIn(said, ran.stderr)

@@ -10,7 +10,6 @@ mod compare;
 mod damage;
 mod files;
 mod generators;
-mod grids;
 mod input;
 mod large;
 mod mesh;
@@ -61,7 +60,6 @@ const USAGE: &str = "usage:
   accept                                   answer the calls of the acceptance on standard input, a line each
   accepts SEED EACH DIR                    write calls of the acceptance with their answers, so many of each kind
   meshes SEED TRIANGLES [DIR]              make large meshes, print their hashes
-  grids                                    the hashes that the crate `replay` holds
   small                                    the hashes that the crate `acceptance` holds
   compare SEED COUNT [--kind KIND] [--save DIR]
                                            run published, patched but for the second end, and patched
@@ -145,7 +143,6 @@ fn command(words: &[&str]) -> Result<()> {
             |text| compare::parts(text).map(String::into_bytes),
             "refused before a run",
         ),
-        ["grids"] => grids::print(),
         ["small"] => small::print(),
         ["cases", seed, count, folder] => {
             files::cases(number(seed)?, number(count)?, Path::new(folder), None)

@@ -1,7 +1,6 @@
 //! Every list of one to three different triangles on 3, 4 or 5 points, meshed in 128 settings;
 //! the hashes that the crate `acceptance` holds.
 
-use crate::grids::{hash_on, BASIS};
 use crate::input::{Input, Lent};
 use crate::records::{counts, records, WORDS};
 
@@ -133,6 +132,15 @@ fn returned(input: &Input, position: &[[f64; 2]], lent: Lent) -> Vec<u64> {
         }
     }
     [head, quads, triangles, components, points].concat()
+}
+
+/// Where a hash starts.
+const BASIS: u64 = 0xcbf29ce484222325;
+
+/// FNV-1a with a step for each number instead of each byte, from a hash on.
+fn hash_on(from: u64, numbers: &[u64]) -> u64 {
+    let step = |h: u64, n: &u64| (h ^ n).wrapping_mul(0x100000001b3);
+    numbers.iter().fold(from, step)
 }
 
 /// The hash of all answers to a list, one after the other.

@@ -21,7 +21,6 @@ pub mod Locks
 pub mod Fronts
 pub mod Run
 pub mod Start
-pub mod ValidWalks
 -- what a run keeps
 pub mod Counting
 pub mod Parity
@@ -30,7 +29,6 @@ pub mod Quads
 pub mod Geometry
 pub mod Locked
 pub mod FlipEdges
-pub mod NeverFlipped
 pub mod Births
 pub mod Placed
 pub mod SameRound
@@ -44,8 +42,6 @@ pub mod Joints
 pub mod Weights
 pub mod Areas
 pub mod Gridded
-pub mod GridEnds
-pub mod Profile
 -- edges that were refused
 pub mod Roles
 pub mod Refused
@@ -61,11 +57,9 @@ pub mod Rounds
 pub mod Walks
 pub mod Attempts
 pub mod Trials
-pub mod InTurn
 pub mod Smaller
 pub mod Jobs
 pub mod Previews
-pub mod PreviewRoom
 pub mod Listed
 pub mod LiveTris
 pub mod Meshes
@@ -73,11 +67,3 @@ pub mod Invariants
 pub mod Reach
 -- a trace and its replay
 pub mod Redo
-pub mod Played
-pub mod Replays
-pub mod Stages
--- a run without its trace
-pub mod Quiet
-pub mod Untraced
-pub mod Traceless
-pub mod NoTrace

@@ -108,7 +108,7 @@ module _ (quads : List ℕ) (q : ℕ) (left : List ℕ) (t : ℕ) (w : List ℕ)
   in-quads : (j : ℕ) → j < 4 * q → key-at w₂ (0 + j) ≡ code (side-at quads 4 j)
   in-quads j h = two .kept (0 + j) (omega arith) ∙ one .there j h
 
-  pub sortable : Sortable-by w₂ N 4
+  pub sortable : Sortable-by w₂ N 3
   unfolding unit
   sortable =
       record {

@@ -13,7 +13,7 @@ ghost use Rattle.balance.specs.Codes.{edge};
 ghost use Rattle.lost_joints.specs.Filed.{has-key, cell-edges, Fileable, Filed, Sought};
 
 // Times that the numbers, of 41 binary digits, are dealt out and back.
-const TIMES: usize = 4;
+const TIMES: usize = 3;
 
 // What a node's 20 binary digits count to.
 const NODES: usize = 1048576;

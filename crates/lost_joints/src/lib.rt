@@ -53,8 +53,8 @@ fn lost_in(w: &[u32], at: usize, g: usize, m: usize, joints: &[u32], n: usize) -
     first_lost(&w[..at], g, &w[at..], m, joints, n)
 }
 
-// The first of n joints that is an edge of one of the first `count` given triangles, and of no cell of the result. Four words of w for each side.
-pub fn lost_joint(
+// The first of n joints that is an edge of one of the first `count` given triangles, and of no cell of the result, by the sides of all of them, sorted.
+fn search_lost(
     given: &[u32],
     count: usize,
     quads: &[u32],
@@ -74,4 +74,35 @@ pub fn lost_joint(
     file_edges(given, 0, given, count, &mut w[..at]);
     file_edges(quads, quad_count, left, left_count, &mut w[at..]);
     lost_in(w, at, g, m, joints, n)
+}
+
+// The first of n joints that is an edge of one of the first `count` given triangles, and of no cell of the result. Four words of w for each side.
+pub fn lost_joint(
+    given: &[u32],
+    count: usize,
+    quads: &[u32],
+    quad_count: usize,
+    left: &[u32],
+    left_count: usize,
+    joints: &[u32],
+    n: usize,
+    w: &mut [u32],
+) -> Lost
+    requires { ⌜ Readable (now given) count (now quads) «quad_count» (now left) «left_count» (now joints) n (now w) ⌝ }
+    ensures { λ r. ⌜ Answers (now (given .entry)) count (now (quads .entry)) «quad_count» (now (left .entry)) «left_count» (now (joints .entry)) n r ⌝ }
+{
+    if n == 0 {
+        return Lost::Nothing;
+    }
+    search_lost(
+        given,
+        count,
+        quads,
+        quad_count,
+        left,
+        left_count,
+        joints,
+        n,
+        w,
+    )
 }

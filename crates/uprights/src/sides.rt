@@ -13,7 +13,7 @@ ghost use Rattle.uprights.specs.Promise.{upright-at};
 ghost use Rattle.uprights.specs.Sides.{upright-words, Corner, Puttable, Readable};
 
 // Times that the sides' numbers, of 41 binary digits, are dealt out and back.
-const TIMES: usize = 4;
+const TIMES: usize = 3;
 
 // The three places from `at` on get the sides of the triangle a, b, c, upright.
 fn put_upright(points: &[f64], a: u32, b: u32, c: u32, turned: bool, w: &mut [u32], at: usize)

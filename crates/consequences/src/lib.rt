@@ -1,0 +1,1 @@
+// what follows for every run: theorems alone, in specs/
