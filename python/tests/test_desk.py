@@ -500,7 +500,8 @@ class Page(unittest.TestCase):
         self.run_it()
         self.shot('done')
         self.assertEqual(self.element('verdict-says').text, 'Accepted')
-        self.assertIn('321', self.element('numbers').text)
+        shown = self.element('numbers').find_elements('tag name', 'dd')
+        quads, left = int(shown[0].text.split()[0]), int(shown[1].text)
         self.element('show-sheet').click()
         self.until('document.getElementById("paper").contentDocument.getElementById("name")')
         self.browser.switch_to.frame(self.element('paper'))
@@ -518,6 +519,8 @@ class Page(unittest.TestCase):
             time.sleep(0.1)
         with open(os.path.join(self.downloads, 'columns-quads.msh'), 'rb') as file:
             self.assertIn(hashlib.sha256(file.read()).hexdigest(), sheet)
+        made = meshio.read(os.path.join(self.downloads, 'columns-quads.msh'))
+        self.assertEqual([sum(len(block.data) for block in made.cells if block.type == kind) for kind in ('quad', 'triangle')], [quads, left])
         self.assertLess(time.monotonic() - begin, 120)
 
     def test_sheet_is_one_page(self):
@@ -604,7 +607,7 @@ class Page(unittest.TestCase):
     def test_cells_and_the_worst(self):
         self.open()
         self.run_it()
-        row = self.browser.find_element('css selector', '#worst button')
+        row = next(row for row in self.browser.find_elements('css selector', '#worst button') if row.text.startswith('quad'))
         value = row.find_element('tag name', 'b').text
         row.click()
         self.assertTrue(self.element('cell-card').is_displayed())

@@ -1,5 +1,5 @@
 """The acceptance sheet: one A4 page with the verdict clause by clause, the files by their hashes, and a line for a name."""
-import hashlib, math
+import hashlib
 from html import escape
 from .. import library, quality, report
 from ..surfaces import visible
@@ -38,8 +38,7 @@ def facts_of(work, drawn: dict) -> dict:
     q = chosen.quality
     corner = q.least_angle()
     least = float(quality.least_angles(work.points, work.result.triangles).min()) if drawn['left'] else 60.0
-    # where the given triangles are thin themselves, the verdict that is written asks nothing of triangles, and a warning says so
-    waived = math.cos(math.radians(least)) > math.cos(math.radians(chosen.thin)) + 1e-9
+    waived = bool(work.judged.excused)  # the given triangles are thin themselves: the verdict asks nothing of triangles, and a warning says so
     thin = 'at least %g degrees' % chosen.thin if chosen.thin and not waived else 'an area, and no least angle' + (', since given triangles are under %g degrees themselves' % chosen.thin if chosen.thin else '')
     return {
         'date': drawn['date'], 'given': (surface.name, surface.sha256, '%d triangles, %d nodes' % (len(surface.triangles.cells), len(set(surface.triangles.cells.ravel().tolist())))),
