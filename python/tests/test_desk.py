@@ -1,10 +1,11 @@
 """Tests of the desk: its server by plain requests, and its page in Chromium, driven as a person would."""
-import base64, hashlib, http.client, json, os, re, shutil, signal, struct, subprocess, sys, tempfile, time, unittest
+import base64, hashlib, http.client, json, os, re, shutil, signal, struct, subprocess, sys, tempfile, time, types, unittest
 from common import FILES, PACKAGES, ROOT, make_library
 
 try:
     import meshio, numpy
-    from sedgepick.desk import fields, packing, server, tasks
+    from sedgepick import picture
+    from sedgepick.desk import fields, packing, tasks
 except ImportError:
     meshio = None
 try:
@@ -761,6 +762,88 @@ class PageAlone(Page):
 
     def tearDown(self):
         """Its last requests fail, and the browser says so."""
+
+
+class Labels(unittest.TestCase):
+    def test_labels_do_not_collide(self):
+        """Marks at one place have labels beside each other, within the window."""
+        piece = picture.Piece((0.0, 0.0), (10.0, 10.0), (0, 0), 50.0)
+        for places in ([(5.0, 5.0)] * 6, [(0.05, 9.95)] * 3, [(5.0, 5.0), (5.2, 5.0), (5.4, 5.1), (5.1, 5.3)], [(9.9, 0.1), (9.8, 0.1)]):
+            mesh, lines = types.SimpleNamespace(marks=[('q%d' % (i + 1), place) for i, place in enumerate(places)], lost_edges=[], lost_points=[]), []
+            picture.marks_of(mesh, piece, lines)
+            boxes = [(float(x), float(y) - 9, float(x) + 15, float(y) + 2) for x, y in re.findall(r'<text x="([-.\d]+)" y="([-.\d]+)"', ''.join(lines))]
+            self.assertEqual(len(boxes), len(places))
+            for i, a in enumerate(boxes):
+                self.assertTrue(0 <= a[0] and a[2] <= 500 and 0 <= a[1] and a[3] <= 500, a)
+                for b in boxes[:i]:
+                    self.assertTrue(a[2] <= b[0] or b[2] <= a[0] or a[3] <= b[1] or b[3] <= a[1], (a, b))
+
+
+@unittest.skipUnless(webdriver and CHROMIUM and DRIVER, 'chromium, chromedriver or python3-selenium is not installed')
+class Written(unittest.TestCase):
+    """The pages that the command writes, in Chromium."""
+
+    @classmethod
+    def setUpClass(cls):
+        cls.folder = tempfile.mkdtemp()
+        subprocess.run([sys.executable, os.path.join(PACKAGES, 'sedgepick-mesh'), COLUMNS, '-o', os.path.join(cls.folder, 'q.msh'), '--report', os.path.join(cls.folder, 'report.html'), '--steps',
+                        os.path.join(cls.folder, 'steps.html'), '--preview', os.path.join(cls.folder, 'front.html'), '-q'], check=True, stderr=subprocess.DEVNULL)
+        options = Options()
+        options.binary_location = CHROMIUM
+        for word in ('--headless=new', '--no-sandbox', '--disable-dev-shm-usage'):
+            options.add_argument(word)
+        options.set_capability('goog:loggingPrefs', {'browser': 'ALL'})
+        cls.browser = webdriver.Chrome(service=Service(DRIVER), options=options)
+
+    @classmethod
+    def tearDownClass(cls):
+        cls.browser.quit()
+        shutil.rmtree(cls.folder)
+
+    def show(self, name, width=1280, height=900, scheme='light'):
+        self.browser.execute_cdp_cmd('Emulation.setDeviceMetricsOverride', {'width': width, 'height': height, 'deviceScaleFactor': 1, 'mobile': width < 600})
+        self.browser.execute_cdp_cmd('Emulation.setEmulatedMedia', {'media': '', 'features': [{'name': 'prefers-color-scheme', 'value': scheme}]})
+        self.browser.get('file://' + os.path.join(self.folder, name))
+
+    def js(self, words):
+        return self.browser.execute_script('return ' + words)
+
+    def test_zoom(self):
+        for name in ('report.html', 'steps.html', 'front.html'):
+            self.show(name)
+            box = lambda: list(map(float, self.js('document.querySelector(".zoomed svg").getAttribute("viewBox")').split()))
+            whole = box()
+            near, far, fit = self.browser.find_elements('css selector', '.zoom button')
+            near.click()
+            self.assertAlmostEqual(box()[2], whole[2] / 1.5, 2)
+            svg = self.browser.find_element('css selector', '.zoomed svg')
+            before = box()
+            ActionChains(self.browser).move_to_element_with_offset(svg, 0, 0).click_and_hold().move_by_offset(40, 30).release().perform()
+            self.assertTrue(box()[0] < before[0] and box()[1] < before[1])
+            far.click()
+            fit.click()
+            self.assertEqual(box(), whole)
+            self.assertEqual([entry['message'] for entry in self.browser.get_log('browser') if entry['level'] == 'SEVERE'], [])
+
+    def test_schemes_phone_and_date(self):
+        for name in ('report.html', 'steps.html', 'front.html'):
+            for width, scheme in ((1280, 'light'), (1280, 'dark'), (390, 'light')):
+                self.show(name, width, 844, scheme)
+                self.assertLessEqual(self.js('document.documentElement.scrollWidth'), width)
+                light = sum(map(int, re.findall(r'\d+', self.js('getComputedStyle(document.body).backgroundColor'))[:3])) > 600
+                self.assertEqual(light, scheme == 'light')
+        self.show('report.html')
+        self.assertRegex(self.browser.find_element('class name', 'date').text, time.strftime('%Y-'))
+
+    def test_print(self):
+        """In print the page is light and has no buttons, also where it was zoomed in the dark."""
+        self.show('report.html', scheme='dark')
+        self.browser.find_element('css selector', '.zoom button').click()
+        self.browser.execute_cdp_cmd('Emulation.setEmulatedMedia', {'media': 'print', 'features': [{'name': 'prefers-color-scheme', 'value': 'dark'}]})
+        self.assertEqual(self.js('getComputedStyle(document.querySelector(".zoom")).display'), 'none')
+        self.assertEqual(self.js('getComputedStyle(document.body).backgroundColor'), 'rgb(255, 255, 255)')
+        self.browser.execute_script('dispatchEvent(new Event("beforeprint"))')
+        self.assertFalse(self.js('document.querySelector(".zoomed svg").classList.contains("near")'))
 
 
 def write_grid(path, columns, rows):
