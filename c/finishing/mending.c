@@ -7,6 +7,7 @@
 
 #define ENOUGH 1e-7           /* a cover is cheaper where it is so by more */
 #define ROUNDS 4
+#define LEAST_NODES 12        /* of the first patch around a cell */
 
 /* A cover that is begun: the sides that wait for a cell. */
 typedef struct {
@@ -166,14 +167,25 @@ static uint32_t slot_of(const cover *c, const uint32_t *nodes) {
     return slot;
 }
 
-static int mended(cover *c, patch *p, const uint32_t *nodes, double limit, size_t most_nodes, size_t tries) {
-    for (size_t size = 12; size <= most_nodes && size <= PATCH_NODES; size += 4) {
-        uint32_t cell = slot_of(c, nodes);
-        if (cell == NONE)
-            return 0;
-        if (finishing_patch(p, c, cell, (int)size, limit) > 1 && finishing_mend(c, p, (int)tries))
+/* Whether a node of the patch was in one that the round before, or this one, has covered anew. */
+static int is_touched(const patch *p, const unsigned char *touched, int round) {
+    for (int i = 0; i < p->node_count; i++)
+        if (touched[p->nodes[i]] >= round)
             return 1;
-    }
+    return 0;
+}
+
+/* Patches around a cell, one larger than the other, until one is mended; whether one was. After the first round only where something has changed. */
+static int mended(cover *c, patch *p, const uint32_t *nodes, double limit, int most_nodes, int tries, unsigned char *touched, int round) {
+    uint32_t cell = slot_of(c, nodes);
+    if (cell == NONE || (round && finishing_patch(p, c, cell, most_nodes, limit) && !is_touched(p, touched, round)))
+        return 0;
+    for (int size = LEAST_NODES; size <= most_nodes; size += 4)
+        if (finishing_patch(p, c, cell, size, limit) > 1 && finishing_mend(c, p, tries)) {
+            for (int i = 0; i < p->node_count; i++)
+                touched[p->nodes[i]] = (unsigned char)(round + 1);
+            return 1;
+        }
     return 0;
 }
 
@@ -183,20 +195,23 @@ size_t sedgepick_finish_mend(sedgepick_cover *lent, double limit, size_t most_no
     if (fault)
         return fault;
     patch *p = malloc(sizeof *p);
+    unsigned char *touched = calloc(lent->point_count + 1, 1);
+    int most = most_nodes < PATCH_NODES ? (int)most_nodes : PATCH_NODES;
     *done = 0;
-    if (!p)
+    if (!p || !touched)
         fault = FINISHING_NO_MEMORY;
     for (int round = 0; round < ROUNDS && !fault && before; round++) {
         size_t count = 0;
         uint32_t *cells = costly(&c, limit, &count);
         before = 0;
         for (size_t i = 0; cells && i < count; i++)
-            before += (size_t)mended(&c, p, cells + 4 * i, limit, most_nodes, tries);
+            before += (size_t)mended(&c, p, cells + 4 * i, limit, most, (int)tries, touched, round);
         *done += before;
         if (!cells)
             fault = FINISHING_NO_MEMORY;
         free(cells);
     }
+    free(touched);
     free(p);
     finishing_close(&c);
     return fault;

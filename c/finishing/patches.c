@@ -30,7 +30,11 @@ static void add_cell(patch *p, const cover *c, uint32_t cell) {
     const uint32_t *nodes = c->cells + 4 * (size_t)cell;
     p->cells[p->cell_count++] = cell;
     p->cost += finishing_cost(c, nodes, width_of(c, cell), p->limit);
-    p->triangles += width_of(c, cell) == 3;
+    if (width_of(c, cell) == 3) {
+        double sine = finishing_triangle_sine(c, nodes);
+        p->thinnest = sine < p->thinnest ? sine : p->thinnest;
+        p->triangles++;
+    }
     for (int i = 0; i < width_of(c, cell); i++)
         if (place_of(p, nodes[i]) < 0)
             p->nodes[p->node_count++] = nodes[i];
@@ -91,6 +95,7 @@ int finishing_patch(patch *p, const cover *c, uint32_t seed, int most_nodes, dou
     p->node_count = p->cell_count = p->triangles = 0;
     p->cost = 0;
     p->limit = limit;
+    p->thinnest = THIN_SINE;
     middle_of(c, seed, middle);
     for (uint32_t cell = seed; cell != NONE; cell = next_cell(p, c, middle, most_nodes))
         add_cell(p, c, cell);

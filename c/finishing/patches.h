@@ -24,6 +24,7 @@ typedef struct {
     double limit;             /* quads with a smaller scaled Jacobian are poor */
     double cost;              /* of the cells that are there */
     int triangles;            /* of the cells that are there */
+    double thinnest;          /* sine of the least angle that a triangle may have: that of 15 degrees, or of the thinnest that is there */
     uint8_t border[PATCH_SIDES][2];  /* directed sides that a cell of the patch has and none on the other side, and both of a locked edge */
     int border_count;
     signed char turn[PATCH_NODES][PATCH_NODES][PATCH_NODES];
@@ -46,6 +47,7 @@ static inline int has_pair(const uint64_t *pairs, int pair) { return pairs[pair 
 int finishing_patch(patch *p, const cover *c, uint32_t seed, int most_nodes, double limit);
 /* choices.c */
 int finishing_choices(patch *p, const cover *c);
+#define THIN_SINE 0.2589      /* of 15 degrees, rounded up */
 double finishing_cost(const cover *c, const uint32_t *nodes, int width, double limit);
 /* mending.c */
 int finishing_mend(cover *c, patch *p, int tries);

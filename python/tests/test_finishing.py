@@ -415,6 +415,16 @@ class Mending(Step):
             fewer.append(before - after)
         self.assertGreaterEqual((len(fewer), sum(fewer)), (20, 3))
 
+    def test_no_thin_triangle_is_made(self):
+        """Also where many triangles are left, of which a thin one would close others."""
+        for seed in range(8):
+            points, triangles = irregular(14, seed)
+            cover = finishing.pair(finishing.swap(finishing.cover_of(points, triangles))[0], 0.8)[0]
+            least = lambda c: quality.least_angles(numpy.array(points), c.triangles()).min()
+            after, done = finishing.mend(cover, 0.8)
+            self.assertGreater(done, 0)
+            self.assertGreaterEqual(least(after), min(15, least(cover)) - 1e-9)
+
     def test_a_wall_in_the_patch(self):
         """A locked edge that ends inside stays, and patches on both sides of it are mended."""
         for seed in range(6):

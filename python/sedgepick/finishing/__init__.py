@@ -97,16 +97,17 @@ def finish(points, triangles, quads, locked=(), *, quality=None, thin=THIN, even
     step('taken back', take_back, thin)
     for limit in sorted({max(stage, least) for stage in (*STAGES, least)}, reverse=True):
         step('paired at %g' % limit, pair, limit)
-        step('walked at %g' % limit, walk, limit, REACHES, POOR, MOST_POOR[0])
+        step('walked at %g' % limit, walk, limit, REACHES[:-1], POOR, MOST_POOR[0])
     for limit in BETTER:
         if limit > least:
             step('improved to %g' % limit, improve, limit)
+    step('mended', mend, least)
     for most_poor in MOST_POOR:
         if most_poor <= MOST_POOR[0] or 100 * (cover.cells[:, 3] == NONE).sum() > len(cover.cells):
-            step('mended', mend, least)
             step('wandered', wander, least)
-            step('walked on', walk, least, REACHES, POOR, most_poor)
-    step('mended', mend, least)
+            step('walked on', walk, least, (REACHES[0], REACHES[-1]), POOR, most_poor)
+            if steps[-2].done + steps[-1].done:
+                step('mended', mend, least)
     if even:
         step('evened', even_groups, thin)
     is_quad = cover.cells[:, 3] != NONE

@@ -2,7 +2,7 @@
 import ctypes
 from .native import call
 
-REACHES = 40, 400, 4000, 40000  # states that a walk looks at, one round after the other
+REACHES = 40, 400, 4000, 12000  # states that a walk looks at, one round after the other
 
 
 def walk(cover, least_jacobian, reaches=REACHES, poor=0.0, most_poor=0):
