@@ -143,7 +143,7 @@ last-dropped x [] h = refl
 last-dropped x (y ∷ l) h = rw (h .0) (ap (λ (t : List Trial). y ∷ t) (last-dropped x l (h .1)))
 
 module _ (s : List Float) (v : List ℕ) (count pairs : ℕ) (sj : Float) (f : Falling (listed s v count)) (o : Outdone s count pairs sj) where
-  dropped : (x : Trial) → (x .score ≺ getD s (count - 1) nan) ≡ true → Keeps s v pairs count (take pairs (insert trial-before x (listed s v count)))
+  pub dropped : (x : Trial) → (x .score ≺ getD s (count - 1) nan) ≡ true → Keeps s v pairs count (take pairs (insert trial-before x (listed s v count)))
   unfolding row
   dropped x h =
       let l = listed s v count in

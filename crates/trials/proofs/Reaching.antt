@@ -18,10 +18,10 @@ use Rattle.laws.specs.Bools.{fails, never, to-T, which}
 use Rattle.laws.specs.Sorts.{insert-no, insert-yes}
 use Rattle.rounding.specs.Keys.{le-not-lt, lt-le, lt-le-trans, le-lt-trans, lt-not-le}
 use Rattle.rounding.specs.Order.{real-right}
-use Rattle.trials.specs.Kept.{Falling, Keeps, NoBetter, Number, length-listed, listed, listed-at, onto, row}
+use Rattle.trials.specs.Kept.{Falling, Keeps, NoBetter, Number, Outdone, length-listed, listed, listed-at, onto, row}
 use Rattle.trials.specs.Floors.{Fair, KeepsAbove, reaches, reaching}
-use Rattle.trials.proofs.Falling.{all-get, all-numbers, falling-onto, falling-take, not-below}
-use Rattle.trials.proofs.Insertion.{one-more}
+use Rattle.trials.proofs.Falling.{all-get, all-numbers, dropped, falling-onto, falling-take, not-below}
+use Rattle.trials.proofs.Insertion.{insert-take, one-more}
 use Rattle.trials.proofs.Rounds.{cons-map}
 
 module _ (z : Float) where
@@ -352,3 +352,19 @@ module _ (z : Float) (f : ℕ → List Trial) (xs : List ℕ) (pairs n : ℕ) wh
   above-all s v k zero m r g h =
       let so-far = g .so-far in
       record { few = so-far .few; list = best-reach z pairs k (listed s v k) (flat-map f xs) (all-numbers f xs m) (length-listed s v k) (so-far .few) r (so-far .list) }
+
+-- ---- trials below the last score kept
+
+module _ (s : List Float) (v : List ℕ) (count pairs : ℕ) (x : Float) (f : Falling (listed s v count)) (o : Outdone s count pairs x) where
+  pub all-outdone : (xs : List Trial) → All (λ t. (t .score ≺ getD s (count - 1) nan) ≡ true) xs → Keeps s v pairs count (take pairs (onto trial-before xs (listed s v count)))
+  unfolding onto
+  all-outdone [] h = record { few = omega (arith, o .full); list = sym (take-all pairs (listed s v count) (omega (arith, length-listed s v count, o .full))) }
+  all-outdone (t ∷ xs) h =
+      let l = listed s v count in
+      record {
+        few = omega (arith, o .full);
+        list =
+            dropped s v count pairs x f o t (h .0) .list
+            ∙ ap (λ (k : List Trial). take pairs (insert trial-before t k)) (all-outdone xs (h .1) .list)
+            ∙ insert-take trial-before pairs t (onto trial-before xs l);
+      }

@@ -208,7 +208,7 @@ fn floor_of(
     scores[k - 1]
 }
 
-// With the pairs of c, but where its corner is below the floor: then no score of theirs reaches it.
+// With the pairs of c, but where its corner is below the floor, or below the last score kept where no more are wanted: then so is each of their scores.
 fn with_reaching(
     scores: &mut [f64; ROOM],
     nodes: &mut [usize; NODES],
@@ -229,8 +229,14 @@ fn with_reaching(
     requires { ⌜ NeutralBelow floor (now w) (now q) «far_at» fars a b ⌝ }
     ensures { λ k. ⌜ KeepsAbove floor (now (scores .exit)) (now (nodes .exit)) (y .pairs) k (take (y .pairs) (onto trial-before (reaching floor (flat-map (trial-at (quality-of y) (now (q .entry)) a b c) (part (now (w .entry)) «far_at» fars))) (reaching floor (listed (now (scores .entry)) (now (nodes .entry)) count)))) ⌝ }
 {
-    if corner_at(q, a, b, c) < floor {
+    let x = corner_at(q, a, b, c);
+    if x < floor {
         return count;
+    }
+    if -1.0 / 0.0 < floor {
+        if outdone(scores, count, y.pairs, x) {
+            return count;
+        }
     }
     let ca = length(q, c, a);
     let h = Half { a, b, c, ab, ca };
