@@ -1,5 +1,5 @@
 """Tests of the package's own reader of .msh and writers of .msh and .vtu: the same as meshio's where meshio is there, and strict."""
-import glob, os, random, shutil, subprocess, sys, tempfile, unittest
+import glob, json, os, random, shutil, subprocess, sys, tempfile, unittest
 from case import Case, meshio, set_up
 from common import FILES, PACKAGES, ROOT
 
@@ -9,7 +9,19 @@ if meshio:
     from sedgepick.surfaces import Fault
 
 GIVEN = sorted(glob.glob(os.path.join(ROOT, 'examples', '**', '*.msh'), recursive=True))
-WITHOUT = 'import sys; sys.modules["meshio"] = None; sys.path.insert(0, %r); sys.dont_write_bytecode = True; from sedgepick.command import main; sys.exit(main(%r))'
+RUNS = """import contextlib, io, json, sys
+sys.path.insert(0, %r)
+%s
+from sedgepick.command import main
+rows = []
+for words in %r:
+    said = io.StringIO()
+    with contextlib.redirect_stderr(said):
+        status = main(words)
+    rows.append((status, said.getvalue()))
+print(json.dumps(rows))
+"""
+HIDDEN = 'sys.modules["meshio"] = None'
 # a square whose surface is in two groups; number 1 is a group of curves and another of surfaces
 SQUARE = b'''$MeshFormat
 4.1 0 8
@@ -208,27 +220,29 @@ class Writers(unittest.TestCase):
 
 
 class WithoutMeshio(Case):
-    def run_without(self, *words):
-        return subprocess.run([sys.executable, '-c', WITHOUT % (PACKAGES, list(words))], capture_output=True, text=True)
+    def run_all(self, before, *runs):
+        """(exit status, words on standard error) of the command for each list of words, all in one process."""
+        ran = subprocess.run([sys.executable, '-B', '-c', RUNS % (PACKAGES, before, [[*words, '-q'] for words in runs])], capture_output=True, text=True)
+        self.assertEqual(ran.returncode, 0, ran.stderr)
+        return json.loads(ran.stdout)
 
     def bytes_of(self, name):
         with open(self.path(name), 'rb') as file:
             return file.read()
 
     def test_same_mesh(self):
-        for path in GIVEN:
-            with self.subTest(os.path.basename(path)):
-                ran = self.run_without(path, '-o', self.path('own.msh'))
-                usual = self.run_command(path, '-o', self.out)
-                self.assertEqual((ran.returncode, ran.stderr), (usual.returncode, usual.stderr))
-                if usual.returncode in (0, 3):
-                    self.assertEqual(self.bytes_of('own.msh'), self.bytes_of('out.msh'))
-        self.assertEqual(len([path for path in GIVEN if 'only' in path or 'second' in path]), 2)  # which are refused
+        words = lambda kind: [(path, '-o', self.path('%s-%d.msh' % (kind, i))) for i, path in enumerate(GIVEN)]
+        own, usual = self.run_all(HIDDEN, *words('own')), self.run_all('import meshio', *words('usual'))
+        self.assertEqual(own, usual)
+        self.assertEqual(sorted(os.path.basename(path) for path, (status, _) in zip(GIVEN, own) if status), ['lines-only.msh', 'second-order.msh'])
+        for i, (status, _) in enumerate(own):
+            if not status:
+                self.assertEqual(self.bytes_of('own-%d.msh' % i), self.bytes_of('usual-%d.msh' % i))
 
     def test_vtu_and_report(self):
         given = os.path.join(FILES, 'columns.msh')
-        ran = self.run_without(given, '-o', self.path('own.vtu'), '--report', self.path('report.html'))
-        self.assertEqual(ran.returncode, 0, ran.stderr)
+        ((status, said),) = self.run_all(HIDDEN, (given, '-o', self.path('own.vtu'), '--report', self.path('report.html')))
+        self.assertEqual(status, 0, said)
         self.good(given, '-o', self.path('out.vtu'))
         own, usual = (self.mesh(self.path(name), 'vtu') for name in ('own.vtu', 'out.vtu'))
         self.assertEqual((own[0].points.tolist(), own[1:]), (usual[0].points.tolist(), usual[1:]))
@@ -236,10 +250,10 @@ class WithoutMeshio(Case):
 
     def test_what_needs_it(self):
         given = os.path.join(FILES, 'columns.msh')
-        for words in ((given, '-o', self.path('out.inp')), (given, '-o', self.path('out.vtk')), (os.path.join(FILES, 'l-slab.inp'), '-o', self.out), (os.path.join(FILES, 'l-slab-meshio.vtu'), '-o', self.out)):
-            ran = self.run_without(*words)
-            self.assertEqual(ran.returncode, 1, ran.stderr)
-            self.assertRegex(ran.stderr, '(abaqus|vtk42|vtu) files need meshio, which is not installed .Debian: apt install python3-meshio')
+        for status, said in self.run_all(HIDDEN, (given, '-o', self.path('out.inp')), (given, '-o', self.path('out.vtk')), (os.path.join(FILES, 'l-slab.inp'), '-o', self.out),
+                                         (os.path.join(FILES, 'l-slab-meshio.vtu'), '-o', self.out)):
+            self.assertEqual(status, 1, said)
+            self.assertRegex(said, '(abaqus|vtk42|vtu) files need meshio, which is not installed .Debian: apt install python3-meshio')
 
 
 if __name__ == '__main__':

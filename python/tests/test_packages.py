@@ -97,13 +97,16 @@ class Wheel(Folder):
         with self.assertRaisesRegex(Exception, 'takes functions of libtwo.so'):
             backend().tag(out)
 
-    @unittest.skipUnless(importlib.util.find_spec('pip') and importlib.util.find_spec('ensurepip'), 'pip or venv is not installed')
+    @unittest.skipUnless(importlib.util.find_spec('pip'), 'pip is not installed')
     def test_pip(self):
         """In a venv: installed, used, taken away; then a link to the checkout."""
         venv = os.path.join(self.folder, 'venv')
-        self.good(sys.executable, '-m', 'venv', '--system-site-packages', venv, env=clean())
-        python, before = os.path.join(venv, 'bin', 'python3'), self.listed(venv)
-        pip = [python, '-m', 'pip', '--quiet', '--disable-pip-version-check', '--no-cache-dir']
+        self.good(sys.executable, '-m', 'venv', '--system-site-packages', '--without-pip', venv, env=clean())
+        python = os.path.join(venv, 'bin', 'python3')
+        with open(os.path.join(venv, 'lib', 'python%d.%d' % sys.version_info[:2], 'site-packages', 'mine.py'), 'w'):  # pip takes away a folder that is empty
+            pass
+        before = self.listed(venv)
+        pip = [sys.executable, '-m', 'pip', '--python', python, '--quiet', '--disable-pip-version-check', '--no-cache-dir']
         self.good(*pip, 'install', '--no-index', ROOT, env=clean(), cwd=self.folder)
         place, quads, version = self.good(python, '-c', SQUARE, env=clean(), cwd=self.folder).split()
         self.assertTrue(place.startswith(venv), place)
@@ -141,7 +144,6 @@ class Prefix(Folder):
         ran = run(os.path.join(ROOT, 'tools', 'install'), '--remove', prefix)
         self.assertEqual((ran.returncode, 'nothing is installed below' in ran.stderr), (1, True))
 
-    @unittest.skipUnless(importlib.util.find_spec('ensurepip'), 'venv is not installed')
     def test_where_python_looks(self):
         """A venv as the prefix: its Python finds the package; so does the user's folder."""
         venv = os.path.join(self.folder, 'venv')
