@@ -9,8 +9,8 @@
  * call that lends the memory itself.
  *
  * Floating point: the definition is IEEE 754 to nearest, with subnormal numbers. In libsedgepick every function sets MXCSR to its default and puts back what the caller had,
- * whatever rounding mode, FTZ, DAZ or trap that is. Who links the bare archive owes the default himself: MXCSR is 0x1F80 but for its flags, as after a program's start.
- * Under another mode nothing of what is said here is promised of the bare functions.
+ * whatever rounding mode, FTZ, DAZ or trap that is. A program that links the bare archive must keep the default itself: MXCSR is 0x1F80 apart from its flags, as at program start.
+ * Under another mode the bare functions promise nothing of what is said here.
  *
  * Stack: a call takes at most 20 KB of stack, whatever it is given: no function calls itself, and the frames along the deepest path are 14 KB (read off the machine code by the
  * tests, which also measure 15 KB with the layer around it).
@@ -60,7 +60,7 @@ enum sedgepick_quad {
 
 /* Lengths of the slices, for so many slots and points of capacity. Lend what the mesh needs: both work slices are cleared whole when a call ends, so that with all
  * that the limits allow the smallest mesh takes about a tenth of a millisecond. A run uses one slot for each given triangle, two for each added point and one for each
- * quad, and all others of its steps take time by the slots used. */
+ * quad, and its other steps take time in proportion to the slots used. */
 #define SEDGEPICK_POINTS(capacity) (3 * (size_t)(capacity))
 #define SEDGEPICK_JOINTS(joint_count) (2 * (size_t)(joint_count))
 #define SEDGEPICK_QUADS(slots) (SEDGEPICK_QUAD_WORDS * (size_t)(slots))
@@ -157,7 +157,7 @@ enum sedgepick_answer {
 /* Meshes the given triangles over the given points.
  *
  * Each slice is a pointer, aligned for its numbers and not null (also where the length is 0), and how many numbers may be read and written there. No two
- * slices share memory, and nothing else uses them during the call. This is all that a caller owes: every other number is safe and, where it does not fit,
+ * slices share memory, and nothing else uses them during the call. These are the only preconditions: every other number is safe and, where it does not fit,
  * refused. Slices may be longer than the call needs, and what they hold beforehand does not matter, but for the given points and triangles.
  *
  * points         3 numbers a point of capacity: x, y, z of the given points first. Given points stay as they are; added ones come behind them, with z 0.
@@ -210,7 +210,7 @@ enum sedgepick_entry {
 #define SEDGEPICK_FLIP_WORDS 3
 #define SEDGEPICK_PLACED_WORDS 9
 
-/* The same with joints, a quality set, the grid profile and a trace. Without joints, the profile and a trace and with the standard set it is sedgepick_run_front.
+/* Meshes like sedgepick_run_front, with joints, a quality set, the grid profile and a trace. Without joints, profile and trace, and with the standard set, it is sedgepick_run_front.
  *
  * trace        any number of words; the length 0 is none, and then nothing is written. An entry for each insertion, flip and quad comes to its front (enum sedgepick_entry), in
  *              the order in which they were made, those of attempts that were refused too; the answer has the words used. Where one entry more does not fit, the

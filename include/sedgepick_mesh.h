@@ -28,7 +28,7 @@ typedef struct sedgepick_mesh {
     size_t answer[SEDGEPICK_ANSWER];
 } sedgepick_mesh;
 
-/* What a run goes by beside its mesh. Take sedgepick_standard_options and change what is to be otherwise. */
+/* The parameters of a run beside its mesh. Take sedgepick_standard_options and change what should differ. */
 typedef struct sedgepick_options {
     double size;
     uint32_t stop;
@@ -57,11 +57,11 @@ static inline sedgepick_options sedgepick_standard_options(double size, uint32_t
 size_t sedgepick_mesh_run_with(
     const double *points, size_t given, const uint32_t *triangles, size_t count, const sedgepick_options *options, sedgepick_mesh *mesh);
 
-/* The same with the standard set, no joints and no profile. */
+/* Meshes like sedgepick_mesh_run_with, with the standard set, no joints and no profile. */
 size_t sedgepick_mesh_run(
     const double *points, size_t given, const uint32_t *triangles, size_t count, double size, uint32_t stop, sedgepick_mesh *mesh);
 
-/* The same with so many points of capacity and slots at first; what is below the mesh's own numbers, or above the limits, is brought to them. */
+/* Meshes like sedgepick_mesh_run, lending so many points of capacity and slots at first; what is below the mesh's own numbers, or above the limits, is brought to them. */
 size_t sedgepick_mesh_run_from(
     const double *points, size_t given, const uint32_t *triangles, size_t count, double size, uint32_t stop,
     size_t capacity, size_t slots, sedgepick_mesh *mesh);

@@ -660,6 +660,8 @@ class Docs(unittest.TestCase):
         right = '%d<!--crates--> in `account/specs/Demand.antt`, `crates/account/specs/Demand.antt`' % self.tree.counts()['crates']
         self.assertEqual(DOCS.put_right(self.tree, '7<!--crates--> in `exact/specs/Demand.antt`, `crates/exact/specs/Demand.antt`'), right)
         self.assertEqual(DOCS.put_right(self.tree, right), right)
+        self.assertEqual(DOCS.put_right(self.tree, '`exact/another_standard` `exact/half_steps`'), '`rules/another_standard` `exact/half_steps`')
+        self.assertEqual(DOCS.put_right(self.tree, '`exact/high_word_first`, `traces/high_word_first`').count('traces/'), 1)
 
     def test_words(self):
         for words in ('document 01', 'Papers 2 and 8', 'Demand 3'):
