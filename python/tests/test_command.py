@@ -3,7 +3,7 @@ import glob, os, re, shutil, subprocess, sys, unittest
 import xml.etree.ElementTree as xml
 from importlib.util import find_spec
 from case import COMMAND, Case, meshio, set_up
-from common import FILES, ROOT, grid
+from common import FILES, PACKAGES, ROOT, grid
 
 if meshio:
     import numpy
@@ -377,6 +377,29 @@ class Bad(Case):
                              env=dict(os.environ, SEDGEPICK_LIBRARY='/nowhere/lib.so'))
         self.assertEqual(ran.returncode, 1)
         self.assertIn('/nowhere/lib.so', ran.stderr)
+
+
+class Imports(Case):
+    """What is not asked for is not imported."""
+
+    def loaded(self, *words, before=''):
+        """Of some modules those that a call of the command imports, and what it says."""
+        code = ('import sys; sys.path.insert(0, %r); %s\nfrom sedgepick import command\ntry:\n    status = command.main(sys.argv[1:])\nexcept SystemExit as end:\n    status = end.code\n'
+                'print([name for name in ("meshio", "distributed", "sedgepick.finishing") if sys.modules.get(name)], status)' % (PACKAGES, before))
+        ran = subprocess.run([sys.executable, '-B', '-c', code, *words], capture_output=True, text=True)
+        return ran.stdout.splitlines()[-1], ran.stderr
+
+    def test_help(self):
+        self.assertEqual(self.loaded('--help')[0], '[] 0')
+
+    def test_a_run(self):
+        self.assertEqual(self.loaded(os.path.join(FILES, 'l-slab-41.msh'), '-o', self.out)[0], "['meshio', 'sedgepick.finishing'] 0")
+
+    def test_no_dask(self):
+        found, said = self.loaded(os.path.join(FILES, 'l-slab-41.msh'), '-o', self.out, '--cluster', 'tcp://127.0.0.1:9', before='sys.modules["distributed"] = None')
+        self.assertTrue(found.endswith(' 1'), found)
+        self.assertIn('--cluster needs the Python module distributed: install it', said)
+        self.assertFalse(os.path.exists(self.out))
 
 
 class Fits(unittest.TestCase):
