@@ -3,7 +3,7 @@ import os
 from dataclasses import dataclass
 from html import escape
 import meshio, numpy
-from . import closing, library, losses, picture, quality, sheets, slits
+from . import closing, library, losses, picture, planes, quality, sheets, slits
 from .front import Quality
 from .previews import KINDS
 from .surfaces import visible
@@ -163,7 +163,7 @@ def library_rows():
 
 
 def given_words(surface):
-    return '%d triangles, %d nodes' % (len(surface.triangles.cells), len(numpy.unique(surface.triangles.cells)))
+    return '%d triangles, %d nodes' % (len(surface.triangles.cells), planes.given_count(surface))
 
 
 def size_words(options, taken):

@@ -97,7 +97,7 @@ def judge(work, path, nodes):
     if not verdict.verdict.accepted:
         raise Fault('not accepted: %s. Nothing is written' % verdict.first())
     as_written = [('nodes', '%d of %d rounded by the format, and judged as it has them' % (rounded, len(nodes)))] if rounded else []
-    work.verdict = verdict.rows() + as_written + [('least angle asked of triangles', '%g degrees' % options.thin if options.thin else 'none')]
+    work.verdict = verdict.rows() + planes.rows(surface) + as_written + [('least angle asked of triangles', '%g degrees' % options.thin if options.thin else 'none')]
 
 
 def joints_of(surface):
