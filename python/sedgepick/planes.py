@@ -257,6 +257,22 @@ def read_back(surface, points, number, found):
     return points
 
 
+def rows(surface):
+    """[(name, words)] for the report: what the verdict is on."""
+    kept = [('quads of the file', '%d, kept as they are and not judged' % len(surface.quads.cells))] if surface.quads else []
+    if surface.place is None:
+        return kept
+    exact = len(surface.place.frames) == 1 and abs(surface.place.frames[0].along).max() == abs(surface.place.frames[0].across).max() == 1
+    return [('judged', 'in the plane, by two of the coordinates as they are' if exact else
+             'in %s, turned into the xy-plane, which rounds coordinates; given nodes are written as they stand in the file' % ('the plane' if len(surface.place.frames) == 1 else 'the planes')), *kept]
+
+
+def given_count(surface):
+    """How many nodes of the file the triangles have."""
+    cells = surface.triangles.cells
+    return len(numpy.unique(surface.place.node[cells] if surface.place else cells))
+
+
 def cells_back(number, nodes, cells, own):
     """Cells of a file by the sheet's numbers: where they are those that were written, these; otherwise by the nodes that were written."""
     return own if numpy.array_equal(cells, number[own]) else nodes[cells]

@@ -4,7 +4,7 @@ from dataclasses import dataclass
 from datetime import datetime
 from html import escape
 import numpy
-from . import closing, library, losses, meshing, picture, quality, sheets, slits
+from . import closing, library, losses, meshing, picture, planes, quality, sheets, slits
 from .front import Quality
 from .msh import meshio
 from .page_style import bodied
@@ -159,7 +159,7 @@ def library_rows():
 
 
 def given_words(surface):
-    return '%d triangles, %d nodes' % (len(surface.triangles.cells), len(numpy.unique(surface.triangles.cells)))
+    return '%d triangles, %d nodes' % (len(surface.triangles.cells), planes.given_count(surface))
 
 
 def size_words(options, taken):

@@ -106,6 +106,16 @@ class Planes(Base):
         self.assertIn('rounds', self.good(path, '-o', self.path('a.bdf')).stderr)
         self.good(path, '-o', self.path('a.inp'))
 
+    def test_the_report_says_what_is_judged(self):
+        flat, triangles = grid(5, 5, 0.5)
+        for points, words in ((waved(flat), None), (waved(flat)[:, [0, 2, 1]], 'in the plane, by two of the coordinates as they are'),
+                              (turned(waved(flat), 0.7), 'in the plane, turned into the xy-plane, which rounds coordinates')):
+            self.ran(points, triangles, '--report', self.path('report.txt'))
+            with open(self.path('report.txt')) as file:
+                row = [line for line in file if line.startswith('  judged ')]
+            self.assertEqual(len(row), int(words is not None))
+            self.assertIn(words or '', ''.join(row))
+
     def test_curved(self):
         flat, triangles = grid(8, 8, 0.25)
         bent = [(x, y, 0.2 * x * x + 0.1 * x * y * y) for x, y, _ in flat]
@@ -170,7 +180,9 @@ class Several(Base):
 
     def test_room(self):
         points, cells = self.room()
-        found, quads, left = self.ran(points, cells)
+        found, quads, left = self.ran(points, cells, '--report', self.path('report.txt'))
+        with open(self.path('report.txt')) as file:
+            self.assertRegex(file.read(), r'given +120 triangles, %d nodes(.|\n)*judged +in the planes, turned' % len(points))
         self.assertEqual(self.places(found), self.places(points))
         self.assertEqual((len(found), len(quads), len(left)), (len(points), 36 + 12 + 12, 0))
         self.assertAlmostEqual(area(found, quads), area(points, cells), delta=1e-12)
