@@ -825,6 +825,17 @@ class Written(unittest.TestCase):
             self.assertEqual(box(), whole)
             self.assertEqual([entry['message'] for entry in self.browser.get_log('browser') if entry['level'] == 'SEVERE'], [])
 
+    def test_insets(self):
+        """Each cell that is marked is shown from near, in the middle of its inset."""
+        self.show('report.html')
+        marks = self.js('[...document.querySelectorAll(".zoomed svg text")].map(e => e.textContent).filter(words => /^[qt][0-9]+$/.test(words))')
+        self.assertTrue(marks)
+        self.assertEqual(self.js('[...document.querySelectorAll(".insets figcaption")].map(e => e.textContent)'), marks)
+        middles = self.js("""[...document.querySelectorAll('.insets svg')].map(svg => { const box = svg.querySelector(':scope > path:last-of-type').getBBox(), whole = svg.viewBox.baseVal;
+            return [box.x + box.width / 2 - whole.width / 2, box.y + box.height / 2 - whole.height / 2, Math.max(box.width, box.height) / whole.width]; })""")
+        for x, y, share in middles:
+            self.assertTrue(abs(x) < 1 and abs(y) < 1 and 0.3 < share < 0.7, (x, y, share))
+
     def test_schemes_phone_and_date(self):
         for name in ('report.html', 'steps.html', 'front.html'):
             for width, scheme in ((1280, 'light'), (1280, 'dark'), (390, 'light')):
