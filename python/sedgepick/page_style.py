@@ -9,6 +9,7 @@ STYLE = """:root { --paper: #ffffff; --ink: #1a1a1a; --dim: #555555; --line: #dd
 body { font: 15px/1.45 'DejaVu Sans', Verdana, Arial, sans-serif; color: var(--ink); background: var(--paper); margin: 24px auto; max-width: 1240px; padding: 0 16px; }
 h1 { font-size: 22px; overflow-wrap: anywhere; } h2 { font-size: 16px; margin: 22px 0 6px; } svg { max-width: 100%; height: auto; } p { overflow-wrap: anywhere; } .date { color: var(--dim); margin: -8px 0 0; }
 svg.sheet text { fill: currentColor; }
+.insets { display: flex; flex-wrap: wrap; gap: 10px; margin-top: 10px; } figure { margin: 0; } figure svg { display: block; background: #ffffff; border-radius: 6px; border: 1px solid var(--line); } figcaption { font-size: 13px; color: var(--dim); }
 .lists { columns: 2; column-gap: 36px; } section { break-inside: avoid; } table { border-collapse: collapse; width: 100%; }
 td { border-top: 1px solid var(--line); padding: 3px 8px 3px 0; vertical-align: top; overflow-wrap: anywhere; } td:first-child { color: var(--dim); width: 34%; }
 .lists h2 { margin-top: 0; padding-top: 22px; }

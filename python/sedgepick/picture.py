@@ -2,6 +2,7 @@
 shown in rows, or columns, one after the other."""
 import math
 from dataclasses import dataclass, replace
+from types import SimpleNamespace
 import numpy
 from . import axes
 
@@ -13,6 +14,8 @@ INK, GREY, LOST, KEPT, OWN = '#1a1a1a', '#666666', '#9e0dd3', '#000000', '#7a3b0
 LONG = 6          # times as long as wide: a mesh beyond it is shown in pieces
 PLOT = 900        # the longer side of a piece
 TOP, GAP, RIGHT, BOTTOM, LEGEND = 16, 64, 24, 80, 240
+INSET = 132       # pixels of a picture of one marked cell
+NEAR = 1.1        # half of it, in sizes of the cell
 OFF = 9           # from a window to the labels of its y-axis
 
 
@@ -212,3 +215,38 @@ def draw(mesh, place=0):
     head = ('<svg xmlns="http://www.w3.org/2000/svg" viewBox="0 0 %.0f %.0f" width="%.0f" height="%.0f" font-size="13" '
             'font-family="DejaVu Sans, Verdana, Arial, sans-serif"><rect width="100%%" height="100%%" fill="#ffffff"/>' % (*size, *size))
     return '\n'.join([head, *lines, '</svg>']) + '\n'
+
+
+def insets(mesh):
+    """The marked cells from near, a small picture each with its label, for a page."""
+    kinds = [cells for cells in (mesh.quads, mesh.triangles) if len(cells)]
+    middles = [mesh.points[cells].mean(axis=1) for cells in kinds]
+    found = []
+    for label, p in mesh.marks if kinds else ():
+        apart = [((own - p) ** 2).sum(axis=1) for own in middles]
+        which = min(range(len(kinds)), key=lambda kind: apart[kind].min())
+        cell = kinds[which][apart[which].argmin()]
+        found.append('<figure>%s<figcaption>%s</figcaption></figure>' % (inset(mesh, cell, label), label))
+    return '<div class="insets">%s</div>\n' % ''.join(found) if found else ''
+
+
+def inset(mesh, cell, label):
+    """A cell, outlined, with those around it."""
+    corners = mesh.points[cell]
+    half, middle = max(float(numpy.ptp(corners, axis=0).max()), 1e-300) * NEAR, (corners.max(axis=0) + corners.min(axis=0)) / 2
+    piece, lines = Piece(tuple(middle - half), tuple(middle + half), (0, 0), INSET / (2 * half)), []
+    cells_of(around(mesh, piece), piece, lines)
+    kept_of(mesh, piece, lines)
+    path = outline(piece, mesh.points, cell[None])
+    lines.append('<path fill="none" stroke="#ffffff" stroke-width="5" stroke-linejoin="round" d="%s"/><path fill="none" stroke="%s" stroke-width="2.5" stroke-linejoin="round" d="%s"/>'
+                 % (path, INK, path))
+    return ('<svg class="sheet" viewBox="0 0 %d %d" width="%d" height="%d" role="img" aria-label="%s from near">%s</svg>' % (INSET, INSET, INSET, INSET, label, ''.join(lines)))
+
+
+def around(mesh, piece):
+    """The cells of a mesh that meet a window."""
+    def meets(cells):
+        corners = mesh.points[cells]
+        return ((corners.max(axis=1) >= piece.low) & (corners.min(axis=1) <= piece.high)).all(axis=1) if len(cells) else numpy.zeros(0, dtype=bool)
+    quads, left = meets(mesh.quads), meets(mesh.triangles)
+    return SimpleNamespace(points=mesh.points, quads=mesh.quads[quads], triangles=mesh.triangles[left], jacobians=numpy.asarray(mesh.jacobians)[quads], angles=numpy.asarray(mesh.angles)[left])

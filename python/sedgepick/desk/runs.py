@@ -3,7 +3,7 @@ desk that does. Started as `python3 -m sedgepick.desk.runs`; the task is a line 
 import json, os, resource, signal, sys, threading, time
 from datetime import datetime
 import numpy
-from .. import files, library, losses, mesh_files, meshing, options, parts, preview_edges, preview_page, quality, report, sheets, sizes, slits, steps_page, surfaces
+from .. import files, groups, library, losses, mesh_files, meshing, options, parts, preview_edges, preview_page, quality, report, sheets, sizes, slits, steps_page, surfaces
 from ..apart import lower
 from ..front import EVEN_COMPONENTS, MOST_GIVEN, Refused
 from ..previews import KINDS
@@ -150,6 +150,12 @@ def kept_of(surface):
     return slits.ends(edges), numpy.intersect1d(marked, cells)
 
 
+def file_quads(surface):
+    """The quads of the file, which stay as they are; their nodes in a row, counterclockwise."""
+    found = numpy.concatenate([numpy.zeros((0, 4), dtype=numpy.int64), *groups.kept(surface)])
+    return words32(numpy.where((quality.areas(surface.points, found) < 0)[:, None], found[:, ::-1], found))
+
+
 def groups_of(surface):
     """[[name, what, how many]] of the groups of the file."""
     kinds = (('triangles', surface.triangles), ('line edges', surface.lines), ('points', surface.vertices))
@@ -168,7 +174,7 @@ def read(task, told):
     facts = {'name': surface.name, 'sha256': surface.sha256, 'nodes': len(used), 'mean_edge': mean, 'least_angle': float(angles.min()),
              'low': used.min(axis=0).tolist(), 'high': used.max(axis=0).tolist(), 'groups': groups_of(surface), 'notes': surface.notes, 'clockwise': bool(surface.clockwise)}
     write(task, facts, {'points': surface.points[:, :2].astype('<f8'), 'triangles': words32(cells), 'angles': angles.astype('<f4'), 'front': words32(slits.ends(keys[owners == 1])),
-                        'kept': words32(pairs), 'kept_nodes': words32(nodes)})
+                        'kept': words32(pairs), 'kept_nodes': words32(nodes), 'file_quads': file_quads(surface)})
     return {}
 
 
@@ -286,7 +292,7 @@ def drawn_facts(work, rounds):
              'size': report.size_words(work.options, result.sizes), 'options': work.options.words}
     return facts, {'points': points[:, :2].astype('<f8'), 'quads_of': words32(result.quads), 'left_of': words32(result.triangles), 'jacobians': jacobians.astype('<f4'),
                    'quad_angles': least.astype('<f4'), 'angles': angles.astype('<f4'), 'rounds_of': words32(own), 'number': words32(work.number + 1),
-                   'kept': words32(pairs), 'kept_nodes': words32(nodes)}
+                   'kept': words32(pairs), 'kept_nodes': words32(nodes), 'file_quads': file_quads(surface)}
 
 
 def steps_of(work):

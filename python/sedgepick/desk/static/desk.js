@@ -119,12 +119,14 @@ function roundColours(count) {
   });
 }
 
+const OWN = '#f2f2f2';
+const fileQuads = found => found.file_quads.length ? [{nodes: found.file_quads, width: 4, palette: [OWN]}] : [];  // of the file, which stay as they are
 const keptLines = found => [{pairs: found.kept, colour: 'kept', width: 3, halo: true}];
 const keptDots = found => [{nodes: found.kept_nodes, colour: 'kept', radius: 4.5}];
 
 function givenPicture() {
   const {given, about} = state, classes = classesOf(about.triangles, given.angles);
-  const picture = new Picture({points: given.points, groups: [{nodes: given.triangles, width: 3, classes, palette: fills(about.triangles)}],
+  const picture = new Picture({points: given.points, groups: [{nodes: given.triangles, width: 3, classes, palette: fills(about.triangles)}, ...fileQuads(given)],
     lines: [{pairs: given.front, colour: 'edge', width: 1.6}, ...keptLines(given)], dots: keptDots(given)});
   picture.legend = [['Triangles by least angle', angleRows(classes)], ...keptLegend(given)];
   return picture;
@@ -147,7 +149,8 @@ function countsOf(classes, count) {
 }
 
 function keptLegend(found) {
-  return found.kept.length || found.kept_nodes.length ? [['', [['kept', 'line, border, point of the file', '']]]] : [];
+  const rows = [...(found.kept.length || found.kept_nodes.length ? [['kept', 'line, border, point of the file', '']] : []), ...(found.file_quads.length ? [[OWN, 'quad of the file', found.file_quads.length / 4]] : [])];
+  return rows.length ? [['', rows]] : [];
 }
 
 function quadsPicture() {
@@ -166,7 +169,7 @@ function quadsPicture() {
     rows = jacobianRows(classes);
     title = 'Quads by scaled Jacobian';
   }
-  const picture = new Picture({points: done.points, groups: [{nodes: done.quads_of, width: 4, classes, palette}, {nodes: done.left_of, width: 3, classes: left, palette: fills(about.triangles)}],
+  const picture = new Picture({points: done.points, groups: [{nodes: done.quads_of, width: 4, classes, palette}, {nodes: done.left_of, width: 3, classes: left, palette: fills(about.triangles)}, ...fileQuads(done)],
     lines: keptLines(done), dots: keptDots(done)});
   picture.legend = [[title, rows], ...(done.left ? [['Triangles by least angle', angleRows(left)]] : []), ...keptLegend(done)];
   return picture;
@@ -174,7 +177,7 @@ function quadsPicture() {
 
 function frontPicture() {
   const {given, front, about} = state;
-  const picture = new Picture({points: given.points, groups: [{nodes: given.triangles, width: 3, palette: [blank()]}], lines: keptLines(given), dots: keptDots(given)});
+  const picture = new Picture({points: given.points, groups: [{nodes: given.triangles, width: 3, palette: [blank()]}, ...fileQuads(given)], lines: keptLines(given), dots: keptDots(given)});
   if (!front) {
     picture.legend = [];
     return picture;
@@ -279,9 +282,9 @@ function overFront(context) {
     context.strokeStyle = view.style.line;
     context.lineWidth = 0.8;
     context.stroke();
-    if (kind) {  // dashed, so that it can be told without its colour
+    if (kind) {  // dashed, another way for each kind, so that it can be told without its colour
       trace(context, [[p[0], p[1]], [p[2], p[3]]]);
-      context.setLineDash([5, 4]);
+      context.setLineDash(about.refused[front.kinds[kind - 1]][2]);
       context.strokeStyle = view.style.ink;
       context.lineWidth = 2.5;
       context.stroke();
@@ -409,10 +412,10 @@ function describe(cell) {
   own.rows.push(['area', number(area(places), 5)]);
   own.title = (quad ? 'Quad ' : 'Triangle ');
   if (state.view === 'quads') {
-    const {done} = state, place = quad ? cell : cell - done.quads;
-    own.title += place + 1;
-    if (quad) own.rows.push(['made by', done.rounds_of[place] ? 'the front, round ' + done.rounds_of[place] : 'the finishing pass']);
-  } else own.title += state.view === 'given' ? cell + 1 : '';
+    const {done} = state, ours = cell < done.quads + done.left, place = !ours ? cell - done.quads - done.left : quad ? cell : cell - done.quads;
+    own.title += ours ? place + 1 : 'of the file';
+    if (quad && ours) own.rows.push(['made by', done.rounds_of[place] ? 'the front, round ' + done.rounds_of[place] : 'the finishing pass']);
+  } else own.title += quad ? 'of the file' : state.view === 'given' ? cell + 1 : '';
   own.words = own.title + ': ' + own.rows.slice(0, quad ? 3 : 2).map(([name, words]) => name + ' ' + words).join('; ');
   return own;
 }
