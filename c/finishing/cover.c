@@ -3,6 +3,9 @@
 #include "finishing.h"
 #include <stdlib.h>
 #include <string.h>
+#include <xmmintrin.h>
+
+#define DEFAULT_MXCSR 0x1F80u /* to nearest, subnormal numbers kept, every exception masked, no flag set: as in sedgepick_guard.c */
 
 static uint64_t key_of(uint32_t a, uint32_t b) {
     return a < b ? (uint64_t)a << 32 | b : (uint64_t)b << 32 | a;
@@ -115,7 +118,8 @@ static size_t link_all(cover *c) {
     return FINISHING_DONE;
 }
 
-/* Links the half edges of the lent cells. On anything but FINISHING_DONE nothing is held. */
+/* Links the half edges of the lent cells, and sets the floating point to its default until finishing_close: a caller may have set another rounding mode, FTZ, DAZ or
+ * traps. On anything but FINISHING_DONE nothing is held, and nothing is set. */
 size_t finishing_open(cover *c, sedgepick_cover *lent) {
     size_t slots = lent->capacity ? lent->capacity : 1, points = lent->point_count ? lent->point_count : 1;
     memset(c, 0, sizeof *c);
@@ -141,12 +145,16 @@ size_t finishing_open(cover *c, sedgepick_cover *lent) {
     }
     lock(c);
     size_t fault = link_all(c);
-    if (fault)
+    if (fault) {
         finishing_free(c);
-    return fault;
+        return fault;
+    }
+    c->callers = _mm_getcsr();
+    _mm_setcsr(DEFAULT_MXCSR);
+    return FINISHING_DONE;
 }
 
-/* Moves the cells to the front in the order of their slots, and gives the memory back. */
+/* Moves the cells to the front in the order of their slots, gives the memory back and puts the caller's floating point back. */
 void finishing_close(cover *c) {
     size_t count = 0;
     for (uint32_t cell = 0; cell < c->lent->capacity; cell++)
@@ -156,6 +164,7 @@ void finishing_close(cover *c) {
         }
     c->lent->count = count;
     finishing_free(c);
+    _mm_setcsr(c->callers);
 }
 
 void finishing_free(cover *c) {

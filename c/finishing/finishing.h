@@ -40,6 +40,7 @@ typedef struct {
     uint64_t *locked;         /* sorted */
     size_t locked_count;
     unsigned char *at_lock;   /* of each node, whether it is the end of a locked edge */
+    unsigned callers;         /* the floating point that the caller has, MXCSR with its flags */
 } cover;
 
 /* cover.c */
@@ -77,8 +78,9 @@ void finishing_flip_back(cover *c, uint32_t a, uint32_t b);
 int finishing_swap_from(cover *c, uint32_t *sides, size_t count, size_t room);
 
 /* walks.c */
+#define FEWER_POOR (NONE - 1) /* a goal of a walk that is no cell */
 typedef struct search search;
-search *finishing_search(size_t reach);
+search *finishing_search(size_t reach, double poor_under, int most_poor);
 void finishing_search_free(search *s);
 int finishing_walk(cover *c, search *s, uint32_t start, size_t reach, uint32_t goal, const double *toward);
 
@@ -87,6 +89,8 @@ size_t sedgepick_finish_take_in(sedgepick_cover *lent, const uint32_t *quads, si
 size_t sedgepick_finish_swap(sedgepick_cover *lent, size_t *done);
 size_t sedgepick_finish_take_back(sedgepick_cover *lent, double thin_sine, size_t rounds, size_t *done);
 size_t sedgepick_finish_pair(sedgepick_cover *lent, size_t *done);
-size_t sedgepick_finish_walk(sedgepick_cover *lent, size_t reach, int nearest, size_t *done);
+size_t sedgepick_finish_walk(sedgepick_cover *lent, size_t reach, int nearest, double poor_under, int most_poor, size_t *done);
+size_t sedgepick_finish_wander(sedgepick_cover *lent, size_t reach, double poor_under, size_t *done);
 size_t sedgepick_finish_improve(sedgepick_cover *lent, size_t reach, size_t *done);
+size_t sedgepick_finish_mend(sedgepick_cover *lent, double poor_under, size_t most_nodes, size_t tries, size_t *done);
 #endif

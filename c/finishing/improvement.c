@@ -55,7 +55,7 @@ size_t sedgepick_finish_improve(sedgepick_cover *lent, size_t reach, size_t *don
     size_t count = 0, fault = finishing_open(&c, lent);
     if (fault)
         return fault;
-    search *way = finishing_search(reach);
+    search *way = finishing_search(reach, 0, 0);
     uint32_t *quads = worst(&c, &count);
     *done = 0;
     for (size_t i = 0; way && quads && i < count; i++) {

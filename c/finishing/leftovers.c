@@ -46,14 +46,14 @@ static const double *nearest(const cover *c, leftovers *l, const squares *s, uin
 }
 
 /* Walks from each leftover triangle in turn, `nearest`: toward the nearest other; how many came to an end. */
-size_t sedgepick_finish_walk(sedgepick_cover *lent, size_t reach, int to_nearest, size_t *done) {
+size_t sedgepick_finish_walk(sedgepick_cover *lent, size_t reach, int to_nearest, double poor_under, int most_poor, size_t *done) {
     cover c;
     leftovers l = {0};
     squares s = {0};
     size_t fault = finishing_open(&c, lent);
     if (fault)
         return fault;
-    search *way = finishing_search(reach);
+    search *way = finishing_search(reach, poor_under, most_poor);
     int enough = way && collected(&c, &l) && finishing_squares(&s, l.middles, l.count);
     *done = 0;
     for (uint32_t i = 0; enough && i < l.count; i++) {
@@ -64,6 +64,29 @@ size_t sedgepick_finish_walk(sedgepick_cover *lent, size_t reach, int to_nearest
     }
     if (enough)
         finishing_squares_free(&s);
+    free(l.nodes);
+    free(l.middles);
+    free(l.gone);
+    finishing_search_free(way);
+    finishing_close(&c);
+    return enough ? FINISHING_DONE : FINISHING_NO_MEMORY;
+}
+
+/* Leads each leftover triangle to a place where fewer quads are poor; how often it did. */
+size_t sedgepick_finish_wander(sedgepick_cover *lent, size_t reach, double poor_under, size_t *done) {
+    cover c;
+    leftovers l = {0};
+    size_t fault = finishing_open(&c, lent);
+    if (fault)
+        return fault;
+    search *way = finishing_search(reach, poor_under, 0);
+    int enough = way && collected(&c, &l);
+    *done = 0;
+    for (uint32_t i = 0; enough && i < l.count; i++) {
+        uint32_t start = slot_of(&c, &l, i);
+        if (start != NONE)
+            *done += finishing_walk(&c, way, start, reach, FEWER_POOR, NULL);
+    }
     free(l.nodes);
     free(l.middles);
     free(l.gone);

@@ -10,6 +10,7 @@
 #define PULL 0.5              /* toward a place, to each length of the first triangle's longest side */
 #define STEP 1.5              /* what a step costs, less the scaled Jacobian of the quad that it makes */
 #define SLACK 16              /* states that one expansion may go beyond the reach */
+#define DETOUR 3.0            /* what a poor quad that a step makes costs in addition */
 
 /* A triangle on its way. */
 typedef struct {
@@ -18,6 +19,7 @@ typedef struct {
     uint32_t other;           /* the cell that its step takes away: a quad, of the first state the triangle itself */
     uint32_t quad[4];         /* that its step makes */
     double cost;
+    int poor;                 /* quads that the way makes poor, less the poor ones that it takes away */
 } state;
 
 struct search {
@@ -27,9 +29,12 @@ struct search {
     uint32_t *table, *stamp;  /* the triangles that were reached, by hash: the state, where the stamp is that of the walk */
     size_t mask;
     uint32_t walk;
+    double poor_under;        /* scaled Jacobian of a poor quad */
+    int most_poor;            /* more than so many poor quads no way leaves */
 };
 
-search *finishing_search(size_t reach) {
+/* A search of so many states. A way may leave as many more quads poor, with a scaled Jacobian under the limit, as `most_poor` says. */
+search *finishing_search(size_t reach, double poor_under, int most_poor) {
     search *s = calloc(1, sizeof *s);
     size_t room = 64;
     while (room < 4 * (reach + SLACK))
@@ -37,6 +42,8 @@ search *finishing_search(size_t reach) {
     if (!s)
         return NULL;
     s->mask = room - 1;
+    s->poor_under = poor_under;
+    s->most_poor = most_poor;
     s->states = malloc((reach + SLACK) * sizeof *s->states);
     s->table = malloc(room * sizeof *s->table);
     s->stamp = calloc(room, sizeof *s->stamp);
@@ -115,6 +122,20 @@ static void follow(cover *c, const search *s, uint32_t at, uint32_t other, const
     finishing_put(c, end, 4, group);
 }
 
+/* Takes the cells of the way out, and puts in the quads of its steps and the triangle at its end. */
+static void settle(cover *c, const search *s, uint32_t at) {
+    uint32_t group = c->lent->groups[s->states[at].other];
+    for (uint32_t k = at; k != NONE; k = s->states[k].before)
+        finishing_drop(c, s->states[k].other);
+    for (uint32_t k = at; s->states[k].before != NONE; k = s->states[k].before)
+        finishing_put(c, s->states[k].quad, 4, group);
+    finishing_put(c, s->states[at].triangle, 3, group);
+}
+
+static int is_poor(const cover *c, const search *s, const uint32_t *quad) {
+    return finishing_quad_worth(c, quad) < s->poor_under;
+}
+
 /* The cuts of a pentagon as states after `at`; whether there was memory. */
 static int cut(const cover *c, search *s, uint32_t at, uint32_t other, const uint32_t *pentagon, double least, const double *toward, double length) {
     for (int i = 0; i < 5; i++) {
@@ -130,7 +151,8 @@ static int cut(const cover *c, search *s, uint32_t at, uint32_t other, const uin
         made->before = at;
         made->other = other;
         memcpy(made->quad, quad, sizeof quad);
-        made->cost = s->states[at].cost + STEP - finishing_quad_worth(c, quad);
+        made->poor = s->states[at].poor + is_poor(c, s, quad) - is_poor(c, s, c->cells + 4 * (size_t)other);
+        made->cost = s->states[at].cost + STEP - finishing_quad_worth(c, quad) + DETOUR * is_poor(c, s, quad);
         if (!finishing_push(&s->open, made->cost + pull(c, triangle, toward, length), (double)s->count, (uint32_t)s->count))
             return 0;
         s->count++;
@@ -138,7 +160,8 @@ static int cut(const cover *c, search *s, uint32_t at, uint32_t other, const uin
     return 1;
 }
 
-/* Leads the triangle to another, or to the goal where there is one; whether it did. Nothing changes where it does not. A way takes a quad once, so that its steps do
+/* Leads the triangle to another, or to the goal where there is one; with FEWER_POOR for a goal, to a place that leaves fewer poor quads behind, where it stays.
+ * Whether it did. Nothing changes where it does not. A way takes a quad once, so that its steps do
  * not meddle with each other; `reach` states are looked at, at most as many as the search was made for. */
 int finishing_walk(cover *c, search *s, uint32_t start, size_t reach, uint32_t goal, const double *toward) {
     const uint32_t *first = c->cells + 4 * (size_t)start;
@@ -150,12 +173,17 @@ int finishing_walk(cover *c, search *s, uint32_t start, size_t reach, uint32_t g
     s->states[0].before = NONE;
     s->states[0].other = start;
     s->states[0].cost = 0;
+    s->states[0].poor = 0;
     is_new(s);
     s->count = 1;
     if (!(least > 0) || !finishing_push(&s->open, 0, 0, 0))
         return 0;
     while (s->open.count && s->count < reach) {
         uint32_t at = finishing_pop(&s->open).what;
+        if (goal == FEWER_POOR && s->states[at].poor < 0) {
+            settle(c, s, at);
+            return 1;
+        }
         for (int side = 0; side < 3; side++) {
             const uint32_t *t = s->states[at].triangle;
             uint32_t half = finishing_find(c, t[(side + 1) % 3], t[side]), other = half / 4, polygon[5];
@@ -164,7 +192,7 @@ int finishing_walk(cover *c, search *s, uint32_t start, size_t reach, uint32_t g
             if (is_quad(c, other)) {
                 if (!cut(c, s, at, other, polygon, least, toward, length))
                     return 0;
-            } else if ((goal == NONE || goal == other) && finishing_good(c, polygon)) {
+            } else if ((goal == NONE || goal == other) && finishing_good(c, polygon) && s->states[at].poor + is_poor(c, s, polygon) <= s->most_poor) {
                 follow(c, s, at, other, polygon);
                 return 1;
             }

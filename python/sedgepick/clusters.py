@@ -9,7 +9,7 @@ from . import library
 from .front import Refused
 from .surfaces import Fault
 
-CONNECT_SECONDS = 10.0
+CONNECT_SECONDS = 30.0  # Dask imports much before it answers
 
 
 def described() -> tuple[str, int, str]:
@@ -76,15 +76,14 @@ class Cluster:
 
     def each(self, task: Callable, items: Sequence, progress: Callable[[int, int], None] | None = None) -> list[Any]:
         """What the task gives for each item, in order."""
-        from distributed import as_completed
-        futures = self.submitted(task, items)
+        futures, found = self.submitted(task, items), []
         try:
-            for done, future in enumerate(as_completed(futures), 1):
-                self.result(future)  # the first that fails ends it
+            for future in futures:
+                found.append(self.result(future))
                 if progress and len(items) > 1:
-                    progress(done, len(items))
-            return [self.result(future) for future in futures]
-        except BaseException:
+                    progress(len(found), len(items))
+            return found
+        except BaseException:  # a part is refused, or the command is ended: those that have not begun never do
             self.client.cancel(futures)
             raise
 

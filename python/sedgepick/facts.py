@@ -2,10 +2,11 @@
 from __future__ import annotations
 import platform
 from typing import Any
-import meshio, numpy
+import numpy
 from . import library, meshing, quality
 from .answers import SCHEMA
 from .mesh_files import Work, name_of
+from .msh import meshio
 from .surfaces import visible
 
 
@@ -49,6 +50,6 @@ def account_of(slab: Any) -> dict[str, int]:
 
 
 def versions() -> dict[str, Any]:
-    return {'sedgepick': library.version(), 'interface': library.abi(), 'commit': library.commit(), 'build': library.build(), 'meshio': meshio.__version__,
+    return {'sedgepick': library.version(), 'interface': library.abi(), 'commit': library.commit(), 'build': library.build(), 'meshio': getattr(meshio, '__version__', None),
             'numpy': numpy.__version__, 'python': platform.python_version()}
 

@@ -9,7 +9,7 @@ from functools import partial
 from typing import Any, Callable
 import numpy
 from numpy.typing import ArrayLike, NDArray
-from . import closing, finishing, groups as marks, library, losses, parts, quality as measures, sizes, surfaces, verdicts
+from . import closing, finishing, groups as marks, library, losses, parts, planes, quality as measures, sizes, surfaces, verdicts
 from .acceptance import Verdict
 from .front import EVEN_COMPONENTS, EXHAUST, Counts, Quality
 from .surfaces import Fault, Marked, Surface
@@ -71,7 +71,7 @@ class Mesh:
     triangles: NDArray[numpy.int64]          # those left over
     quad_groups: NDArray[numpy.int64]        # the group of each quad; 0 where none were given
     triangle_groups: NDArray[numpy.int64]
-    verdict: Verdict
+    verdict: Verdict                         # numbers are those of the lists; of several planes those of the sheet that they are laid on
     nodes_added: int
     nodes_dropped: int                       # nodes of the given triangles that no cell has
     least_angle_of_quads: float | None       # degrees; None where there are none
@@ -113,10 +113,10 @@ class Mesh:
 
 def mesh(points: ArrayLike, triangles: ArrayLike, lines: ArrayLike | None = None, points_kept: ArrayLike | None = None, size: float | str = 'auto', *,
          groups: ArrayLike | None = None, stop: int = EXHAUST, grid: bool = False, quality: Quality | None = None, thin: float | None = None, raw: bool = False,
-         jobs: int | None = None, most_attempts: int | None = None, progress: Callable[[int, int], None] | None = None, cluster: Any = None) -> Mesh:
+         flatten: bool = False, jobs: int | None = None, most_attempts: int | None = None, progress: Callable[[int, int], None] | None = None, cluster: Any = None) -> Mesh:
     """Meshes the triangles of a slab with quads, whatever its unit and its size, and has the mesh judged by the proved acceptance.
 
-    points       x and y, or x, y and z, of each; all in one plane of the same z
+    points       x and y, or x, y and z, of each; in a plane in any position, or in several, each of which is meshed by itself
     triangles    three node numbers each, from 0
     lines        two node numbers each: edges of the triangles that are kept, such as walls and joints
     points_kept  nodes that are kept, such as columns
@@ -127,6 +127,7 @@ def mesh(points: ArrayLike, triangles: ArrayLike, lines: ArrayLike | None = None
     quality      what quads are held to: a Quality; the standard set if left out
     thin         degrees: a leftover triangle with a smaller angle is not accepted; 10 if left out, with `raw` 0, which asks nothing
     raw          run_front's own answer, without the finishing pass
+    flatten      nodes that lie off the plane are moved onto it
     jobs         parts run at once; all cores if left out
     most_attempts  a bound on the attempts of the run, all parts together; each is run once then, with its share
     progress     called with the parts that are done, and all, where there are several
@@ -147,7 +148,7 @@ def mesh(points: ArrayLike, triangles: ArrayLike, lines: ArrayLike | None = None
     begin = time.perf_counter()
     library.load()
     settings = Settings(size_of(size, grid), stop_of(stop), bool(grid), quality or Quality(), (0.0 if raw else THIN) if thin is None else float(thin), bool(raw),
-                        jobs=jobs, most_attempts=most_attempts)
+                        flatten=bool(flatten), jobs=jobs, most_attempts=most_attempts)
     surface, width = surface_of(points, triangles, lines, points_kept, groups)
     work = Work(surface, settings)
     try:
@@ -240,12 +241,13 @@ def mesh_of(work: Work, width: int, begin: float) -> Mesh:
         work.warnings.append('%s, so it is accepted all the same (thin %g)' % (judged.excused, settings.thin))
     if not judged.verdict.accepted:
         work.warnings.append('not accepted: %s' % judged.first())
-    cells = [own[:, ::-1] if surface.clockwise else own for own in (result.quads, result.triangles)]
+    nodes, number = planes.numbered(surface, len(work.points), numpy.arange(len(work.points)))  # a node of several planes is one
+    cells = [number[own[:, ::-1] if surface.clockwise else own] for own in (result.quads, result.triangles)]
     marked = [own.tags.get(GROUP, numpy.zeros(len(own.cells), dtype=numpy.int64)) for own in marks.of_result(surface, work.points, result)]
     least = [float(measures.least_angles(work.points, own).min()) if len(own) else None for own in (result.quads, result.triangles)]
     total = Counts(*(sum(getattr(counts, column.name) for counts in result.counts) for column in fields(Counts)))
     said = lambda words: tuple(map(to_callers, words))
-    return Mesh(work.points[:, :width], *map(numpy.ascontiguousarray, cells), *marked, judged.verdict, len(result.added), dropped(work), *least, tuple(work.losses),
+    return Mesh(planes.in_file(surface, work.points)[nodes, :width], *map(numpy.ascontiguousarray, cells), *marked, judged.verdict, len(result.added), dropped(work), *least, tuple(work.losses),
                 tuple(map(float, result.sizes)), result.cutter, total, said(work.warnings), said(surface.notes), time.perf_counter() - begin)
 
 

@@ -141,7 +141,7 @@ def arguments(words, description):
     add('--free', action='store_true', help="do not keep the file's lines, points and borders of surfaces at all; what is lost is listed")
     add('--keep-nodes', action='store_true', help='write nodes that no cell has, too')
     add('--node-map', metavar='FILE', help='a table: each node of OUT and its number in IN, both from 1 in the order of the file; none for added nodes')
-    add('--flatten', action='store_true', help='set every z to 0')
+    add('--flatten', action='store_true', help='move the nodes of a surface that is nearly flat onto its plane; what is moved is told. A plane in any position needs none')
     add('--from', dest='form', metavar='FORMAT', help="meshio's name of IN's format, where the suffix does not say it or says one that is not read by itself")
     add('--to', metavar='FORMAT', help="meshio's name of OUT's format")
     add('--most-attempts', type=number_from(1, 1 << 40, int), metavar='N', help='all parts together make at most so many attempts, each its share; what they have then is finished and judged')

@@ -75,7 +75,10 @@ class Folder:
         remove_left(within)
         while True:
             self.path = tempfile.mkdtemp(prefix=PREFIX, dir=within)
-            self.lock = os.open(self.path, os.O_RDONLY | os.O_DIRECTORY)
+            try:
+                self.lock = os.open(self.path, os.O_RDONLY | os.O_DIRECTORY)
+            except FileNotFoundError:  # removed by another run already
+                continue
             with contextlib.suppress(OSError):  # a file system without locks: nobody removes it then
                 fcntl.flock(self.lock, fcntl.LOCK_EX | fcntl.LOCK_NB)
             if os.path.isdir(self.path):  # not removed by another run before it was locked

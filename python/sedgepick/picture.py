@@ -111,12 +111,33 @@ def marks_of(mesh, piece, lines):
         lines.append('<line x1="%.1f" y1="%.1f" x2="%.1f" y2="%.1f" stroke="%s" stroke-width="3"/>' % (piece.x(a[0]), piece.y(a[1]), piece.x(b[0]), piece.y(b[1]), LOST))
     for p in mesh.lost_points:
         lines.append('<circle cx="%.1f" cy="%.1f" r="5" fill="none" stroke="%s" stroke-width="3"/>' % (piece.x(p[0]), piece.y(p[1]), LOST))
+    taken = [spot for _, p in mesh.marks if inside(p) for spot in [ring_room(piece.x(p[0]), piece.y(p[1]))]]
     for label, p in mesh.marks:
         if inside(p):
             x, y = piece.x(p[0]), piece.y(p[1])
+            left, base = label_spot(piece, label, x, y, taken)
             lines.append('<circle cx="%.1f" cy="%.1f" r="9" fill="none" stroke="%s" stroke-width="1.6"/>' % (x, y, INK))
             lines.append('<text x="%.1f" y="%.1f" font-size="12" font-weight="bold" stroke="#ffffff" stroke-width="3" paint-order="stroke" fill="%s">%s</text>'
-                         % (x + 10, y - 6, INK, label))
+                         % (left, base, INK, label))
+
+
+def ring_room(x, y):
+    """The room of a mark's ring: its sides."""
+    return x - 9, y - 9, x + 9, y + 9
+
+
+def label_spot(piece, label, x, y, taken):
+    """Where the label of a mark begins: the first place around its ring that no other label or ring has and that is in the window; its room is taken then."""
+    wide, high = 8.5 * len(label), 12
+    (left, top), (width, height) = piece.at, piece.size()
+    spots = [(x + dx if dx > 0 else x + dx - wide if dx < 0 else x - wide / 2, y + dy) for off in (10, 24, 38)
+             for dx, dy in ((off, 6 - off), (off, off + 2), (-off, 6 - off), (-off, off + 2), (off, 4), (-off, 4), (0, -off - 2), (0, off + 12))]
+    room = lambda spot: (spot[0] - 1, spot[1] - high + 1, spot[0] + wide + 1, spot[1] + 3)
+    inside = lambda box: left <= box[0] and box[2] <= left + width and top <= box[1] and box[3] <= top + height
+    apart = lambda a, b: a[2] <= b[0] or b[2] <= a[0] or a[3] <= b[1] or b[3] <= a[1]
+    found = next((spot for spot in spots if inside(room(spot)) and all(apart(room(spot), other) for other in taken)), spots[0])
+    taken.append(room(found))
+    return found
 
 
 def frame_of(piece, step, lines):

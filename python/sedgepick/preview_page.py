@@ -8,7 +8,7 @@ CAUTION = ('Each edge is tried by itself, as the first attempt on the mesh as it
            'so its quads are not these all together.')
 POINT = 'Point at an edge, or step through the edges with the Tab key: its quad is drawn, and what it gives is said here.'
 # the words of the edge that is pointed at stay in view at the foot of the window; without scripts they stand under the picture
-SAYS = """<style>.says { position: sticky; bottom: 0; margin: 0; padding: 8px 0; background: #ffffff; border-top: 1px solid #dddddd; }
+SAYS = """<style>.says { position: sticky; bottom: 0; margin: 0; padding: 8px 0; background: var(--paper); border-top: 1px solid var(--line); }
 .told text.would { display: none !important; }</style>
 <script>
 const front = document.getElementById('front'), says = document.getElementById('says'), hint = says.textContent;

@@ -81,13 +81,23 @@ def components(triangles):
 
 
 def joined(count, a, b):
-    """A label for each of so many things, from 0: those that pairs join have the same."""
-    label = numpy.arange(count)
-    while True:
-        low = numpy.minimum(label[a], label[b])
-        before = label.copy()
-        numpy.minimum.at(label, a, low)
-        numpy.minimum.at(label, b, low)
-        label = label[label]
-        if (label == before).all():
-            return numpy.unique(label, return_inverse=True)[1]
+    """A label for each of so many things, from 0: those that pairs join have the same; labels are in the order of the first of each.
+
+    Each round hooks every root to its least neighbour and follows the hooks to their end, so that the pairs left are between new roots: the rounds grow with the
+    logarithm of the number of things, not with the length of the longest way.
+
+    >>> joined(5, numpy.array([4, 1]), numpy.array([1, 3]))
+    array([0, 1, 2, 1, 1])
+    """
+    root = numpy.arange(count)
+    pairs = numpy.zeros(0, dtype=numpy.int64) if not len(a) else keys(numpy.column_stack([a, b]))
+    while len(pairs):
+        low, high = numpy.sort([root[pairs >> 32], root[pairs & 0xffffffff]], axis=0)
+        pairs = numpy.unique(high[low < high] << 32 | low[low < high])  # the least neighbour of each root comes first
+        high = pairs >> 32
+        first = numpy.flatnonzero(numpy.diff(high, prepend=-1))
+        root[high[first]] = pairs[first] & 0xffffffff
+        above = root[root]
+        while not numpy.array_equal(above, root):
+            root, above = above, above[above]
+    return numpy.unique(root, return_inverse=True)[1]

@@ -1,11 +1,13 @@
 """The report of a run, as text and as a page with the picture."""
 import os
 from dataclasses import dataclass
+from datetime import datetime
 from html import escape
 import numpy
 from . import closing, library, losses, meshing, picture, quality, sheets, slits
 from .front import Quality
 from .msh import meshio
+from .page_style import bodied
 from .previews import KINDS
 from .surfaces import visible
 
@@ -201,15 +203,6 @@ def lines(head, titled):
     return '\n'.join(line.rstrip() for line in out)
 
 
-STYLE = """body { font: 15px/1.45 'DejaVu Sans', Verdana, Arial, sans-serif; color: #1a1a1a; margin: 24px auto; max-width: 1240px; padding: 0 16px; }
-h1 { font-size: 22px; } h2 { font-size: 16px; margin: 22px 0 6px; } svg { max-width: 100%; height: auto; }
-.lists { columns: 2; column-gap: 36px; } section { break-inside: avoid; } table { border-collapse: collapse; width: 100%; }
-td { border-top: 1px solid #dddddd; padding: 3px 8px 3px 0; vertical-align: top; overflow-wrap: anywhere; } td:first-child { color: #555555; width: 34%; }
-.lists h2 { margin-top: 0; padding-top: 22px; }
-.warning { background: #fff3cd; border-left: 4px solid #d39e00; padding: 6px 12px; margin: 4px 0; }
-@media print { body { max-width: none; } }"""
-
-
 def tables(titled):
     cells = lambda pairs: ''.join('<tr><td>%s</td><td>%s</td></tr>' % (escape(visible(name)), escape(visible(str(value)))) for name, value in pairs)
     return ''.join('<section><h2>%s</h2><table>%s</table></section>\n' % (escape(title), cells(pairs)) for title, pairs in titled)
@@ -221,14 +214,8 @@ def body(work, place=0):
     bars = steps(work)  # drawn above
     rows = [(title, [row for row in own if row not in bars]) for title, own in rows]
     warnings = ''.join('<p class="warning">%s</p>' % escape(words) for words in work.warnings)
-    return ('<h1>%s</h1>\n<p>%s</p>%s\n%s<h2>Quads by scaled Jacobian</h2>\n%s\n<div class="lists">%s</div>'
-            % (escape(work.surface.name), escape(summary(work)).replace('\n', '<br>\n'), warnings, picture.draw(drawn, place), sheets.drawn(work.result.sheet), tables(rows)))
-
-
-def bodied(title, content):
-    """A page that needs nothing beside itself."""
-    return ('<!doctype html>\n<html lang="en"><head><meta charset="utf-8"><title>%s</title><style>%s</style></head>\n<body>%s</body></html>\n'
-            % (escape(title), STYLE, content))
+    return ('<h1>%s</h1>\n<p class="date">%s</p>\n<p>%s</p>%s\n%s<h2>Quads by scaled Jacobian</h2>\n%s\n<div class="lists">%s</div>'
+            % (escape(work.surface.name), datetime.now().astimezone().strftime('%Y-%m-%d %H:%M %Z'), escape(summary(work)).replace('\n', '<br>\n'), warnings, picture.draw(drawn, place), sheets.drawn(work.result.sheet), tables(rows)))
 
 
 def page(work):

@@ -10,9 +10,9 @@ SCRIPT = os.path.join(os.path.dirname(os.path.abspath(__file__)), 'steps.js')
 SPEEDS = (1, 2, 5, 20, 100)  # steps a second
 SMALL = 16                   # pixels
 LEGEND = 280
-STYLE = """<style>.bar { position: sticky; top: 0; z-index: 1; background: #ffffff; padding: 8px 0 4px; border-bottom: 1px solid #dddddd; }
+STYLE = """<style>.bar { position: sticky; top: 0; z-index: 1; background: var(--paper); padding: 8px 0 4px; border-bottom: 1px solid var(--line); }
 .bar button, .bar select { font: inherit; padding: 3px 9px; } .bar input { width: 100%; margin: 8px 0 2px; } #says { margin: 2px 0; font-weight: bold; min-height: 1.45em; }
-#log { list-style: none; padding: 0; font-size: 14px; } #log a { color: #1a1a1a; text-decoration: none; } #log a.here { font-weight: bold; border-left: 4px solid #1a1a1a; padding-left: 6px; }
+#log { list-style: none; padding: 0; font-size: 14px; } #log a { color: var(--ink); text-decoration: none; } #log a.here { font-weight: bold; border-left: 4px solid var(--ink); padding-left: 6px; }
 #cells path:hover { stroke: #000000; stroke-width: 2; }</style>"""
 BUTTONS = (('first', 'First', 'the given mesh (Home)'), ('quad-back', '&laquo; Quad', 'back to the quad before (Page Up)'), ('back', '&lsaquo; Back', 'one step back (left arrow)'),
            ('play', 'Play', 'one step after the other, or pause (space)'), ('forward', 'Forward &rsaquo;', 'one step on (right arrow)'),

@@ -18,9 +18,9 @@ def setUpModule():
 
 class Formats(Case):
     def test_every_stored_file(self):
-        """The same slab in fifteen forms gives the same quads."""
+        """The same slab in seventeen forms gives the same quads."""
         names = [name for name in sorted(os.listdir(FILES)) if name.startswith('l-slab')]
-        self.assertEqual(len(names), 15)
+        self.assertEqual(len(names), 17)
         if not HDF:
             names.remove('l-slab-meshio.med')
         for name in names:
@@ -53,7 +53,7 @@ class Formats(Case):
 
     def test_abaqus_types(self):
         out = self.path('out.inp')
-        self.good(os.path.join(FILES, 'columns.msh'), '-o', out, '--raw')
+        self.good(os.path.join(FILES, 'columns.msh'), '-o', out, '--raw', '--beams')
         with open(out) as file:
             text = file.read()
         self.assertEqual(re.findall(r'TYPE=(\w+)', text), ['S4', 'S3', 'B31'])

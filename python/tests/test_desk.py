@@ -1,10 +1,11 @@
 """Tests of the desk: its server by plain requests, and its page in Chromium, driven as a person would."""
-import hashlib, http.client, json, os, re, shutil, signal, struct, subprocess, sys, tempfile, time, unittest
+import base64, hashlib, http.client, json, os, re, shutil, signal, struct, subprocess, sys, tempfile, time, types, unittest
 from common import FILES, PACKAGES, ROOT, make_library
 
 try:
     import meshio, numpy
-    from sedgepick.desk import fields, packing, server, tasks
+    from sedgepick import picture
+    from sedgepick.desk import fields, packing, tasks
 except ImportError:
     meshio = None
 try:
@@ -217,7 +218,7 @@ class Runs(Case):
                 self.assertIn(digest, sheet)
             self.assertIn(hashlib.sha256(mesh).hexdigest(), self.desk.ask('GET', 'task/%s/out/report' % task)[2].decode())
             for clause in ('Given nodes are in place', 'Quads turn left at each node', 'The given region is covered once', 'Lines and borders are kept'):
-                self.assertIn('&#10003;</td><td>' + clause, sheet)
+                self.assertIn('&#10003;</b>' + clause, sheet)
             self.assertEqual(done['quads'], len(done['quads_of']) // 4)
             lines = self.desk.ask('GET', 'task/%s/out/table' % task)[2].decode().splitlines()
             self.assertGreaterEqual(len(lines), done['quads'])
@@ -403,6 +404,446 @@ class Ends(unittest.TestCase):
             self.assertIn(said, ran.stderr)
             self.assertNotIn('Traceback', ran.stderr)
         self.assertEqual(run('--help').returncode, 0)
+
+
+FRAMES = """
+const done = arguments[1], kind = arguments[0], canvas = document.getElementById('canvas'), box = canvas.getBoundingClientRect(), times = [];
+let count = 0, last = performance.now();
+function tick(now) {
+  times.push(now - last);
+  last = now;
+  if (++count > 120) return done(times.slice(1));
+  const by = count % 40 < 20 ? -60 : 60, x = box.left + box.width / 3, y = box.top + box.height / 3;
+  if (kind === 'zoom') canvas.dispatchEvent(new WheelEvent('wheel', {deltaY: by, clientX: x, clientY: y, bubbles: true, cancelable: true}));
+  else desk.view.pan(4 * Math.cos(count / 9), 4 * Math.sin(count / 9));
+  requestAnimationFrame(tick);
+}
+requestAnimationFrame(tick);
+"""
+DROP = """
+const moved = new DataTransfer();
+moved.items.add(new File([arguments[0]], arguments[1]));
+for (const kind of ['dragenter', 'dragover', 'drop']) document.getElementById('board').dispatchEvent(new DragEvent(kind, {dataTransfer: moved, bubbles: true, cancelable: true}));
+"""
+
+
+@unittest.skipUnless(webdriver and CHROMIUM and DRIVER, 'chromium, chromedriver or python3-selenium is not installed')
+class Page(unittest.TestCase):
+    """The page in Chromium. SEDGEPICK_SHOTS names a folder for screenshots."""
+
+    @classmethod
+    def setUpClass(cls):
+        cls.desk = Desk()
+        cls.downloads = tempfile.mkdtemp()
+        options = Options()
+        options.binary_location = CHROMIUM
+        for word in ('--headless=new', '--no-sandbox', '--disable-dev-shm-usage', '--window-size=1280,900', '--force-device-scale-factor=1'):
+            options.add_argument(word)
+        options.set_capability('goog:loggingPrefs', {'browser': 'ALL'})
+        cls.browser = webdriver.Chrome(service=Service(DRIVER), options=options)
+        cls.browser.set_script_timeout(60)
+        cls.browser.execute_cdp_cmd('Browser.setDownloadBehavior', {'behavior': 'allow', 'downloadPath': cls.downloads})
+
+    @classmethod
+    def tearDownClass(cls):
+        cls.browser.quit()
+        cls.desk.end()
+        shutil.rmtree(cls.downloads)
+
+    def setUp(self):
+        self.browser.get(self.desk.address)
+        self.until('globalThis.desk && desk.state.about')
+
+    def tearDown(self):
+        """No script failed, and the policy kept nothing back."""
+        self.assertEqual([entry['message'] for entry in self.browser.get_log('browser') if entry['level'] == 'SEVERE' and 'the server responded with a status of 4' not in entry['message']], [])
+
+    def js(self, words, *more):
+        return self.browser.execute_script('return ' + words, *more)
+
+    def until(self, words, seconds=60):
+        end = time.monotonic() + seconds
+        while not self.js('Boolean(%s)' % words):
+            if time.monotonic() > end:
+                raise AssertionError('never: %s' % words)
+            time.sleep(0.05)
+
+    def element(self, id):
+        return self.browser.find_element('id', id)
+
+    def shot(self, name):
+        if os.environ.get('SEDGEPICK_SHOTS'):
+            time.sleep(0.3)
+            self.browser.save_screenshot(os.path.join(os.environ['SEDGEPICK_SHOTS'], name + '.png'))
+
+    def open(self, path=COLUMNS):
+        self.element('chooser').send_keys(path)
+        self.until('desk.state.given')
+
+    def run_it(self):
+        self.element('run').click()
+        self.until('desk.state.done || !document.getElementById("refused").hidden || document.querySelector(".field.wrong")')
+
+    def point(self, x, y):
+        """An action that moves the mouse to a place of the mesh."""
+        px, py = self.js('desk.view.spot(arguments[0], arguments[1])', x, y)
+        width, height = self.js('[desk.view.width, desk.view.height]')
+        return ActionChains(self.browser).move_to_element_with_offset(self.element('canvas'), round(px - width / 2), round(py - height / 2))
+
+    def test_first_use(self):
+        """From an empty page to a signed sheet and the files, in under two minutes."""
+        begin = time.monotonic()
+        self.assertTrue(self.element('empty').is_displayed())
+        self.assertFalse(self.element('run').is_enabled())
+        self.shot('empty')
+        self.open()
+        self.shot('given')
+        self.run_it()
+        self.shot('done')
+        self.assertEqual(self.element('verdict-says').text, 'Accepted')
+        shown = self.element('numbers').find_elements('tag name', 'dd')
+        quads, left = int(shown[0].text.split()[0]), int(shown[1].text)
+        self.element('show-sheet').click()
+        self.until('document.getElementById("paper").contentDocument.getElementById("name")')
+        self.browser.switch_to.frame(self.element('paper'))
+        self.element('name').send_keys('A. Engineer')
+        self.assertEqual(self.element('name').get_attribute('value'), 'A. Engineer')
+        sheet = self.browser.find_element('tag name', 'body').text
+        self.browser.switch_to.default_content()
+        self.shot('sheet')
+        self.element('close-sheet').click()
+        for which in ('mesh', 'report', 'sheet', 'table'):
+            self.element('get-' + which).click()
+        names = {'columns-quads.msh', 'columns-quads-report.html', 'columns-quads-sheet.html', 'columns-quads-quality.csv'}
+        end = time.monotonic() + 20
+        while not names <= set(os.listdir(self.downloads)) and time.monotonic() < end:
+            time.sleep(0.1)
+        with open(os.path.join(self.downloads, 'columns-quads.msh'), 'rb') as file:
+            self.assertIn(hashlib.sha256(file.read()).hexdigest(), sheet)
+        made = meshio.read(os.path.join(self.downloads, 'columns-quads.msh'))
+        self.assertEqual([sum(len(block.data) for block in made.cells if block.type == kind) for kind in ('quad', 'triangle')], [quads, left])
+        self.assertLess(time.monotonic() - begin, 120)
+
+    def test_sheet_is_one_page(self):
+        """Also with names as long as they can be and every warning."""
+        long = 'w' * 190 + '.msh'
+        with open(COLUMNS, encoding='utf-8') as file:
+            self.browser.execute_script(DROP, file.read(), long)
+        self.until('desk.state.given')
+        for id, word in (('field-thin', '60'),):
+            self.element(id).clear()
+            self.element(id).send_keys(word)
+        self.js('(document.getElementById("field-finish").value = "raw", 1)')
+        self.run_it()
+        self.assertIn('go down to', self.element('warnings').text)
+        address = self.js('new URL(document.getElementById("paper").dataset.src, location).href')
+        self.browser.get(address)
+        self.assertIn('No triangle is too thin: not asked', self.browser.find_element('tag name', 'body').text)
+        made = base64.b64decode(self.browser.execute_cdp_cmd('Page.printToPDF', {'preferCSSPageSize': True})['data'])
+        self.assertEqual(len(re.findall(rb'/Type\s*/Page\b', made)), 1)
+        box = list(map(float, re.search(rb'/MediaBox\s*\[([^\]]*)', made)[1].split()))
+        self.assertTrue(abs(box[2] - 595) < 2 and abs(box[3] - 842) < 2, box)
+
+    def test_drop_zoom_pan(self):
+        with open(JOINTS, encoding='utf-8') as file:
+            self.browser.execute_script(DROP, file.read(), 'dropped.msh')
+        self.until('desk.state.given && desk.state.given.name === "dropped.msh"')
+        scale, x, y = self.js('[desk.view.camera.scale, desk.view.camera.x, desk.view.camera.y]')
+        place = (x + 1, y + 1)
+        before = self.js('desk.view.spot(arguments[0], arguments[1])', *place)
+        self.js("""(document.getElementById('canvas').dispatchEvent(new WheelEvent('wheel', {deltaY: -300, clientX: arguments[0] + document.getElementById('canvas').getBoundingClientRect().left,
+                   clientY: arguments[1] + document.getElementById('canvas').getBoundingClientRect().top, bubbles: true, cancelable: true})), 1)""", *before)
+        self.assertGreater(self.js('desk.view.camera.scale'), 1.3 * scale)
+        after = self.js('desk.view.spot(arguments[0], arguments[1])', *place)
+        self.assertLess(max(abs(a - b) for a, b in zip(before, after)), 1.0)  # what is pointed at stays, to the pixel
+        self.point(*place).click_and_hold().move_by_offset(60, 40).release().perform()
+        moved = self.js('desk.view.spot(arguments[0], arguments[1])', *place)
+        self.assertTrue(abs(moved[0] - after[0] - 60) < 3 and abs(moved[1] - after[1] - 40) < 3, (after, moved))
+        self.element('fit').click()
+        self.assertAlmostEqual(self.js('desk.view.camera.scale'), scale)
+        self.element('canvas').send_keys('+')
+        self.assertGreater(self.js('desk.view.camera.scale'), scale)
+        self.element('canvas').send_keys('0')
+        self.assertAlmostEqual(self.js('desk.view.camera.scale'), scale)
+
+    def test_what_is_drawn(self):
+        """The pixel in the middle of a cell has the colour of its class, also where cells are small."""
+        self.open()
+        self.run_it()
+        time.sleep(0.5)
+        for zoom in (1, 0.25):
+            self.js('(desk.view.fit(), desk.view.zoom(desk.view.width / 2, desk.view.height / 2, arguments[0]), 1)', zoom)
+            time.sleep(0.6)
+            wrong = self.js("""(() => {
+              const {done, about} = desk.state, view = desk.view, context = view.canvas.getContext('2d'), kept = new Set(done.kept_nodes);
+              let wrong = 0, looked = 0;
+              for (let i = 0; i < done.quads; i += 3) {
+                const nodes = [...done.quads_of.subarray(4 * i, 4 * i + 4)];
+                if (nodes.some(node => kept.has(node))) continue;
+                const middle = [0, 1].map(k => nodes.reduce((sum, node) => sum + done.points[2 * node + k], 0) / 4), [x, y] = view.spot(...middle);
+                const own = Math.min(9, Math.floor(done.jacobians[i] * 10)), [r, g, b] = context.getImageData(Math.floor(x * view.ratio), Math.floor(y * view.ratio), 1, 1).data;
+                const found = '#' + [r, g, b].map(n => n.toString(16).padStart(2, '0')).join('');
+                looked++;
+                if (found !== about.quads[own][1]) wrong++;
+              }
+              return [wrong, looked];
+            })()""")
+            self.assertGreater(wrong[1], 60)
+            self.assertLessEqual(wrong[0], 0.08 * wrong[1], (zoom, wrong))
+
+    def test_hundred_thousand(self):
+        """30 frames a second are owed with 100,000 cells, while it is zoomed and moved."""
+        with tempfile.TemporaryDirectory() as folder:
+            path = os.path.join(folder, 'hundred.vtk')
+            write_grid(path, 224, 224)
+            self.open(path)
+        self.assertGreater(self.js('desk.view.picture.count'), 100000)
+        time.sleep(1)
+        for kind in ('zoom', 'pan'):
+            times = self.browser.execute_async_script(FRAMES, kind)
+            rate = 1000 * len(times) / sum(times)
+            print('100,352 triangles, %s: %.1f frames a second, the longest frame %.0f ms' % (kind, rate, max(times)), file=sys.stderr)
+            self.assertGreater(rate, 30)
+
+    def test_cells_and_the_worst(self):
+        self.open()
+        self.run_it()
+        row = next(row for row in self.browser.find_elements('css selector', '#worst button') if row.text.startswith('quad'))
+        value = row.find_element('tag name', 'b').text
+        row.click()
+        self.assertTrue(self.element('cell-card').is_displayed())
+        self.assertAlmostEqual(float(value), self.js('Math.min(...desk.state.done.jacobians)'), 3)
+        self.assertIn('scaled Jacobian', self.element('cell-facts').text)
+        self.assertLess(abs(float(value) - float(self.element('cell-facts').find_elements('tag name', 'dd')[0].text)), 1e-3)
+        self.shot('worst')
+        self.element('cell-close').click()
+        self.element('fit').click()
+        middle = self.js('(() => { const {done} = desk.state, n = [...done.quads_of.subarray(40, 44)]; return [0, 1].map(k => n.reduce((s, a) => s + done.points[2 * a + k], 0) / 4); })()')
+        self.point(*middle).click().perform()
+        self.assertEqual(self.element('cell-title').text, 'Quad 11')
+        self.browser.execute_script('const s = document.getElementById("colour"); s.value = "round"; s.dispatchEvent(new Event("change"))')
+        self.assertIn('Quads by round', self.element('legend').text)
+        self.shot('rounds')
+
+    def test_front_and_locked_edges(self):
+        self.open()
+        self.element('tab-front').click()
+        self.until('desk.state.front')
+        middle = self.js('(() => { const f = desk.state.front, i = [...f.refused].findIndex(kind => !kind), p = f.places.subarray(6 * i, 6 * i + 4); return [(p[0] + p[2]) / 2, (p[1] + p[3]) / 2]; })()')
+        self.point(*middle).perform()
+        self.assertRegex(self.element('says').text, r'Edge \d+ to \d+: a quad of the nodes .*insertion.*flip')
+        self.shot('front')
+        self.element('tab-given').click()
+        self.element('lock').click()
+        edge, at = self.js('(() => { const {triangles: t, points: p} = desk.state.given, e = [t[300], t[301]].sort((a, b) => a - b); return [e, [0, 1].map(k => (p[2 * e[0] + k] + p[2 * e[1] + k]) / 2)]; })()')
+        self.point(*at).click().perform()
+        self.assertEqual(self.js('[...desk.state.joints.values()]'), [edge])
+        self.point(*at).click().perform()
+        self.assertEqual(self.js('desk.state.joints.size'), 0)
+        a, b = self.js('desk.view.spot(3, 7)'), self.js('desk.view.spot(9, 6.5)')
+        self.point(3, 7).click_and_hold().move_by_offset(round((b[0] - a[0]) / 2), round((b[1] - a[1]) / 2)).move_by_offset(round((b[0] - a[0]) / 2), round((b[1] - a[1]) / 2)).release().perform()
+        count = self.js('desk.state.joints.size')
+        self.assertGreater(count, 6)
+        nodes = self.js('[...desk.state.joints.values()]')
+        self.assertTrue(all(set(one) & set(other) for one, other in zip(nodes, nodes[1:])))  # one chain
+        self.shot('locked')
+        self.run_it()
+        self.assertIn('line edges (joint): all %d stand' % count, self.element('notes').text)
+        self.element('tab-given').click()
+        self.element('unlock').click()
+        self.assertEqual(self.js('desk.state.joints.size'), 0)
+
+    def test_steps(self):
+        """The slider's last step is the run's own answer; the first the given mesh."""
+        self.open()
+        self.run_it()
+        self.element('tab-steps').click()
+        self.until('desk.state.story')
+        self.assertTrue(self.js('desk.state.story.faithful'))
+        count = self.js('desk.state.story.steps.length')
+        for place, cells in ((0, 642), (count, None)):
+            self.browser.execute_script('const s = document.getElementById("step"); s.value = arguments[0]; s.dispatchEvent(new Event("input"))', place)
+            self.assertTrue(self.element('step-says').text.startswith('Step %d of %d' % (place, count)))
+            if cells:
+                self.assertEqual(self.js('desk.view.picture.count'), cells)
+        self.element('step-back').click()
+        self.assertIn('Step %d of' % (count - 1), self.element('step-says').text)
+        self.shot('steps')
+        self.element('step-play').click()
+        time.sleep(0.3)
+        self.element('step-play').click()
+
+    def test_refusals_stand_beside_their_field(self):
+        self.open()
+        for name, word, said in (('size', '-1', 'not below 0'), ('thin', '99', 'from 0 to 60'), ('size', '1000', 'out of range'), ('least_angle', '61', '8.11 to 60')):
+            self.js('(document.getElementById("quality").open = true, 1)')
+            field = self.element('field-' + name)
+            usual = field.get_attribute('value')
+            field.clear()
+            field.send_keys(word)
+            self.element('run').click()
+            self.until('!document.getElementById("field-%s-fault").hidden' % name)
+            self.until('document.getElementById("stop").hidden')
+            self.assertIn(said, self.element('field-%s-fault' % name).text)
+            self.assertIsNone(self.js('desk.state.done'))
+            if word == '1000':
+                self.shot('refused')
+            field.clear()
+            field.send_keys(usual)
+        self.element('chooser').send_keys(os.path.join(FILES, 'second-order.msh'))
+        self.until('!document.getElementById("refused").hidden')
+        self.assertIn('second order', self.element('refused').text)
+
+    def test_stop(self):
+        with tempfile.TemporaryDirectory() as folder:
+            path = os.path.join(folder, 'large.vtk')
+            write_grid(path, 224, 224)
+            self.open(path)
+        self.element('run').click()
+        self.until('desk.state.run && desk.state.run.task')
+        self.shot('running')
+        task = self.js('desk.state.run.task')
+        self.element('stop').click()
+        self.until('!document.getElementById("refused").hidden')
+        self.assertIn('Stopped', self.element('refused').text)
+        self.assertEqual(self.desk.facts('GET', 'task/' + task)[1]['state'], 'stopped')
+        self.assertTrue(self.element('run').is_displayed())
+
+    def test_hostile_names(self):
+        with open(JOINTS, encoding='utf-8') as file:
+            content = file.read().replace('"wall"', '"%s"' % HOSTILE)
+        self.browser.execute_script(DROP, content, HOSTILE + '.msh')
+        self.until('desk.state.given')
+        self.assertIn(HOSTILE, self.element('given-facts').text)
+        self.run_it()
+        self.element('show-sheet').click()
+        self.until('document.getElementById("paper").contentDocument.getElementById("name")')
+        self.assertIn(HOSTILE, self.js('document.getElementById("paper").contentDocument.body.innerText'))
+        self.assertIsNone(self.js('globalThis.stolen || document.getElementById("paper").contentWindow.stolen || null'))
+        self.assertEqual(len(self.browser.find_elements('css selector', 'img[src=x]')), 0)
+
+    def test_themes_and_phone(self):
+        """Nothing is wider than the window, in both schemes."""
+        self.open(JOINTS)
+        self.run_it()
+        for width, height in ((1280, 800), (390, 844)):
+            self.browser.execute_cdp_cmd('Emulation.setDeviceMetricsOverride', {'width': width, 'height': height, 'deviceScaleFactor': 1, 'mobile': width < 600})
+            for scheme in ('light', 'dark'):
+                self.browser.execute_cdp_cmd('Emulation.setEmulatedMedia', {'features': [{'name': 'prefers-color-scheme', 'value': scheme}]})
+                self.until('document.documentElement.dataset.theme === "%s"' % scheme)
+                self.assertLessEqual(self.js('document.documentElement.scrollWidth'), width)
+                self.shot('%s-%d' % (scheme, width))
+        self.browser.execute_cdp_cmd('Emulation.clearDeviceMetricsOverride', {})
+
+    def test_labels(self):
+        """Every control has a name, and the keyboard reaches Run."""
+        self.open()
+        bare = self.js("""[...document.querySelectorAll('button, input, select, a[href]')].filter(e => e.offsetParent && !(e.textContent.trim() || e.getAttribute('aria-label') || e.labels && e.labels.length)).map(e => e.id)""")
+        self.assertEqual(bare, [])
+        self.element('field-size').send_keys(Keys.ENTER)
+        self.until('desk.state.done')
+
+
+@unittest.skipUnless(webdriver and CHROMIUM and DRIVER, 'chromium, chromedriver or python3-selenium is not installed')
+class PageAlone(Page):
+    """The page when the server is gone."""
+
+    for name in [name for name in dir(Page) if name.startswith('test_')]:
+        locals()[name] = None
+    del name
+
+    def test_server_killed(self):
+        self.open()
+        self.desk.end(signal.SIGKILL)
+        self.element('run').click()
+        self.until('!document.getElementById("gone").hidden')
+        self.assertIn('Start sedgepick-desk again', self.element('gone').text)
+        self.shot('gone')
+
+    def tearDown(self):
+        """Its last requests fail, and the browser says so."""
+
+
+class Labels(unittest.TestCase):
+    def test_labels_do_not_collide(self):
+        """Marks at one place have labels beside each other, within the window."""
+        piece = picture.Piece((0.0, 0.0), (10.0, 10.0), (0, 0), 50.0)
+        for places in ([(5.0, 5.0)] * 6, [(0.05, 9.95)] * 3, [(5.0, 5.0), (5.2, 5.0), (5.4, 5.1), (5.1, 5.3)], [(9.9, 0.1), (9.8, 0.1)]):
+            mesh, lines = types.SimpleNamespace(marks=[('q%d' % (i + 1), place) for i, place in enumerate(places)], lost_edges=[], lost_points=[]), []
+            picture.marks_of(mesh, piece, lines)
+            boxes = [(float(x), float(y) - 9, float(x) + 15, float(y) + 2) for x, y in re.findall(r'<text x="([-.\d]+)" y="([-.\d]+)"', ''.join(lines))]
+            self.assertEqual(len(boxes), len(places))
+            for i, a in enumerate(boxes):
+                self.assertTrue(0 <= a[0] and a[2] <= 500 and 0 <= a[1] and a[3] <= 500, a)
+                for b in boxes[:i]:
+                    self.assertTrue(a[2] <= b[0] or b[2] <= a[0] or a[3] <= b[1] or b[3] <= a[1], (a, b))
+
+
+@unittest.skipUnless(webdriver and CHROMIUM and DRIVER, 'chromium, chromedriver or python3-selenium is not installed')
+class Written(unittest.TestCase):
+    """The pages that the command writes, in Chromium."""
+
+    @classmethod
+    def setUpClass(cls):
+        cls.folder = tempfile.mkdtemp()
+        subprocess.run([sys.executable, os.path.join(PACKAGES, 'sedgepick-mesh'), COLUMNS, '-o', os.path.join(cls.folder, 'q.msh'), '--report', os.path.join(cls.folder, 'report.html'), '--steps',
+                        os.path.join(cls.folder, 'steps.html'), '--preview', os.path.join(cls.folder, 'front.html'), '-q'], check=True, stderr=subprocess.DEVNULL)
+        options = Options()
+        options.binary_location = CHROMIUM
+        for word in ('--headless=new', '--no-sandbox', '--disable-dev-shm-usage'):
+            options.add_argument(word)
+        options.set_capability('goog:loggingPrefs', {'browser': 'ALL'})
+        cls.browser = webdriver.Chrome(service=Service(DRIVER), options=options)
+
+    @classmethod
+    def tearDownClass(cls):
+        cls.browser.quit()
+        shutil.rmtree(cls.folder)
+
+    def show(self, name, width=1280, height=900, scheme='light'):
+        self.browser.execute_cdp_cmd('Emulation.setDeviceMetricsOverride', {'width': width, 'height': height, 'deviceScaleFactor': 1, 'mobile': width < 600})
+        self.browser.execute_cdp_cmd('Emulation.setEmulatedMedia', {'media': '', 'features': [{'name': 'prefers-color-scheme', 'value': scheme}]})
+        self.browser.get('file://' + os.path.join(self.folder, name))
+
+    def js(self, words):
+        return self.browser.execute_script('return ' + words)
+
+    def test_zoom(self):
+        for name in ('report.html', 'steps.html', 'front.html'):
+            self.show(name)
+            box = lambda: list(map(float, self.js('document.querySelector(".zoomed svg").getAttribute("viewBox")').split()))
+            whole = box()
+            near, far, fit = self.browser.find_elements('css selector', '.zoom button')
+            near.click()
+            self.assertAlmostEqual(box()[2], whole[2] / 1.5, 2)
+            svg = self.browser.find_element('css selector', '.zoomed svg')
+            before = box()
+            ActionChains(self.browser).move_to_element_with_offset(svg, 0, 0).click_and_hold().move_by_offset(40, 30).release().perform()
+            self.assertTrue(box()[0] < before[0] and box()[1] < before[1])
+            far.click()
+            fit.click()
+            self.assertEqual(box(), whole)
+            self.assertEqual([entry['message'] for entry in self.browser.get_log('browser') if entry['level'] == 'SEVERE'], [])
+
+    def test_schemes_phone_and_date(self):
+        for name in ('report.html', 'steps.html', 'front.html'):
+            for width, scheme in ((1280, 'light'), (1280, 'dark'), (390, 'light')):
+                self.show(name, width, 844, scheme)
+                self.assertLessEqual(self.js('document.documentElement.scrollWidth'), width)
+                light = sum(map(int, re.findall(r'\d+', self.js('getComputedStyle(document.body).backgroundColor'))[:3])) > 600
+                self.assertEqual(light, scheme == 'light')
+        self.show('report.html')
+        self.assertRegex(self.browser.find_element('class name', 'date').text, time.strftime('%Y-'))
+
+    def test_print(self):
+        """In print the page is light and has no buttons, also where it was zoomed in the dark."""
+        self.show('report.html', scheme='dark')
+        self.browser.find_element('css selector', '.zoom button').click()
+        self.browser.execute_cdp_cmd('Emulation.setEmulatedMedia', {'media': 'print', 'features': [{'name': 'prefers-color-scheme', 'value': 'dark'}]})
+        self.assertEqual(self.js('getComputedStyle(document.querySelector(".zoom")).display'), 'none')
+        self.assertEqual(self.js('getComputedStyle(document.body).backgroundColor'), 'rgb(255, 255, 255)')
+        self.browser.execute_script('dispatchEvent(new Event("beforeprint"))')
+        self.assertFalse(self.js('document.querySelector(".zoomed svg").classList.contains("near")'))
 
 
 def write_grid(path, columns, rows):

@@ -1,6 +1,7 @@
 """Tests of the finishing pass: each step by itself, then the pass as a whole before an exact judge."""
 import math, os, random, sys, unittest
 from concurrent.futures import ThreadPoolExecutor
+from itertools import permutations
 from common import FILES, grid, make_library
 from exact_judge import faults
 
@@ -288,6 +289,12 @@ class Walks(Step):
         self.assertEqual(done, 1)
         self.assertGreater(quality.scaled_jacobians(numpy.array(moved), after.quads()).mean(), 0.8)
 
+    def test_few_poor_quads(self):
+        """Every quad of the strip is poor: two triangles that meet make one more of them."""
+        points, triangles, cover = self.ends(5)
+        for poor, most, done in ((0.9, 0, 0), (0.9, 1, 1), (0.8, 0, 1)):
+            self.assertEqual(finishing.walk(cover, 0.5, poor=poor, most_poor=most)[1], done)
+
     def test_one_alone(self):
         points, triangles = strip(3)
         cover = finishing.pair(finishing.cover_of(points, triangles[:5]), 0.5)[0]
@@ -324,6 +331,152 @@ class Improvement(Step):
 
     def test_a_locked_edge(self):
         self.assertEqual(finishing.improve(finishing.cover_of(self.points, [], self.poor, locked=[(0, 3)]), 0.7)[1], 0)
+
+
+def fewest_poor(points, border, poor, least):
+    """The fewest quads under `poor` that a cover by quads at or above `least` has, over every one: sides are closed in turn, by each quad in turn. None where there is none."""
+    array, nodes = numpy.array(points, dtype=float), range(len(points))
+    empty = lambda quad: not any(all(turn(points, quad[i - 1], quad[i], n) >= 0 for i in range(4)) for n in nodes if n not in quad)
+    quads = [quad for quad in permutations(nodes, 4) if min(quad) == quad[0] and all(turn(points, quad[i - 2], quad[i - 1], quad[i]) > 1e-9 for i in range(4)) and empty(quad)]
+    worth = dict(zip(quads, quality.scaled_jacobians(array, numpy.array(quads)))) if quads else {}
+    at = {}
+    for quad in quads:
+        if worth[quad] >= least:
+            for i in range(4):
+                at.setdefault((quad[i - 1], quad[i]), []).append(quad)
+    area = lambda cells: sum(quality.areas(array, numpy.array([cell]))[0] for cell in cells)
+    whole, best = area([tuple(a for a, _ in border)]), [None]
+
+    def look(sides, area_left, count):
+        if best[0] is not None and count >= best[0] or area_left < -1e-9:
+            return
+        if not sides:
+            best[0] = count if abs(area_left) < 1e-9 else best[0]
+            return
+        for quad in at.get(min(sides), ()):
+            left = set(sides)
+            for i in range(4):
+                side = (quad[i - 1], quad[i])
+                if side in left:
+                    left.remove(side)
+                elif side[::-1] in left:
+                    break
+                else:
+                    left.add(side[::-1])
+            else:
+                look(left, area_left - area([quad]), count + (worth[quad] < poor))
+    look(set(border), whole, 0)
+    return best[0]
+
+
+class Mending(Step):
+    hexagon, poor, good = Improvement.points, Improvement.poor, Improvement.good
+
+    def worth(self, points, quads):
+        return quality.scaled_jacobians(numpy.array(points, dtype=float), numpy.array(quads))
+
+    def test_poor_quads(self):
+        limit = self.worth(self.hexagon, self.poor).min() + 0.01
+        cover, done = finishing.mend(finishing.cover_of(self.hexagon, [], self.poor), 0.3, limit)
+        self.assertEqual((done, cells_of(cover)), (1, sorted(self.good)))
+
+    def test_what_passes_stays(self):
+        limit = self.worth(self.hexagon, self.poor).min() - 0.01
+        before = finishing.cover_of(self.hexagon, [], self.poor)
+        for words in ((0.3, limit), (0.3, limit + 0.02, 11), (0.3, limit + 0.02, 24, 1), (0.95, limit + 0.02)):
+            after, done = finishing.mend(before, *words)
+            self.assertEqual((done, cells_of(after)), (0, cells_of(before)), words)
+
+    def test_locked_edges(self):
+        limit = self.worth(self.hexagon, self.poor).min() + 0.01
+        self.assertEqual(finishing.mend(finishing.cover_of(self.hexagon, [], self.poor, locked=[(0, 3)]), 0.3, limit)[1], 0)
+
+    def test_two_triangles(self):
+        for count in (2, 3, 4):
+            points, triangles, cover = Walks().ends(count)
+            after, done = finishing.mend(cover, 0.3)
+            self.assertEqual((done, len(after.quads()), len(after.triangles())), (1, count, 0))
+            self.judge(after, points, triangles)
+
+    def test_the_fewest(self):
+        """Twelve nodes, six quads: no cover of the place has fewer poor ones than what comes out, over all covers there are."""
+        fewer = []
+        for seed in range(60):
+            chance = random.Random(seed)
+            points = [(i + chance.uniform(-0.35, 0.35), j + chance.uniform(-0.35, 0.35)) for j in range(3) for i in range(4)]
+            quads = [(4 * j + i, 4 * j + i + 1, 4 * j + i + 5, 4 * j + i + 4) for j in range(2) for i in range(3)]
+            if self.worth(points, quads).min() < 0.31 or quality.least_angles(numpy.array(points), numpy.array(quads)).min() < 25.1:
+                continue
+            border = [(0, 1), (1, 2), (2, 3), (3, 7), (7, 11), (11, 10), (10, 9), (9, 8), (8, 4), (4, 0)]
+            cover, done = finishing.mend(finishing.cover_of(points, [], quads), 0.3, 0.75, 12, 100000)
+            self.judge(cover, points, quads)
+            before, after = int((self.worth(points, quads) < 0.75).sum()), int((self.worth(points, cover.quads()) < 0.75).sum())
+            self.assertEqual(after, fewest_poor(points, border, 0.75, 0.3), seed)
+            fewer.append(before - after)
+        self.assertGreaterEqual((len(fewer), sum(fewer)), (20, 3))
+
+    def test_no_thin_triangle_is_made(self):
+        """Also where many triangles are left, of which a thin one would close others."""
+        for seed in range(8):
+            points, triangles = irregular(14, seed)
+            cover = finishing.pair(finishing.swap(finishing.cover_of(points, triangles))[0], 0.8)[0]
+            least = lambda c: quality.least_angles(numpy.array(points), c.triangles()).min()
+            after, done = finishing.mend(cover, 0.8)
+            self.assertGreater(done, 0)
+            self.assertGreaterEqual(least(after), min(15, least(cover)) - 1e-9)
+
+    def test_a_wall_in_the_patch(self):
+        """A locked edge that ends inside stays, and patches on both sides of it are mended."""
+        for seed in range(6):
+            points, triangles = irregular(10, seed)
+            cover = finishing.pair(finishing.cover_of(points, triangles), 0.3)[0]
+            locked = sorted({tuple(sorted(map(int, quad[:2]))) for quad in cover.quads()[::5]})
+            cover = finishing.cover_of(points, cover.triangles(), cover.quads(), locked)
+            after, done = finishing.mend(cover, 0.3)
+            self.assertGreater(done, 0)
+            self.judge(after, points, triangles, joints=locked)
+            count = lambda c: 2.5 * len(c.triangles()) + int((self.worth(points, c.quads()) < 0.5).sum())
+            self.assertLess(count(after), count(cover))
+
+    def test_groups_go_on(self):
+        """What lies beyond a locked border keeps its own number."""
+        points = self.hexagon + [(3, -0.5), (4, 0), (4, 1), (3, 1.5)]
+        quads = self.poor + [(2, 6, 7, 8), (8, 9, 3, 2)]
+        limit = self.worth(points, quads).min() + 0.01
+        cover, done = finishing.mend(finishing.cover_of(points, [], quads, locked=[(2, 3)], groups=[3, 3, 7, 7]), 0.3, limit)
+        self.assertEqual(done, 2)
+        self.assertEqual({turned(quad): int(group) for quad, group in zip(cover.quads(), cover.groups)},
+                         {(0, 1, 4, 5): 3, (1, 2, 3, 4): 3, (2, 6, 9, 3): 7, (6, 7, 8, 9): 7})
+
+
+class Wandering(Step):
+    """A square with a roof: cut as triangle and slanted quad, it can be cut as roof and square."""
+    points = [(0, 0), (1, 0), (1, 1), (0.5, 1.6), (0, 1)]
+    left, quad = [(0, 1, 2)], [(0, 2, 3, 4)]
+
+    def test_to_fewer_poor_quads(self):
+        cover, done = finishing.wander(finishing.cover_of(self.points, self.left, self.quad), 0.3, 0.7)
+        self.assertEqual((done, cells_of(cover)), (1, [(0, 1, 2, 4), (2, 3, 4)]))
+
+    def test_where_none_is_poor(self):
+        before = finishing.cover_of(self.points, self.left, self.quad)
+        for cover, poor in ((before, 0.6), (finishing.cover_of(self.points, self.left, self.quad, locked=[(0, 2)]), 0.7)):
+            after, done = finishing.wander(cover, 0.3, poor)
+            self.assertEqual((done, cells_of(after)), (0, cells_of(before)))
+
+    def test_irregular_meshes(self):
+        """No triangle more, and a poor quad less for each that went."""
+        total = 0
+        for seed in range(6):
+            points, triangles = irregular(15, seed)
+            cover = finishing.walk(finishing.pair(finishing.cover_of(points, triangles[1:]), 0.3)[0], 0.3, (40,))[0]
+            after, done = finishing.wander(cover, 0.3)
+            poor = lambda c: int((quality.scaled_jacobians(numpy.array(points), c.quads()) < 0.5).sum())
+            self.assertEqual(len(after.triangles()), len(cover.triangles()))
+            self.assertLessEqual(poor(after), poor(cover) - done)
+            self.judge(after, points, triangles[1:])
+            total += done
+        self.assertGreater(total, 0)
 
 
 class EvenGroups(Step):

@@ -66,7 +66,7 @@ class FirstUse(unittest.TestCase):
         """The crates that the library depends on are counted, those alone; nothing is proved twice."""
         lines = self.good('tools/library').stderr.splitlines()
         self.assertEqual([re.sub(r'(about )?\d+ min', 'N min', line) for line in lines[1:]],
-                         ['proved: crate 1 of 3 (one), N min left', 'proved: crate 2 of 3 (two), N min left', 'proved: crate 3 of 3 (library), N min in all'])
+                         ['proved: crate 1 of 3 (one), N min left', 'proved: crate 2 of 3 (two), N min left', 'proved: crate 3 of 3 (library), the archive is written, N min left'])
         self.assertIn('3 crates', lines[0])
         self.assertEqual((self.good('tools/library').stderr, self.calls()), ('', 1))
 
@@ -127,7 +127,32 @@ class FirstUse(unittest.TestCase):
 
 class Needs(unittest.TestCase):
     def run_needs(self, *words, **environment):
-        return subprocess.run([os.path.join(ROOT, 'tools', 'needs'), *words], capture_output=True, text=True, env=dict(os.environ, SEDGEPICK_APT='no', **environment))
+        return subprocess.run([os.path.join(ROOT, 'tools', 'needs'), *words], capture_output=True, text=True, env={**os.environ, 'SEDGEPICK_APT': 'no', **environment})
+
+    def with_apt(self, script, **environment):
+        """Runs it as root would, on a machine without compiler and binutils whose apt-get is this script."""
+        with tempfile.TemporaryDirectory() as folder:
+            for name in ('sh', 'tr', 'timeout', 'sleep', 'touch', 'chmod'):
+                os.symlink(shutil.which(name), os.path.join(folder, name))
+            for name, text in (('id', 'echo 0'), ('apt-get', 'echo "$*" >>%s/said\n%s' % (folder, script.replace('FOLDER', folder)))):
+                with open(os.path.join(folder, name), 'w') as file:
+                    file.write('#!/bin/sh\n%s\n' % text)
+                os.chmod(os.path.join(folder, name), 0o755)
+            ran = self.run_needs('mesh', PATH=folder, SEDGEPICK_APT='yes', **environment)
+            with open(os.path.join(folder, 'said')) as file:
+                return ran, file.read()
+
+    def test_installed(self):
+        ran, said = self.with_apt('case "$*" in *install*) for name in cc objcopy; do touch FOLDER/$name; chmod +x FOLDER/$name; done ;; esac')
+        self.assertEqual((ran.returncode, ran.stderr), (0, 'needs: installing gcc libc6-dev binutils\n'))
+        self.assertRegex(said, '(?s)update\n.*install gcc libc6-dev binutils\n')
+
+    def test_no_network(self):
+        """It goes on with words where apt fails, or does not end."""
+        for script in ('exit 100', 'exec sleep 60'):
+            ran, _ = self.with_apt(script, SEDGEPICK_APT_SECONDS='1')
+            self.assertEqual(ran.returncode, 1)
+            self.assertIn('needs: missing are gcc libc6-dev binutils; type: apt install gcc libc6-dev binutils\n', ran.stderr)
 
     def test_nothing_is_missing(self):
         """The tests run, so what they need is there."""

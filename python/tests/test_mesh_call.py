@@ -171,6 +171,36 @@ class Call(unittest.TestCase):
         plain = sedgepick.mesh(points, triangles)
         self.assertEqual(sorted(map(sorted, mesh.quads.tolist())), sorted(map(sorted, plain.quads.tolist())))
 
+    def test_a_plane_in_any_position(self):
+        """A slab that leans: the quads are those of the slab that lies, its nodes stay bit for bit."""
+        points, triangles = shaken(9, 7)
+        along, across = numpy.array([0.6, 0.64, 0.48]), numpy.array([-0.8, 0.48, 0.36])
+        leaning = points[:, :1] * along + points[:, 1:] * across + numpy.array([5.0, -3.0, 11.0])
+        mesh = sedgepick.mesh(leaning, triangles, lines=[(12, 13)])
+        self.assertTrue(mesh.accepted)
+        numpy.testing.assert_array_equal(mesh.points, leaning)
+        self.assertEqual(exact_judge.faults(points, triangles.tolist(), mesh.quads.tolist(), mesh.triangles.tolist(), [(12, 13)]), [])
+        raw = sedgepick.mesh(leaning, triangles, size=0.4, raw=True)
+        normal = numpy.cross(along, across)
+        self.assertGreater(raw.nodes_added, 0)
+        self.assertLess(abs((raw.points - leaning[0]) @ normal).max(), 1e-9)
+
+    def test_several_planes(self):
+        """A slab and a wall on it, which share a row of nodes: one mesh, the nodes under their numbers."""
+        points, triangles = shaken(8, 6)
+        slab = numpy.column_stack([points, numpy.zeros(len(points))])
+        wall = numpy.column_stack([points[:, 0], numpy.full(len(points), 6.0), points[:, 1]])
+        number = numpy.where(points[:, 1] == 0, numpy.arange(len(points)) + 9 * 6, numpy.arange(len(points)) + len(points) - 9)
+        both = numpy.concatenate([slab, wall[9:]])
+        mesh = sedgepick.mesh(both, numpy.concatenate([triangles, number[triangles]]))
+        self.assertTrue(mesh.accepted, str(mesh))
+        numpy.testing.assert_array_equal(mesh.points, both)
+        shared = {frozenset((54 + x, 55 + x)) for x in range(8)}
+        for own in ({node for node in range(63)}, set(number.tolist())):
+            cells = [cell for cell in [*mesh.quads.tolist(), *mesh.triangles.tolist()] if set(cell) <= own]
+            sides = {frozenset(side) for cell in cells for side in zip(cell, cell[1:] + cell[:1])}
+            self.assertTrue(shared <= sides)
+
     def test_lists_do_as_well(self):
         points, triangles = shaken(5, 4)
         mesh = sedgepick.mesh(points.tolist(), [tuple(cell) for cell in triangles.tolist()], [(6, 7)], [9])

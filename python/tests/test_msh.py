@@ -10,6 +10,42 @@ if meshio:
 
 GIVEN = sorted(glob.glob(os.path.join(ROOT, 'examples', '**', '*.msh'), recursive=True))
 WITHOUT = 'import sys; sys.modules["meshio"] = None; sys.path.insert(0, %r); sys.dont_write_bytecode = True; from sedgepick.command import main; sys.exit(main(%r))'
+# a square whose surface is in two groups; number 1 is a group of curves and another of surfaces
+SQUARE = b'''$MeshFormat
+4.1 0 8
+$EndMeshFormat
+$PhysicalNames
+3
+1 1 "edge"
+2 1 "slab"
+2 5 "wet room"
+$EndPhysicalNames
+$Entities
+0 1 1 0
+7 0 0 0 1 0 0 1 1 0
+3 0 0 0 1 1 0 2 5 1 1 7
+$EndEntities
+$Nodes
+1 4 11 14
+2 3 0 4
+11
+12
+13
+14
+0 0 0
+1 0 0
+1 1 0
+0 1 0
+$EndNodes
+$Elements
+2 3 1 3
+1 7 1 1
+1 11 12
+2 3 2 2
+2 11 12 13
+3 11 13 14
+$EndElements
+'''
 
 
 def setUpModule():
@@ -41,8 +77,20 @@ class Reader(unittest.TestCase):
                 self.assertEqual([(block.type, block.data.tolist()) for block in own.cells], [(block.type, block.data.tolist()) for block in theirs.cells])
                 self.assertEqual(own.points.tolist(), theirs.points.tolist())
 
-    def test_two_groups_and_none(self):
-        """An entity in two groups, and one in none, which meshio 5.0.0 does not read."""
+    def test_groups(self):
+        """The first group of an entity is its number; it is in the sets of all of them, by dimension."""
+        own = msh.read_gmsh(SQUARE)
+        with tempfile.NamedTemporaryFile(suffix='.msh') as file, files.quiet():
+            file.write(SQUARE)
+            file.flush()
+            self.assertEqual(taken(own), taken(meshio.read(file.name, file_format='gmsh')))
+        surface = files.surface_of(own)
+        self.assertEqual((surface.triangles.tags['gmsh:physical'].tolist(), surface.lines.tags['gmsh:physical'].tolist()), ([5, 5], [1]))
+        self.assertEqual({name: has.tolist() for name, has in surface.triangles.sets.items()}, {'edge': [False] * 2, 'slab': [True] * 2, 'wet room': [True] * 2})
+        self.assertEqual({name: has.tolist() for name, has in surface.lines.sets.items()}, {'edge': [True], 'slab': [False], 'wet room': [False]})
+
+    def test_an_entity_without_group(self):
+        """Its cells have the number 0; meshio 5.0.0 does not read such a file."""
         text = content_of('l-slab-41.msh').decode()
         lines = text.split('\n')
         begin, end = lines.index('$Entities') + 1, lines.index('$EndEntities')
@@ -97,6 +145,7 @@ class Strict(unittest.TestCase):
         self.says('.EndNodes is missing', self.changed('l-slab-41.msh', b'$EndNodes', b'$EndNoses'))
         blocks, count = content_of('l-slab-41.msh').split(b'$Nodes\n')[1].split()[:2]
         self.says('the section says 1000 nodes and has %d' % int(count), self.changed('l-slab-41.msh', b'$Nodes\n%s %s' % (blocks, count), b'$Nodes\n%s 1000' % blocks))
+        self.says('the section says 4 elements and has 3', SQUARE.replace(b'$Elements\n2 3', b'$Elements\n2 4'))
         self.says('there are more numbers than the section says', self.changed('l-slab-41.msh', b'\n$EndElements', b'\n7\n$EndElements'))
         self.says('the section stands twice', content_of('l-slab-41.msh') + b'$Nodes\n0 0 0 0\n$EndNodes\n')
         self.says('Nodes should stand before .Elements', b'$MeshFormat\n4.1 0 8\n$EndMeshFormat\n$Elements\n0 0 0 0\n$EndElements\n')

@@ -145,5 +145,24 @@ class Left(Case):
             self.assertEqual(sorted(os.listdir(self.folder)), sorted([os.path.basename(used), '.sedgepick-abcd12345', '.sedgepick-notes', 'out.msh']))
 
 
+
+class Race(Case):
+    def test_a_folder_that_another_run_removes(self):
+        """Two runs at once: what one removes before the other has locked it is made anew."""
+        plain, made = tempfile.mkdtemp, []
+
+        def mkdtemp(*words, **more):
+            made.append(plain(*words, **more))
+            if len(made) == 1:
+                os.rmdir(made[0])
+            return made[-1]
+        tempfile.mkdtemp = mkdtemp
+        try:
+            with outputs.Folder(self.folder) as folder:
+                self.assertEqual((folder, os.path.isdir(folder)), (made[1], True))
+        finally:
+            tempfile.mkdtemp = plain
+
+
 if __name__ == '__main__':
     unittest.main()

@@ -4,6 +4,7 @@ from case import COMMAND, Case, meshio, set_up
 from common import FILES
 
 if meshio:
+    import numpy
     from sedgepick import files, surfaces, writing
 
 L_SLAB = os.path.join(FILES, 'l-slab-41.msh')
@@ -13,7 +14,7 @@ def setUpModule():
     set_up()
 
 
-class Reading(Case):
+class Given(Case):
     def put(self, name, content):
         with open(self.path(name), 'wb') as file:
             file.write(content if isinstance(content, bytes) else content.encode())
@@ -34,6 +35,8 @@ class Reading(Case):
             signal.alarm(0)
             signal.signal(signal.SIGALRM, before)
 
+
+class Reading(Given):
     def test_the_line(self):
         """A wrong word is found where it stands."""
         for name, line in (('l-slab-22.msh', 40), ('l-slab-22.msh', 160), ('l-slab-41.msh', 215), ('l-slab.inp', 20), ('l-slab-meshio.obj', 20), ('l-slab-meshio.off', 60), ('l-slab-meshio.mesh', 60)):
@@ -63,8 +66,9 @@ class Reading(Case):
         wild = bytes((i * 7919 + i // 13) % 256 for i in range(3000))
         for suffix, form in [(suffix, None) for suffix in files.READ] + [('.ply', 'ply'), ('.dat', 'tecplot'), ('.vol', 'netgen'), ('.avs', 'avsucd')]:
             with self.subTest(suffix):
-                self.says('meshio (cannot read it as|needs the Python module h5py)|no triangles', 'wild' + suffix, wild, form)
-                self.says('meshio (cannot read it as|needs the Python module h5py)|no triangles', 'words' + suffix, 'not a mesh\n1 2 3\n', form)
+                words = 'it is no universal file' if suffix == '.unv' else 'meshio (cannot read it as|needs the Python module h5py)|no triangles'
+                self.says(words, 'wild' + suffix, wild, form)
+                self.says(words, 'words' + suffix, 'not a mesh\n1 2 3\n', form)
 
     def test_a_cell_with_a_wrong_node(self):
         self.says('triangle 2 names node 9, and the file has the nodes 1 to 4: mend that cell', 'a.off', 'OFF\n4 2 0\n0 0 0\n1 0 0\n1 1 0\n0 1 0\n3 0 1 2\n3 0 2 8\n')
@@ -127,6 +131,86 @@ class Writing(Case):
         for word in ('small', 'nan', '-1', 'inf'):
             self.assertIn("'%s' is no size: a length in the units of the file, 0 or auto" % word, self.run_command(L_SLAB, '-o', self.out, '--size=' + word).stderr)
         self.assertIn("'0' is not a whole number from 1 on", self.run_command(L_SLAB, '-o', self.out, '--jobs', '0').stderr)
+
+
+class Gmsh(Given):
+    """Files of Gmsh that meshio does not read."""
+
+    def same(self, name, far):
+        """The triangles and lines of a file against those of the .msh that Gmsh wrote of the same geometry."""
+        wanted, found = files.read(os.path.join(FILES, 'l-slab-41.msh')), files.read(os.path.join(FILES, name))
+        key = lambda surface, cells: sorted(tuple(sorted(tuple(point) for point in numpy.round(surface.points[cell] / far).astype(int).tolist())) for cell in cells)
+        self.assertEqual(key(found, found.triangles.cells), key(wanted, wanted.triangles.cells))
+        self.assertEqual(key(found, found.lines.cells), key(wanted, wanted.lines.cells))
+        return wanted, found
+
+    def test_unv(self):
+        wanted, found = self.same('l-slab.unv', 1e-12)
+        self.assertEqual(len(found.points), len(wanted.points))
+        for own in ('triangles', 'lines'):
+            sets = lambda surface: {name: int(has.sum()) for name, has in getattr(surface, own).sets.items() if has.any()}
+            self.assertEqual(sets(found), sets(wanted))
+
+    def test_bdf_without_begin(self):
+        content = self.given('l-slab.bdf')
+        self.assertNotIn(b'BEGIN BULK', content)
+        wanted, found = self.same('l-slab.bdf', 1e-4)
+        again = files.read(self.put('a.bdf', b'SOL 101\nBEGIN BULK\n' + content))
+        self.assertEqual(again.triangles.cells.tolist(), found.triangles.cells.tolist())
+        self.says("line 40, 'GRID", 'b.bdf', b'\n'.join(content.split(b'\n')[:39] + [b'GRID    x       0       0.00E+000.00E+000.00E+00']))
+
+    UNV = """    -1
+  2411
+         1         1         1        11
+   0.0D+00   0.0D+00   0.0D+00
+         2         1         1        11
+   1.0D+00   0.0D+00   0.0D+00
+         9         1         1        11
+   1.0D+00   1.0D+00   0.0D+00
+         4         1         1        11
+   0.0D+00   1.0D+00   0.0D+00
+    -1
+    -1
+  2420
+         1
+    -1
+    -1
+  2412
+         5        21         1         0         7         2
+         0         0         0
+         1         2
+         7        91         1         0         7         3
+         1         2         9
+         8        41         1         0         7         3
+         1         9         4
+    -1
+    -1
+  2467
+         1         0         0         0         0         0         0         3
+both kinds
+         8         5         0         0         8         7         0         0
+         7         4         0         0
+         2         0         0         0         0         0         0         1
+points
+         8        77         0         0
+    -1
+"""
+
+    def test_unv_by_hand(self):
+        found = files.read(self.put('a.unv', self.UNV))
+        self.assertEqual((found.triangles.cells.tolist(), found.lines.cells.tolist()), ([[0, 1, 2], [0, 2, 3]], [[0, 1]]))
+        self.assertEqual((found.triangles.sets['both kinds'].tolist(), found.lines.sets['both kinds'].tolist(), found.hard['both kinds'].tolist()), ([True, False], [True], [3]))
+        self.assertIn('the group points has 1 elements that the file does not have', found.notes[0])
+
+    def test_unv_in_words(self):
+        self.says('element 8 names node 5, which is not in the file', 'a.unv', self.UNV.replace('1         9         4', '1         9         5'))
+        self.says("it stops at line 4, '0.0D\\+00   x   0.0D\\+00'", 'a.unv', self.UNV.replace('   0.0D+00   0.0D+00   0.0D+00', '   0.0D+00   x   0.0D+00', 1))
+        self.says('element 7 has descriptor 99 and 3 nodes', 'a.unv', self.UNV.replace('7        91', '7        99'))
+        self.says('element 8 has descriptor 41 and 4 nodes', 'a.unv', self.UNV.replace('         8        41         1         0         7         3', '         8        41         1         0         7         4'))
+        self.says('its last dataset has no end', 'a.unv', self.UNV[:-7])
+        self.says('a dataset breaks off at line', 'a.unv', self.UNV.replace('         1         9         4\n', ''))
+        self.says('node 1 stands at two places', 'a.unv', self.UNV.replace('         4         1         1        11', '         1         1         1        11'))
+        self.says('second order', 'a.unv', self.UNV.replace('         8        41         1         0         7         3\n         1         9         4', '         8        42         1         0         7         6\n         1         9         4         1         2         9'))
 
 
 if __name__ == '__main__':

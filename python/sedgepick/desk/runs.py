@@ -3,9 +3,10 @@ desk that does. Started as `python3 -m sedgepick.desk.runs`; the task is a line 
 import json, os, resource, signal, sys, threading, time
 from datetime import datetime
 import numpy
-from .. import command, files, library, losses, options, parts, preview_edges, preview_page, quality, report, sheets, sizes, slits, steps_page, surfaces
+from .. import files, library, losses, mesh_files, meshing, options, parts, preview_edges, preview_page, quality, report, sheets, sizes, slits, steps_page, surfaces
 from ..apart import lower
-from ..front import MOST_GIVEN
+from ..front import EVEN_COMPONENTS, MOST_GIVEN, Refused
+from ..previews import KINDS
 from . import fields, packing, papers
 
 DATA, MESH, REPORT, SHEET, TABLE = 'data.bin', 'mesh', 'report.html', 'sheet.html', 'quality.csv'
@@ -55,7 +56,7 @@ def main():
     try:
         facts = {'read': read, 'front': look, 'mesh': mesh}[task['kind']](task, Told())
         say(state='done', **facts)
-    except (surfaces.Fault, library.NoLibrary, command_refusal(), OSError) as fault:
+    except (surfaces.Fault, library.NoLibrary, Refused, OSError) as fault:
         refuse(str(fault))
     except MemoryError:
         refuse('it takes over %d MB of memory' % task['megabytes'])
@@ -71,11 +72,6 @@ def read_line():
             break
         found += part
     return found
-
-
-def command_refusal():
-    from ..front import Refused
-    return Refused
 
 
 def refuse(words):
@@ -102,8 +98,8 @@ def taken(task, told, words=()):
     chosen = options.arguments([*words, '--output=' + output, '--', task['name']], '')
     surface = files.read(task['path'], None, chosen.limits)
     surface.name = surfaces.visible(task['name'])
-    work = command.Work(chosen, surfaces.checked(surface, False))
-    work.given_components = int(quality.components(surface.triangles.cells).max()) + 1
+    surface = surfaces.checked(surface, chosen.settings.flatten)
+    work = mesh_files.Work(surface, chosen.settings, options=chosen, given_components=int(quality.components(surface.triangles.cells).max()) + 1)
     lock(surface, task.get('joints', ()))
     return work
 
@@ -136,8 +132,9 @@ def lock(surface, pairs):
 
 def planned(work):
     """Cuts the work into parts."""
-    chosen, surface = work.options, work.surface
-    work.plan = parts.planned(surface.points, surface.triangles.cells, 0.0 if chosen.grid else chosen.size, losses.hard(surface), chosen.grid, False, chosen.stop == 1)
+    settings, surface = work.settings, work.surface
+    hard = losses.hard(surface, settings.free)
+    work.plan = parts.planned(surface.points, surface.triangles.cells, 0.0 if settings.grid else settings.size, hard, settings.grid, False, settings.stop == EVEN_COMPONENTS)
     surface.notes += work.plan.told
 
 
@@ -190,7 +187,7 @@ def look(task, told):
     told.stage('Looking at the front', 0, plan.count())
     first = None if chosen.raw or chosen.size is not None or chosen.grid else [taken_size(plan.fitted(which)) for which in range(plan.count())]
     found = work.looked = preview_edges.looked(plan, chosen.stop, chosen.quality, first, told_part)
-    kinds = [None, *preview_edges_kinds()]
+    kinds = [None, *KINDS]
     corners = numpy.array([edge.corners if edge.nodes else numpy.zeros((4, 2)) for edge in found.edges], dtype='<f8').reshape(-1, 8)
     facts = {'words': [preview_page.edge_words(work, edge) for edge in found.edges], 'kinds': kinds[1:], 'summary': preview_page.summary(work).split(': ', 1)[1],
              'locked': int(sum(found.joints)), 'size': report.size_words(chosen, found.sizes), 'caution': preview_page.CAUTION}
@@ -199,11 +196,6 @@ def look(task, told):
                         'jacobians': numpy.array([edge.jacobian for edge in found.edges], dtype='<f4'),
                         'cost': words32([(edge.shown.insertions, edge.shown.flips) for edge in found.edges])})
     return {}
-
-
-def preview_edges_kinds():
-    from ..previews import KINDS
-    return list(KINDS)
 
 
 def taken_size(own):
@@ -235,15 +227,15 @@ def mesh(task, told):
     work.outputs = Room(task['folder'])
     told.stage('Cutting it into parts' if len(surface.triangles.cells) > MOST_GIVEN else 'Running the front')
     planned(work)
-    call = sizes.best_run if chosen.raw else sizes.first_run
     steps = len(surface.triangles.cells) <= MOST_STEPS
     told.stage('Running the front', 0, work.plan.count())
-    result = parts.ran(work.plan, chosen.stop, chosen.quality, lambda done, count: told.stage('Running the front', done, count), None, call, trace=True)
+    result = parts.ran(work.plan, chosen.stop, chosen.quality, lambda done, count: told.stage('Running the front', done, count), chosen.jobs, meshing.chosen(work.settings, work.plan), trace=True)
     rounds = rounds_of(work.plan, result)
     told.stage('Closing what is left' if not chosen.raw else 'Checking the mesh')
-    command.finished(work, result)
+    meshing.finish(work, result)
+    mesh_files.check_losses(work)
     told.stage('Writing the mesh and judging it')
-    command.written(work)
+    mesh_files.written(work)
     work.seconds = time.perf_counter() - begin
     told.stage('Writing the report and the sheet')
     finished = drawn_facts(work, rounds)
@@ -287,7 +279,7 @@ def drawn_facts(work, rounds):
     order = lambda values: numpy.argsort(values, kind='stable')[:WORST].tolist()
     facts = {'name': surface.name, 'output': work.options.output, 'sha256': surface.sha256, 'output_sha256': work.outputs.digest(work.options.output), 'summary': report.summary(work),
              'verdict': [[str(name), str(words)] for name, words in work.verdict], 'accepted': True, 'warnings': list(map(plain, work.warnings)), 'notes': surface.notes,
-             'quads': len(result.quads), 'left': len(result.triangles), 'added': len(result.added), 'dropped': report.orphans(work), 'seconds': work.seconds,
+             'quads': len(result.quads), 'left': len(result.triangles), 'added': len(result.added), 'dropped': meshing.dropped(work), 'seconds': work.seconds,
              'least_jacobian': float(jacobians.min()) if len(jacobians) else None, 'least_angle': float(least.min()) if len(least) else None,
              'mean_jacobian': float(jacobians.mean()) if len(jacobians) else None,
              'worst_quads': order(jacobians), 'worst_triangles': order(angles), 'losses': [loss.words() for loss in work.losses], 'rounds': max(own, default=0),

@@ -9,6 +9,8 @@ a whole by the proved `accept`. Each step is a function from a cover to a cover,
     pair           two triangles to a quad
     walk           leftover triangles through quads, until two meet
     improve        poor quads
+    mend           patches around poor quads and leftover triangles
+    wander         leftover triangles to where they leave fewer poor quads
     even_groups    for the even rule: no odd group of leftover triangles but where a piece of the mesh is odd
 
 Pairs and walks are held to a better scaled Jacobian first (STAGES) and to that of the quality set then.
@@ -26,16 +28,19 @@ from ..front import FAR, Quality
 from .covers import NONE, Cover, Overlaps, cover_of
 from .even_groups import even_groups
 from .improvement import improve
+from .mending import POOR, mend
 from .pairing import pair
 from .swaps import swap
 from .taking_back import THIN, take_back
 from .taking_in import take_in
-from .walks import walk
+from .walks import REACHES, walk
+from .wandering import wander
 
 STAGES = (0.5,)        # least scaled Jacobians that pairs and walks are held to before the quality set's own
 BETTER = (0.4, 0.5, 0.6)  # what poor quads are improved to, where that can be
+MOST_POOR = (2, 2, 4)  # quads that the walks of a round may make poor, two triangles counting as five; the last where over 1 % of the cells are triangles
 
-__all__ = ['BETTER', 'Cover', 'Finished', 'Overlaps', 'STAGES', 'Step', 'THIN', 'cover_of', 'even_groups', 'finish', 'improve', 'pair', 'swap', 'take_back', 'take_in', 'walk']
+__all__ = ['BETTER', 'Cover', 'Finished', 'Overlaps', 'STAGES', 'Step', 'THIN', 'cover_of', 'even_groups', 'finish', 'improve', 'mend', 'pair', 'swap', 'take_back', 'take_in', 'walk', 'wander']
 
 
 @dataclass(frozen=True)
@@ -92,10 +97,17 @@ def finish(points, triangles, quads, locked=(), *, quality=None, thin=THIN, even
     step('taken back', take_back, thin)
     for limit in sorted({max(stage, least) for stage in (*STAGES, least)}, reverse=True):
         step('paired at %g' % limit, pair, limit)
-        step('walked at %g' % limit, walk, limit)
+        step('walked at %g' % limit, walk, limit, REACHES[:-1], POOR, MOST_POOR[0])
     for limit in BETTER:
         if limit > least:
             step('improved to %g' % limit, improve, limit)
+    step('mended', mend, least)
+    for most_poor in MOST_POOR:
+        if most_poor <= MOST_POOR[0] or 100 * (cover.cells[:, 3] == NONE).sum() > len(cover.cells):
+            step('wandered', wander, least)
+            step('walked on', walk, least, (REACHES[0], REACHES[-1]), POOR, most_poor)
+            if steps[-2].done + steps[-1].done:
+                step('mended', mend, least)
     if even:
         step('evened', even_groups, thin)
     is_quad = cover.cells[:, 3] != NONE

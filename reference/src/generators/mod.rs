@@ -2,6 +2,7 @@
 
 mod extremes;
 mod grids;
+#[allow(dead_code)] // the benchmarks alone use it, through the library
 pub mod hubs;
 pub mod joints;
 pub mod judged;

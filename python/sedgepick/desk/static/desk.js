@@ -72,6 +72,7 @@ function list(id, rows) {
 }
 
 const number = (value, digits = 4) => value === null || value === undefined ? 'none' : Number(value.toPrecision(digits)).toLocaleString('en', {maximumFractionDigits: 8, useGrouping: false});
+const upper = words => words.charAt(0).toUpperCase() + words.slice(1);
 const whole = value => value.toLocaleString('en');
 const many = (count, word) => whole(count) + ' ' + word + (count === 1 ? '' : 's');
 
@@ -89,7 +90,7 @@ function busy(words) {
 
 function style() {
   const found = getComputedStyle(document.documentElement), of = name => found.getPropertyValue('--' + name).trim();
-  return {line: of('mesh-line'), paper: of('board'), kept: of('kept'), edge: of('edge'), lock: of('lock'), ink: of('ink'), accent: of('accent')};
+  return {line: of('mesh-line'), paper: of('board'), kept: of('kept'), halo: of('halo'), edge: of('edge'), lock: of('lock'), ink: of('ink'), accent: of('accent')};
 }
 
 const view = new View($('canvas'), {style: style(), over: overlay, moved: showScale});
@@ -118,7 +119,7 @@ function roundColours(count) {
   });
 }
 
-const keptLines = found => [{pairs: found.kept, colour: 'kept', width: 3}];
+const keptLines = found => [{pairs: found.kept, colour: 'kept', width: 3, halo: true}];
 const keptDots = found => [{nodes: found.kept_nodes, colour: 'kept', radius: 4.5}];
 
 function givenPicture() {
@@ -185,7 +186,7 @@ function frontPicture() {
   return picture;
 }
 
-const blank = () => document.documentElement.dataset.theme === 'dark' ? '#2b343c' : '#e9edf0';
+const blank = () => document.documentElement.dataset.theme === 'dark' ? '#525e69' : '#e9edf0';
 
 function showLegend() {
   const rows = view.picture && view.picture.legend || [], made = [];
@@ -205,10 +206,12 @@ function showLegend() {
 function swatch(fill) {
   const made = document.createElementNS('http://www.w3.org/2000/svg', 'svg'), kept = fill === 'kept';
   made.setAttribute('viewBox', '0 0 22 13');
-  const shape = document.createElementNS('http://www.w3.org/2000/svg', kept ? 'path' : 'rect');
-  const set = kept ? {d: 'M2 6.5h18', stroke: view.style.kept, 'stroke-width': 3.5, 'stroke-linecap': 'round'} : {x: 0.5, y: 0.5, width: 21, height: 12, fill, stroke: view.style.edge, rx: 2};
-  for (const [name, value] of Object.entries(set)) shape.setAttribute(name, value);
-  made.append(shape);
+  const line = (stroke, width) => ({d: 'M3 6.5h16', stroke, 'stroke-width': width, 'stroke-linecap': 'round'});
+  for (const set of kept ? [line(view.style.halo, 6), line(view.style.kept, 3.5)] : [{x: 0.5, y: 0.5, width: 21, height: 12, fill, stroke: view.style.edge, rx: 2}]) {
+    const shape = document.createElementNS('http://www.w3.org/2000/svg', kept ? 'path' : 'rect');
+    for (const [name, value] of Object.entries(set)) shape.setAttribute(name, value);
+    made.append(shape);
+  }
   return made;
 }
 
@@ -547,7 +550,7 @@ function wrong(name, words) {
   const said = $('field-' + name + '-fault');
   box.classList.toggle('wrong', Boolean(words));
   $('field-' + name).setAttribute('aria-invalid', Boolean(words));
-  said.textContent = words;
+  said.textContent = upper(words);
   said.hidden = !words;
   if (words && box.closest('details')) $('quality').open = true;
 }
@@ -602,7 +605,7 @@ function opened(name, words) {
 }
 
 function fault(id, words) {
-  $(id).textContent = words;
+  $(id).textContent = upper(words);
   $(id).hidden = !words;
 }
 
@@ -671,7 +674,7 @@ async function look() {
     state.front = front;
     if (state.view === 'front') {
       draw();
-      tell(front.summary[0].toUpperCase() + front.summary.slice(1) + '. Point at an edge.');
+      tell(upper(front.summary) + '. Point at an edge.');
     }
   } catch (refusal) {
     if (mine === state.looking) refused({words: refusal.message, fields: refusal.fields});
@@ -757,7 +760,7 @@ function showVerdict(task, done) {
   $('verdict-says').textContent = done.accepted ? 'Accepted' : 'Not accepted';
   const share = 100 * done.quads / Math.max(1, done.quads + done.left);
   list('numbers', [['quads', whole(done.quads) + ' · ' + share.toFixed(1) + ' %'], ['triangles', whole(done.left)], ['least angle', number(done.least_angle) + '°'],
-    ['least Jacobian', number(done.least_jacobian, 3)], ['mean Jacobian', number(done.mean_jacobian, 3)], ['nodes added, dropped', done.added + ', ' + done.dropped], ['time', done.seconds.toFixed(1) + ' s']]);
+    ['least Jacobian', number(done.least_jacobian, 3)], ['mean Jacobian', number(done.mean_jacobian, 3)], ['nodes added', whole(done.added)], ['nodes dropped', whole(done.dropped)], ['time', done.seconds.toFixed(1) + ' s']]);
   $('warnings').replaceChildren(...done.warnings.map(words => element('p', words, {class: 'warning'})));
   for (const which of ['mesh', 'report', 'sheet', 'table']) $('get-' + which).href = 'task/' + task + '/out/' + which;
   $('get-mesh').textContent = 'Mesh ' + done.output.slice(done.output.lastIndexOf('.'));
@@ -940,6 +943,7 @@ function listen() {
   $('step-back').addEventListener('click', () => { play(false); step(state.step - 1); });
   $('step-on').addEventListener('click', () => { play(false); step(state.step + 1); });
   $('step-play').addEventListener('click', () => play(state.timer === null));
+  $('cell-close').addEventListener('click', () => pick(null));
   $('show-sheet').addEventListener('click', showSheet);
   $('print').addEventListener('click', () => { $('paper').contentWindow.focus(); $('paper').contentWindow.print(); });
   $('close-sheet').addEventListener('click', () => $('sheet').close());

@@ -259,11 +259,16 @@ class Painter {
   over() {
     const {context, picture, scale, left, top, ratio} = this, {points} = picture;
     context.lineCap = context.lineJoin = 'round';
-    for (const {pairs, colour, width} of picture.lines) {
+    for (const {pairs, colour, width, halo} of picture.lines) {
       context.beginPath();
       for (let i = 0; i < pairs.length; i += 2) {
         context.moveTo(left + points[2 * pairs[i]] * scale, top - points[2 * pairs[i] + 1] * scale);
         context.lineTo(left + points[2 * pairs[i + 1]] * scale, top - points[2 * pairs[i + 1] + 1] * scale);
+      }
+      if (halo) {  // light around dark, so that the line stands on cells of any colour
+        context.strokeStyle = this.style.halo;
+        context.lineWidth = (width + 2.4) * ratio;
+        context.stroke();
       }
       context.strokeStyle = this.style[colour] || colour;
       context.lineWidth = width * ratio;
@@ -279,7 +284,7 @@ class Painter {
       context.fillStyle = this.style[colour] || colour;
       context.fill();
       context.lineWidth = 1.2 * ratio;
-      context.strokeStyle = this.style.paper;
+      context.strokeStyle = this.style.halo;
       context.stroke();
     }
   }
@@ -296,7 +301,7 @@ class View {
     this.picture = null;
     this.shown = null;    // the bitmap that is shown, and the painter of the next
     this.painter = null;
-    this.touched = 0;
+    this.zoomed = 0;      // when the scale changed last
     this.asked = false;
     this.frames = 0;
     this.pointers = new Map();
@@ -368,7 +373,8 @@ class View {
 
   touch(fitted = false) {
     this.fitted = fitted;
-    this.touched = performance.now();
+    if (this.camera.scale !== this.before) this.zoomed = performance.now();
+    this.before = this.camera.scale;
     this.moved();
     this.request();
   }
@@ -404,7 +410,7 @@ class View {
     }
     if (this.painter && this.painter.camera.scale !== this.camera.scale) this.painter = null;
     if (!this.painter) {
-      if (!small && this.shown && now - this.touched < REST) return false;
+      if (!small && this.shown && now - this.zoomed < REST) return false;
       this.painter = new Painter(this.picture, this.camera, this.width * (1 + 2 * MARGIN), this.height * (1 + 2 * MARGIN), this.ratio, this.style);
     }
     if (!this.painter.paint(small ? Infinity : now + SLICE)) return false;
