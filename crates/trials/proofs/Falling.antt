@@ -29,7 +29,7 @@ use Rattle.trials.proofs.Rating.{kept-one, kept-same}
 -- ---- two trials
 
 -- of two numbers the second is at most the first where the first is not below it
-not-below : (u v : Float) → T (not (isNan u)) → T (not (isNan v)) → (u ≺ v) ≡ false → (v ≼ u) ≡ true
+pub not-below : (u v : Float) → T (not (isNan u)) → T (not (isNan v)) → (u ≺ v) ≡ false → (v ≼ u) ≡ true
 unfolding _≺_ _≼_
 not-below u v hu hv e = elim (le-or-lt u v hu hv) [ inl l ↦ of-T _ l | inr l ↦ never _ (of-T _ l) e ]
 
@@ -65,12 +65,12 @@ falling-insert x (y ∷ l) n h = go (trial-before y x) refl (falling-insert x l 
         let f = after-no-better x y n (h .0) e in
         subst (λ (k : List Trial). Falling k) (sym (insert-no trial-before x y l e)) (n, (f, no-better x y l f (h .1)), h)
 
-falling-onto : (xs l : List Trial) → All Number xs → Falling l → Falling (onto trial-before xs l)
+pub falling-onto : (xs l : List Trial) → All Number xs → Falling l → Falling (onto trial-before xs l)
 unfolding onto
 falling-onto [] l m h = h
 falling-onto (x ∷ xs) l m h = falling-insert x (onto trial-before xs l) (m .0) (falling-onto xs l (m .1) h)
 
-falling-take : (n : ℕ) (l : List Trial) → Falling l → Falling (take n l)
+pub falling-take : (n : ℕ) (l : List Trial) → Falling l → Falling (take n l)
 falling-take zero l h = tt
 falling-take (suc n) [] h = tt
 falling-take (suc n) (x ∷ l) h = (h .0, all-take (NoBetter x) n l (h .1), falling-take n l (h .2))
@@ -114,12 +114,12 @@ all-numbers f l h = all-flat-map Number f l (λ i _. h (getD l i 0))
 -- ---- a trial that is outdone
 
 -- a score is at most the scaled Jacobian
-score-below : (sj c z : Float) → (sj ≺ z) ≡ true → (score (measured sj c) ≺ z) ≡ true
+pub score-below : (sj c z : Float) → (sj ≺ z) ≡ true → (score (measured sj c) ≺ z) ≡ true
 unfolding score lesser
 score-below sj c z h = cond-ok (λ x. (x ≺ z) ≡ true) _ _ sj (λ e. lt-le-trans _ sj z e (lt-le sj z h)) (λ _. h)
 
 -- what holds of all holds of the one at i
-all-get : (P : Trial → Type 0) (l : List Trial) (i : ℕ) (d : Trial) → i < length l → All P l → P (getD l i d)
+pub all-get : (P : Trial → Type 0) (l : List Trial) (i : ℕ) (d : Trial) → i < length l → All P l → P (getD l i d)
 all-get P [] i d h k = absurd (not-suc-le-zero h)
 all-get P (y ∷ l) zero d h k = k .0
 all-get P (y ∷ l) (suc i) d h k = all-get P l i d (le-of-suc-le-suc h) (k .1)
@@ -143,7 +143,7 @@ last-dropped x [] h = refl
 last-dropped x (y ∷ l) h = rw (h .0) (ap (λ (t : List Trial). y ∷ t) (last-dropped x l (h .1)))
 
 module _ (s : List Float) (v : List ℕ) (count pairs : ℕ) (sj : Float) (f : Falling (listed s v count)) (o : Outdone s count pairs sj) where
-  dropped : (x : Trial) → (x .score ≺ getD s (count - 1) nan) ≡ true → Keeps s v pairs count (take pairs (insert trial-before x (listed s v count)))
+  pub dropped : (x : Trial) → (x .score ≺ getD s (count - 1) nan) ≡ true → Keeps s v pairs count (take pairs (insert trial-before x (listed s v count)))
   unfolding row
   dropped x h =
       let l = listed s v count in

@@ -4,3 +4,5 @@ pub mod Steps
 pub mod Rating
 pub mod Rounds
 pub mod Falling
+pub mod Reaching
+pub mod Corners

@@ -24,7 +24,7 @@ flat-map-same f g [] h = refl
 flat-map-same f g (x ∷ xs) h = rw (h 0 (omega arith), flat-map-same f g xs (λ i u. h (suc i) (omega arith)))
 
 -- one element more
-cons-map : {B : Type 0} (f : ℕ → List B) (l : List ℕ) (i : ℕ) → i < length l → f (getD l i 0) ++ flat-map f (drop (suc i) l) ≡ flat-map f (drop i l)
+pub cons-map : {B : Type 0} (f : ℕ → List B) (l : List ℕ) (i : ℕ) → i < length l → f (getD l i 0) ++ flat-map f (drop (suc i) l) ≡ flat-map f (drop i l)
 unfolding flat-map
 cons-map f l i h = rw (drop-cons l i 0 h)
 

@@ -1,3 +1,4 @@
 pub mod Kept
 pub mod Ranked
 pub mod Nodes
+pub mod Floors
