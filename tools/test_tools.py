@@ -605,18 +605,19 @@ class Docs(unittest.TestCase):
     @classmethod
     def setUpClass(cls):
         cls.tree, cls.pages = DOCS.Tree(ROOT), DOCS.load_pages(ROOT)
+        cls.before = {check: check(cls.tree, cls.pages) for check in DOCS.CHECKS}
 
     def noticed(self, check, page, old, new, fault):
         """With `old` of the page as `new` the check has one fault more, which matches."""
         self.assertIn(old, self.pages[page])
-        before = check(self.tree, self.pages)
+        before = self.before[check]
         after = check(self.tree, dict(self.pages, **{page: self.pages[page].replace(old, new, 1)}))
         more = [line for line in after if line not in before]
         self.assertTrue(more, (page, new))
         self.assertRegex(more[0], fault)
 
     def test_pages_as_they_are(self):
-        self.assertEqual(DOCS.find_faults(self.tree, self.pages), [])
+        self.assertEqual([fault for faults in self.before.values() for fault in faults], [])
 
     def test_links(self):
         self.noticed(DOCS.check_links, 'README.md', '(docs/REFUSALS.md)', '(docs/REFUSAL.md)', 'no file docs/REFUSAL.md')
