@@ -9,7 +9,7 @@ from common import FILES, PACKAGES, ROOT, grid
 if meshio:
     import numpy
     import sedgepick
-    from sedgepick import clusters, library, surfaces
+    from sedgepick import clusters, library, quality, surfaces
 
 L_SLAB, COLUMNS, SECOND = (os.path.join(FILES, name) for name in ('l-slab-41.msh', 'columns.msh', 'second-order.msh'))
 SERVICE = os.path.join(ROOT, 'examples', 'service', 'service.py')
@@ -41,14 +41,15 @@ class Objects(Case):
     def test_of_a_mesh(self):
         ran = self.good(COLUMNS, '-o', self.out, '--json', '--report', self.path('r.json'))
         found = json.loads(ran.stdout)
-        _, quads, triangles = self.mesh()
+        mesh, quads, triangles = self.mesh()
         self.assertEqual((found['schema'], found['status'], found['words']), (1, 0, 'written'))
         self.assertEqual((found['input']['name'], found['input']['sha256'], found['input']['triangles']), ('columns.msh', sha256(COLUMNS), 642))
         self.assertEqual((found['output']['name'], found['output']['sha256']), ('out.msh', sha256(self.out)))
         self.assertEqual((found['quads'], found['triangles'], found['share_of_quads']), (len(quads), len(triangles), len(quads) / (len(quads) + len(triangles))))
         self.assertEqual((found['nodes_added'], found['nodes_dropped']), (0, 0))
         self.assertGreater(found['least_angle_of_quads'], 24.99)
-        self.assertIsNone(found['least_angle_of_triangles'])
+        for name, cells in (('least_angle_of_quads', quads), ('least_angle_of_triangles', triangles)):
+            self.assertEqual(found[name], float(quality.least_angles(mesh.points, numpy.array(cells)).min()) if cells else None)
         self.assertEqual((found['verdict']['accepted'], len(found['verdict']['clauses'])), (True, CLAUSES))
         self.assertTrue(all(clause['holds'] and clause['offender'] is None for clause in found['verdict']['clauses']))
         self.assertIn({'what': 'points (column)', 'of': 12, 'lost': 0}, found['kept'])
@@ -160,7 +161,8 @@ class Batch(Case):
         self.assertRegex(table[1], r'^l-slab-41.msh +written +146 +73 +0 +100\.0 +\d+\.\d +\d+\.\d$')
         self.assertRegex(table[2], r'^second-order.msh +refused +146 cells of second order')
         self.assertRegex(table[3], r'^nothing.msh +refused +there is no such file$')
-        self.assertRegex(table[4], r'^columns.msh +written +642 +321 +0 ')
+        _, quads, triangles = self.mesh(os.path.join(self.out, 'columns.msh'))
+        self.assertRegex(table[4], r'^columns.msh +written +642 +%d +%d ' % (len(quads), len(triangles)))
         self.assertEqual(table[5], '4 files: 2 written, 2 refused')
         self.good(COLUMNS, '-o', self.path('alone.msh'))
         self.assertEqual(content(self.path('alone.msh')), content(os.path.join(self.out, 'columns.msh')))
@@ -343,7 +345,8 @@ class Wsgi(Case):
         self.assertEqual(mesh, content(self.path('here.vtu')))
         status, found = self.ask('?from=gmsh&to=vtu&answer=json', content(COLUMNS))
         found = json.loads(found)
-        self.assertEqual((status, found['status'], found['quads'], found['input']['sha256']), (200, 0, 321, sha256(COLUMNS)))
+        self.assertEqual((status, found['status'], found['input']['sha256']), (200, 0, sha256(COLUMNS)))
+        self.assertGreater(found['share_of_quads'], 0.95)
         self.assertEqual(os.listdir(self.folder), ['here.vtu'])  # nothing is left
 
     def test_refused(self):
