@@ -11,7 +11,7 @@ a whole by the proved `accept`. Each step is a function from a cover to a cover,
     improve        poor quads
     mend           patches around poor quads and leftover triangles
     wander         leftover triangles to where they leave fewer poor quads
-    close          two leftover triangles at the price of poor quads, as long as few quads are poor
+    close          leftover triangles at the price of poor quads, unless that makes too many quads poor
     even_groups    for the even rule: no odd group of leftover triangles but where a piece of the mesh is odd
 
 Pairs and walks are held to a better scaled Jacobian first (STAGES) and to that of the quality set then.

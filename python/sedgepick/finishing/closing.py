@@ -1,11 +1,11 @@
-"""Leftover triangles closed at the price of poor quads, as long as few quads are poor."""
+"""Leftover triangles closed at the price of poor quads, unless that makes too many quads poor."""
 import numpy
 from .covers import NONE
 from .mending import POOR, mend
 from .walks import REACHES, walk
 
-MOST_SHARE = 0.015        # fewer of the quads than this share may be poor
-MOST_TRIANGLES = 0.01     # of the cells
+MOST_SHARE = 0.015          # fewer of the quads than this share may be poor
+MOST_TRIANGLES = 0.01       # of the cells
 ANY = 1 << 30
 PRICES = 3, 4, 5, 6, 8, 12  # quads that a walk may make poor, one round after the other, where all walks together would make too many
 
@@ -14,7 +14,7 @@ def close(cover, least_jacobian, poor=POOR, most_share=MOST_SHARE):
     """(cover, how many quads): leftover triangles walk on to each other, whatever quads they make poor.
 
     Where that leaves too many quads poor, and the cover as it came does not, the cheapest walks come first, and the round that would leave too many is taken back.
-    So triangles stay for the sake of fewer poor quads only where both shares, that of poor quads and that of triangles, are met by it and by nothing else."""
+    So triangles stay for the sake of fewer poor quads only where few quads are poor and few cells are triangles with them, and too many quads are poor without."""
     before = count_triangles(cover)
     if before < 2:
         return cover, 0
