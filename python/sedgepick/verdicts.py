@@ -43,7 +43,7 @@ class Judged:
                 ('no corner of a quad is too sharp', self.cell('quad', self.quads, found.sharp, 'has one')),
                 ('triangles have an area', self.cell('triangle', self.left, found.left_flat, 'has none')),
                 (THIN, self.cell('triangle', self.left, found.thin, 'is')),
-                ('the given region is covered once', self.edge(found.uneven, 'the cells at the edge between %s and %s do not balance as the given ones do')),
+                ('each place is covered as often as by the given triangles', self.edge(found.uneven, 'the cells at the edge between %s and %s do not balance as the given ones do')),
                 ('lines and borders are kept', None if lost is None else self.edge(self.joints[lost], 'the edge between %s and %s is lost'))]
 
     def first(self):

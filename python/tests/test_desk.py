@@ -217,7 +217,7 @@ class Runs(Case):
             for digest in (hashlib.sha256(mesh).hexdigest(), given['sha256']):
                 self.assertIn(digest, sheet)
             self.assertIn(hashlib.sha256(mesh).hexdigest(), self.desk.ask('GET', 'task/%s/out/report' % task)[2].decode())
-            for clause in ('Given nodes are in place', 'Quads turn left at each node', 'The given region is covered once', 'Lines and borders are kept'):
+            for clause in ('Given nodes are in place', 'Quads turn left at each node', 'Each place is covered as often as by the given triangles', 'Lines and borders are kept'):
                 self.assertIn('&#10003;</b>' + clause, sheet)
             self.assertEqual(done['quads'], len(done['quads_of']) // 4)
             lines = self.desk.ask('GET', 'task/%s/out/table' % task)[2].decode().splitlines()

@@ -161,8 +161,8 @@ class Accept(Judging):
             cells['triangle'].append([a, b, len(points)])
             return numpy.vstack([points, [2 * points[b] - points[a]]])
 
-        for change, words in ((clockwise, r'quads turn left at each node: no; quad 5, cell 5 of the file, does not: node \d+ at \(.*node'), (missing, 'the given region is covered once: no'),
-                              (twice, 'the given region is covered once: no; the cells at the edge between node'), (flat, 'triangles have an area: no; triangle 11, cell 79 of the file, has none')):
+        for change, words in ((clockwise, r'quads turn left at each node: no; quad 5, cell 5 of the file, does not: node \d+ at \(.*node'), (missing, 'each place is covered as often as by the given triangles: no'),
+                              (twice, 'each place is covered as often as by the given triangles: no; the cells at the edge between node'), (flat, 'triangles have an area: no; triangle 11, cell 79 of the file, has none')):
             with self.subTest(change.__name__):
                 self.assertRegex(self.judge(SLAB, self.changed(change), status=1).stdout, words)
 
@@ -219,7 +219,7 @@ class Accept(Judging):
         self.assertEqual((found['accepted'], found['quads'], found['triangles'], len(found['clauses']), all(clause['holds'] for clause in found['clauses'])), (True, 68, 10, 8, True))
         bad = self.changed(lambda points, cells: cells['triangle'].append(cells['triangle'][0]))
         found = json.loads(self.judge(SLAB, bad, '--json', '--report', text, status=1).stdout)
-        self.assertEqual([clause['name'] for clause in found['clauses'] if not clause['holds']], ['the given region is covered once'])
+        self.assertEqual([clause['name'] for clause in found['clauses'] if not clause['holds']], ['each place is covered as often as by the given triangles'])
         with open(page) as file:
             self.assertIn('<h1>sedgepick-accept: out.msh against l-slab-41.msh</h1>', file.read())
         with open(text) as file:
