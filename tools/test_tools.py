@@ -1,6 +1,6 @@
 #!/usr/bin/env python3
-"""Tests of tools/convert, tools/draw, tools/change-definition, tools/landing-note and tools/check-docs: python3 tools/test_tools.py"""
-import contextlib, glob, io, math, os, random, re, shutil, subprocess, sys, tempfile, unittest
+"""Tests of tools/convert, tools/draw, tools/change-definition, tools/landing-note, tools/check-docs and tools/fuzz: python3 tools/test_tools.py"""
+import contextlib, glob, io, math, os, random, re, shutil, subprocess, sys, tempfile, time, unittest
 import unittest.mock
 import xml.etree.ElementTree as xml
 from importlib.machinery import SourceFileLoader
@@ -21,7 +21,7 @@ def script(name):
 
 
 CONVERT, DRAW, CHANGE, NOTE = script('convert'), script('draw'), script('change-definition'), script('landing-note')
-DOCS = script('check-docs')
+DOCS, FUZZ = script('check-docs'), script('fuzz')
 
 SQUARE = [(0.0, 0.0, 0.0), (1.0, 0.0, 0.0), (1.0, 1.0, 0.0), (0.0, 1.0, 0.0)]
 S_TEXT = """triangles points size stop
@@ -777,6 +777,23 @@ pub fn bare(a: u32) -> u32 {
             self.assertEqual(page.count('| %d %s | %s |' % (number, NOTE.TITLES[number], after.replace('+', ' with '))), 1)
             self.assertIn('\n## Paper %d: ' % number, page)
         self.assertEqual(sorted(number for number, _, _ in NOTE.papers()), list(range(1, 15)))
+
+
+class Fuzz(unittest.TestCase):
+    def test_ends_within_its_time(self):
+        """In the midst of the files that a child tries, not behind the last of them."""
+        class Slow:
+            @staticmethod
+            def main(words):
+                time.sleep(0.5)
+                return 1
+        with tempfile.TemporaryDirectory() as folder:
+            begin = time.monotonic()
+            found = FUZZ.tried(Slow, folder, [('.msh', b'x')] * 40, begin + 2)
+            self.assertLess(time.monotonic() - begin, 12)
+            self.assertTrue(1 <= len(found) < 40, len(found))
+            self.assertEqual({status for status, *_ in found}, {1})
+            self.assertEqual(len(FUZZ.tried(Slow, folder, [('.msh', b'x')] * 3)), 3)
 
 
 if __name__ == '__main__':

@@ -112,7 +112,9 @@ def judge(work: Work, path: str, nodes: Any) -> None:
     if judged.excused:
         work.warnings.append('%s, so it is written all the same (--thin %g)' % (judged.excused, work.settings.thin))
     as_written = [('nodes', '%d of %d rounded by the format, and judged as it has them' % (rounded, len(nodes)))] if rounded else []
-    work.verdict = judged.rows() + planes.rows(surface) + as_written + [('least angle asked of triangles', '%g degrees' % work.settings.thin if work.settings.thin else 'none')]
+    thin = 'not asked, the given triangles are thinner' if judged.excused else '' if work.settings.thin else 'not asked'
+    work.verdict = [(name, thin if thin and name == verdicts.THIN else words) for name, words in judged.rows()] + planes.rows(surface) + as_written + [
+        ('least angle asked of triangles', thin or '%g degrees' % work.settings.thin)]
 
 
 def write_sheets(work: Work) -> None:

@@ -11,6 +11,7 @@ NEAR = 1e-6   # of the extent: what a node may lie off its plane; it is written 
 MOST = 0.05   # of the extent: how far --flatten moves a node at most
 GAP = 0.05    # of the largest plane's extent: between planes on the sheet
 STEEP = 0.7   # of a normal's z: planes below are drawn with z upward
+DUST = 1e-13   # of the extent: what rounding leaves of a zero
 AXES = 'xyz'
 
 
@@ -22,6 +23,7 @@ class Frame:
     across: object
     shift: float = 0.0   # on the sheet, in x
     start: float = 0.0   # where the plane begins there
+    extent: float = 1.0  # of the plane
 
     def there(self, points):
         """x and y on the sheet."""
@@ -33,8 +35,8 @@ class Frame:
         return self.zero + (places[:, :1] - self.shift) * self.along + places[:, 1:2] * self.across
 
     def words(self):
-        shown = lambda way: next(('%s%s' % ('-' if way[i] < 0 else '', AXES[i]) for i in range(3) if abs(way[i]) == 1), '(%.6g, %.6g, %.6g)' % tuple(way))
-        return 'x along %s and y along %s from (%.10g, %.10g, %.10g)' % (shown(self.along), shown(self.across), *self.zero)
+        shown = lambda way: next(('%s%s' % ('-' if way[i] < 0 else '', AXES[i]) for i in range(3) if abs(way[i]) == 1), '(%.6g, %.6g, %.6g)' % tuple(plain(way)))
+        return 'x along %s and y along %s from (%.10g, %.10g, %.10g)' % (shown(self.along), shown(self.across), *plain(self.zero, self.extent))
 
 
 @dataclass
@@ -59,6 +61,11 @@ class Place:
             own = numpy.flatnonzero(plane == i)
             found[len(self.node) + own] = frame.back(added[own])
         return found
+
+
+def plain(numbers, extent=1.0):
+    """Numbers for words: what is nothing beside the extent but what rounding left is 0, without a sign."""
+    return [float(number) if abs(number) > DUST * extent else 0.0 for number in numbers]
 
 
 def normal_of(points, triangles):
@@ -87,7 +94,7 @@ def fitted(points, triangles):
     flat = numpy.array([1.0, 0, 0]) if abs(normal[2]) >= STEEP else numpy.cross([0, 0, 1.0], normal)
     along = flat - (flat @ normal) * normal
     along /= numpy.linalg.norm(along)
-    frame = Frame(zero, along, numpy.cross(normal, along))
+    frame = Frame(zero, along, numpy.cross(normal, along), extent=extent)
     far = abs((own - zero) @ normal)
     frame.zero = frame.back(frame.there(own).min(axis=0)[None])[0]
     return frame, far

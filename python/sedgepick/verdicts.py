@@ -8,6 +8,8 @@ from .fitting import power_within
 from .front import FAR
 from .surfaces import Fault
 
+THIN = 'no triangle is too thin'  # the clause that is not always asked
+
 
 @dataclass(frozen=True)
 class Judged:
@@ -40,7 +42,7 @@ class Judged:
                 ('quads turn left at each node', self.cell('quad', self.quads, found.folded, 'does not')),
                 ('no corner of a quad is too sharp', self.cell('quad', self.quads, found.sharp, 'has one')),
                 ('triangles have an area', self.cell('triangle', self.left, found.left_flat, 'has none')),
-                ('no triangle is too thin', self.cell('triangle', self.left, found.thin, 'is')),
+                (THIN, self.cell('triangle', self.left, found.thin, 'is')),
                 ('each place is covered as often as by the given triangles', self.edge(found.uneven, 'the cells at the edge between %s and %s do not balance as the given ones do')),
                 ('lines and borders are kept', None if lost is None else self.edge(self.joints[lost], 'the edge between %s and %s is lost'))]
 

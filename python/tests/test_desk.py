@@ -254,6 +254,19 @@ class Runs(Case):
             self.assertEqual((ended['state'], ended['field']), ('refused', field), ended)
             self.assertRegex(ended['words'], words)
             self.assertNotIn('--', ended['words'])
+            status, headers, paper = self.desk.ask('GET', 'task/%s/show/sheet' % found['task'])
+            self.assertEqual(status, 200 if field == 'thin' else 409)
+        self.not_accepted(paper.decode())
+        for which in ('mesh', 'report', 'table'):
+            self.assertEqual(self.desk.ask('GET', 'task/%s/out/%s' % (found['task'], which))[0], 409)
+
+    def not_accepted(self, sheet):
+        """A sheet with every clause, marked as not accepted, that names no file and has no line for a name."""
+        self.assertIn('NOT ACCEPTED', sheet)
+        self.assertEqual((sheet.count('&#10003;</b>'), sheet.count('&#10007;</b>')), (7, 1))
+        self.assertRegex(sheet, '&#10007;</b>No triangle is too thin: triangle [0-9]+ is: node')
+        self.assertEqual(len(re.findall('SHA-256 [0-9a-f]{64}<', sheet)), 1)
+        self.assertNotRegex(sheet, 'Accepted|<input|Signature')
 
     def test_front(self):
         """Each edge with one triangle, with what the library says of it."""
@@ -695,6 +708,21 @@ class Page(unittest.TestCase):
                 self.shot('refused')
             field.clear()
             field.send_keys(usual)
+        self.assertFalse(self.element('show-clauses').is_displayed())
+        self.js('(document.getElementById("field-finish").value = "raw", 1)')
+        self.element('field-thin').clear()
+        self.element('field-thin').send_keys('20')
+        self.element('run').click()
+        self.until('!document.getElementById("show-clauses").hidden')
+        self.shot('not-accepted')
+        self.element('show-clauses').click()
+        self.until('document.getElementById("paper").contentDocument.querySelector(".verdict")')
+        self.assertEqual(self.element('sheet-says').text, 'Not accepted')
+        self.assertIn('NOT ACCEPTED', self.js('document.getElementById("paper").contentDocument.body.textContent'))
+        self.shot('not-accepted-sheet')
+        self.element('close-sheet').click()
+        self.element('field-thin').send_keys('1')
+        self.assertFalse(self.element('show-clauses').is_displayed())
         self.element('chooser').send_keys(os.path.join(FILES, 'second-order.msh'))
         self.until('!document.getElementById("refused").hidden')
         self.assertIn('second order', self.element('refused').text)

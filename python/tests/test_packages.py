@@ -1,9 +1,10 @@
 """Tests of the wheel, of the Debian package's content, of prefixes, of manual pages and completion, and of the one version."""
-import importlib.util, os, re, shutil, subprocess, sys, tempfile, unittest, zipfile
+import importlib.util, os, re, shutil, signal, subprocess, sys, tempfile, unittest, urllib.request, zipfile
 from common import ARCHIVE, ROOT, make_library
 from sedgepick import VERSION, library
 
 SQUARE = 'import sedgepick; print(sedgepick.__file__, len(sedgepick.run_front([(0,0),(1,0),(1,1),(0,1)], [(0,1,2),(0,2,3)], 1.0).quads), sedgepick.VERSION)'
+COMMANDS = ('sedgepick-mesh', 'sedgepick-accept', 'sedgepick-desk')
 SLAB = os.path.join(ROOT, 'examples', 'files', 'columns.msh')
 
 
@@ -41,6 +42,22 @@ class Folder(unittest.TestCase):
         ran = run(*words, **options)
         self.assertEqual(ran.returncode, 0, ran.stdout + ran.stderr)
         return ran.stdout
+
+    def serve(self, words, environment):
+        """Starts a desk, takes from it its page and each file that the page names, and ends it."""
+        desk = subprocess.Popen([*words, '--no-browser', SLAB], stdout=subprocess.PIPE, stderr=subprocess.PIPE, text=True, env=environment, cwd=self.folder)
+        self.addCleanup(desk.stdout.close)
+        self.addCleanup(desk.stderr.close)
+        self.addCleanup(desk.kill)
+        found = re.search(r'http://\S+/', desk.stdout.readline())
+        self.assertTrue(found, desk.poll() is not None and desk.stderr.read())
+        take = lambda name: urllib.request.urlopen(found[0] + name, timeout=60).read()
+        page = take('').decode()
+        for name in {'desk.js', 'desk.css', *re.findall(r'(?:src|href)="([\w.-]+\.(?:js|css|svg))"', page)}:
+            with self.subTest(name):
+                self.assertTrue(take(name))
+        desk.send_signal(signal.SIGTERM)
+        self.assertEqual(desk.wait(60), 0)
 
     def listed(self, folder):
         return sorted(os.path.relpath(os.path.join(place, name), folder) for place, folders, names in os.walk(folder) for name in [*names, *folders])
@@ -113,6 +130,7 @@ class Wheel(Folder):
         self.assertEqual((quads, version), ('1', VERSION))
         self.assertIn('accepted', self.good(os.path.join(venv, 'bin', 'sedgepick-mesh'), SLAB, '-o', 'quads.msh', env=clean(), cwd=self.folder))
         self.assertIn('accepted', self.good(os.path.join(venv, 'bin', 'sedgepick-accept'), SLAB, 'quads.msh', env=clean(), cwd=self.folder))
+        self.serve([os.path.join(venv, 'bin', 'sedgepick-desk')], clean())
         self.good(*pip, 'uninstall', '-y', 'sedgepick', env=clean(), cwd=self.folder)
         self.assertEqual(self.listed(venv), before)
         self.good(*pip, 'install', '--no-index', '-e', ROOT, env=clean(), cwd=self.folder)
@@ -157,6 +175,7 @@ class Prefix(Folder):
             place, quads, _ = self.good('/usr/bin/python3', '-c', SQUARE, env=dict(clean(), HOME=home), cwd=self.folder).split()
             self.assertEqual((place.startswith(home), quads), (True, '1'))
         self.assertIn('accepted', self.good(os.path.join(home, '.local', 'bin', 'sedgepick-mesh'), SLAB, '-o', 'quads.msh', env=dict(clean(), HOME='/'), cwd=self.folder))
+        self.serve([os.path.join(home, '.local', 'bin', 'sedgepick-desk')], dict(clean(), HOME='/'))
 
 
 class Pages(Folder):
@@ -167,10 +186,10 @@ class Pages(Folder):
     def options(self, name):
         """The options that the command's usage lists."""
         usage = self.good(sys.executable, os.path.join(ROOT, 'python', name), '--help').split('\n\n')[0]
-        return set(re.findall(r'(--[a-z][a-z-]*)', usage)) | ({'--help', '--quiet', '--output'} if name == 'sedgepick-mesh' else {'--help', '--quiet'})
+        return set(re.findall(r'(--[a-z][a-z-]*)', usage)) | {'sedgepick-mesh': {'--help', '--quiet', '--output'}, 'sedgepick-accept': {'--help', '--quiet'}, 'sedgepick-desk': {'--help'}}[name]
 
     def test_every_option(self):
-        for name in ('sedgepick-mesh', 'sedgepick-accept'):
+        for name in COMMANDS:
             with open(os.path.join(self.folder, 'man/man1/%s.1' % name)) as file:
                 page = file.read().replace('\\-', '-')
             listed = re.findall(r'^\.TP\n\.B (.*)\n(.+)$', page, re.M)
@@ -182,7 +201,7 @@ class Pages(Folder):
 
     @unittest.skipUnless(shutil.which('man'), 'man is not installed')
     def test_man_reads_it(self):
-        for name in ('sedgepick-mesh', 'sedgepick-accept'):
+        for name in COMMANDS:
             ran = run('man', '--warnings', '-l', os.path.join(self.folder, 'man/man1/%s.1' % name), env=dict(os.environ, MANPAGER='cat', MANWIDTH='80', LC_ALL='C.UTF-8'))
             self.assertEqual((ran.returncode, ran.stderr), (0, ''))
             self.assertIn('EXIT STATUS', ran.stdout)
@@ -208,15 +227,17 @@ class Deb(Folder):
         rows = [line.split(None, 5) for line in self.good('dpkg-deb', '--contents', made).splitlines()]
         self.assertEqual({row[1] for row in rows}, {'root/root'})
         names = {row[5].lstrip('.').split(' -> ')[0] for row in rows}
-        for name in ('/usr/bin/sedgepick-mesh', '/usr/bin/sedgepick-accept', '/usr/lib/libsedgepick.so.2', '/usr/lib/python3/dist-packages/sedgepick/py.typed', '/usr/share/man/man1/sedgepick-mesh.1.gz',
-                     '/usr/share/man/man1/sedgepick-accept.1.gz', '/usr/share/bash-completion/completions/sedgepick-mesh', '/usr/share/doc/sedgepick/copyright', '/usr/include/sedgepick.h'):
+        package = '/usr/lib/python3/dist-packages/sedgepick/'
+        for name in ('/usr/lib/libsedgepick.so.2', package + 'py.typed', package + 'zoom.js', package + 'desk/static/desk.html', '/usr/share/doc/sedgepick/copyright', '/usr/include/sedgepick.h',
+                     *(place % name for name in COMMANDS for place in ('/usr/bin/%s', '/usr/share/man/man1/%s.1.gz', '/usr/share/bash-completion/completions/%s'))):
             self.assertIn(name, names)
         root = os.path.join(self.folder, 'root')
         self.good('dpkg-deb', '--extract', made, root)
         place, quads, _ = self.good(sys.executable, '-c', SQUARE, env=dict(clean(), PYTHONPATH=os.path.join(root, 'usr/lib/python3/dist-packages')), cwd=self.folder).split()
         self.assertEqual((place.startswith(root), quads), (True, '1'))
-        with open(os.path.join(root, 'usr/bin/sedgepick-mesh')) as file:
-            self.assertEqual(file.readline(), '#!/usr/bin/python3\n')
+        for name in COMMANDS:
+            with open(os.path.join(root, 'usr/bin', name)) as file:
+                self.assertEqual((name, file.readline()), (name, '#!/usr/bin/python3\n'))
 
 
 if __name__ == '__main__':

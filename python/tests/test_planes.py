@@ -5,7 +5,7 @@ from common import PACKAGES, ROOT, grid
 
 if meshio:
     import numpy
-    from sedgepick import files, quality
+    from sedgepick import files, planes, quality
 
 JUDGE = 'sedgepick-accept'
 
@@ -52,6 +52,13 @@ class Base(Case):
 
 
 class Planes(Base):
+    def test_words_without_dust(self):
+        """Where the plane lies is said without what rounding leaves of a zero, and without -0."""
+        frame = planes.Frame(numpy.array([0.0, 8.4e-15, -1.1e-14]), numpy.array([1.0, 0, 0]), numpy.array([-0.0, 0.8, 0.6]), extent=6.0)
+        self.assertEqual(frame.words(), 'x along x and y along (0, 0.8, 0.6) from (0, 0, 0)')
+        frame = planes.Frame(numpy.array([0.0, 8.4e-15, -1.1e-14]), numpy.array([1.0, 0, 0]), numpy.array([0.0, 0.8, 0.6]), extent=6e-14)
+        self.assertEqual(frame.words(), 'x along x and y along (0, 0.8, 0.6) from (0, 8.4e-15, -1.1e-14)')
+
     def test_positions(self):
         """A slab in any position: every given node comes back bit for bit, and the area is that of the slab."""
         flat, triangles = grid(7, 5, 0.5)

@@ -9,11 +9,17 @@ if meshio:
     from sedgepick.surfaces import Fault
 
 JUDGE = os.path.join(PACKAGES, 'sedgepick-accept')
+NOT_ASKED = 'not asked, the given triangles are thinner'
 SLAB = os.path.join(FILES, 'l-slab-41.msh')
 
 
 def setUpModule():
     set_up()
+
+
+def open_text(path):
+    with open(path) as file:
+        return file.read()
 
 
 class Judging(Case):
@@ -62,8 +68,11 @@ class Finished(Judging):
         """A triangle of 1 degree that nothing can pair."""
         given = self.stored([(0, 0, 0), (2, 0, 0), (1, 0.0175, 0)], [('triangle', [(0, 1, 2)])])
         self.assertRegex(self.good(given, '-o', self.out, status=3).stderr, r'warning: triangle 1 is: node 1 at .*the given triangles go down to 1 degrees themselves')
-        self.good(given, '-o', self.out, '--thin', '0.5')
-        self.good(given, '-o', self.out, '--thin', '0')
+        rows = lambda: dict(re.findall(r'^  (no triangle is too thin|least angle asked of triangles) +(.*)$', open_text(text), re.M))
+        text = self.path('r.txt')
+        for thin, status, clause, asked in (('10', 3, NOT_ASKED, NOT_ASKED), ('0.5', 0, 'yes', '0.5 degrees'), ('0', 0, 'not asked', 'not asked')):
+            self.good(given, '-o', self.out, '--thin', thin, '--report', text, status=status)
+            self.assertEqual(rows(), {'no triangle is too thin': clause, 'least angle asked of triangles': asked})
 
     def test_thin_is_not_accepted(self):
         """Asked for more than there is, of a mesh whose own triangles have it: nothing is written, and what was there stays."""

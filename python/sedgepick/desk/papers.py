@@ -1,7 +1,7 @@
-"""The acceptance sheet: one A4 page with the verdict clause by clause, the files by their hashes, and a line for a name."""
+"""The acceptance sheet: one A4 page with the verdict clause by clause, the files by their hashes, and a line for a name. Where the mesh is not accepted it has no such line."""
 import hashlib
 from html import escape
-from .. import library, quality, report
+from .. import library, quality, report, verdicts
 from ..surfaces import visible
 
 STYLE = """:root { color-scheme: light; }
@@ -9,7 +9,7 @@ STYLE = """:root { color-scheme: light; }
 body { font: 9.5pt/1.36 'Source Sans 3', 'Segoe UI', 'Helvetica Neue', 'DejaVu Sans', Arial, sans-serif; color: #16202a; background: #ffffff; margin: 0 auto; padding: 14mm 16mm; max-width: 210mm; }
 h1 { font-size: 17pt; margin: 0 0 1mm; letter-spacing: -0.01em; } h2 { font-size: 9.5pt; margin: 4mm 0 0.8mm; color: #45525f; font-weight: 600; }
 .verdict { border: 0.5mm solid #0b6b4f; border-radius: 2mm; padding: 2.5mm 4mm; margin: 4mm 0 0; font-size: 13pt; font-weight: 700; color: #0b6b4f; display: flex; gap: 3mm; align-items: baseline; }
-.verdict span { font-size: 10pt; font-weight: 400; color: #16202a; }
+.verdict.no { border-color: #a8201a; color: #a8201a; } .verdict span { font-size: 10pt; font-weight: 400; color: #16202a; }
 table { border-collapse: collapse; width: 100%; } td { border-top: 0.2mm solid #d5dbe1; padding: 0.6mm 3mm 0.6mm 0; vertical-align: top; overflow-wrap: anywhere; }
 td:first-child { width: 25%; color: #45525f; } .mark { width: 7mm; font-weight: 700; color: #0b6b4f; } td.mark:first-child { width: 7mm; color: #0b6b4f; }
 .clauses { columns: 2; column-gap: 8mm; border-top: 0.2mm solid #d5dbe1; padding-top: 0.8mm; } .clauses div { break-inside: avoid; padding: 0.5mm 0 0.5mm 6mm; text-indent: -6mm; } .clauses b { display: inline-block; width: 6mm; text-indent: 0; color: #0b6b4f; }
@@ -33,7 +33,7 @@ def sha256(path: str) -> str:
 
 
 def facts_of(work, drawn: dict) -> dict:
-    """What the sheet says, of a run that was accepted."""
+    """What the sheet says, of a run that was judged."""
     chosen, surface = work.options, work.surface
     q = chosen.quality
     corner = q.least_angle()
@@ -43,7 +43,7 @@ def facts_of(work, drawn: dict) -> dict:
     return {
         'date': drawn['date'], 'given': (surface.name, surface.sha256, '%d triangles, %d nodes' % (len(surface.triangles.cells), len(set(surface.triangles.cells.ravel().tolist())))),
         'made': (chosen.output, drawn['output_sha256'], '%s and %s' % (report.many(drawn['quads'], 'quad'), report.many(drawn['left'], 'triangle'))),
-        'clauses': work.verdict, 'thin': chosen.thin and not waived, 'warnings': work.warnings, 'losses': drawn['losses'],
+        'accepted': drawn['accepted'], 'clauses': work.verdict or work.judged.rows(), 'thin': chosen.thin and not waived, 'warnings': work.warnings, 'losses': drawn['losses'],
         'limits': [('quality set', report.quality_words(q)), ('corner of a quad', 'at least %.6g degrees, to 1e-9 of its cosine' % corner),
                    ('corner of a triangle', thin),
                    ('profile, stop rule', '%s, %d' % ('grid' if chosen.grid else 'none', chosen.stop)), ('size', drawn['size'])],
@@ -62,7 +62,7 @@ def clause_rows(clauses, thin) -> str:
     """Each clause, marked where it holds; then the verdict's other facts. Of triangles nothing is asked where `thin` is 0."""
     found, facts = '', []
     for name, words in clauses:
-        if name == 'no triangle is too thin' and not thin:
+        if name == verdicts.THIN and not thin:
             found += '<div><b>&ndash;</b>%s: not asked</div>' % escape(upper(name))
         elif words == 'yes':
             found += '<div><b>&#10003;</b>%s</div>' % escape(upper(name))
@@ -81,20 +81,27 @@ def file_rows(title, name, digest, words) -> str:
     return '<tr><td>%s</td><td><b>%s</b>, %s<br><code>SHA-256 %s</code></td></tr>' % (title, escape(visible(name)), escape(words), escape(digest))
 
 
+ACCEPTED = '<div class="verdict">Accepted <span>as a whole, by the proved judge <code>accept</code>, in exact arithmetic</span></div>'
+REFUSED = '<div class="verdict no">NOT ACCEPTED <span>by the proved judge <code>accept</code>, in exact arithmetic; no mesh is written</span></div>'
+SIGN = ('<div class="sign"><div><label for="name">Name</label><input id="name" autocomplete="name"></div><div><label for="day">Date</label><input id="day"></div>'
+        '<div><label>Signature</label><div class="line"></div></div></div>\n'
+        '<p class="foot">The judge is proved: what it accepts has every clause above. Reading, finishing, writing and this sheet are tested, not proved. '
+        'A file belongs to this sheet where its SHA-256 is the one above.</p>')
+NO_SIGN = '<p class="foot">There is nothing to sign: the mesh does not hold every clause, and it is not written. The judge is proved; this sheet is tested, not proved.</p>'
+
+
 def sheet(facts: dict) -> str:
     """The sheet as a page that needs nothing beside itself and no script."""
+    accepted = facts['accepted']
+    title, verdict, end = ('Acceptance sheet', ACCEPTED, SIGN) if accepted else ('Verdict', REFUSED, NO_SIGN)
+    made = file_rows('mesh', *facts['made']) if accepted else '<tr><td>mesh</td><td>%s, not written</td></tr>' % escape(facts['made'][2])
     warnings = facts['warnings'][:WARNINGS] + ['%d more in the report' % (len(facts['warnings']) - WARNINGS)] * (len(facts['warnings']) > WARNINGS)
     losses = facts['losses'][:LOSSES] + ['%d more in the report' % (len(facts['losses']) - LOSSES)] * (len(facts['losses']) > LOSSES)
     return ('<!doctype html>\n<html lang="en"><head><meta charset="utf-8"><meta name="viewport" content="width=device-width, initial-scale=1">'
-            '<title>Acceptance sheet: %s</title><style>%s</style></head>\n<body><h1>Acceptance sheet</h1>\n<div>%s &middot; %s</div>\n'
-            '<div class="verdict">Accepted <span>as a whole, by the proved judge <code>accept</code>, in exact arithmetic</span></div>\n%s'
+            '<title>%s: %s</title><style>%s</style></head>\n<body><h1>%s</h1>\n<div>%s &middot; %s</div>\n%s\n%s'
             '<h2>Files</h2><table>%s%s</table>\n<h2>The verdict, clause by clause</h2>%s\n<h2>Limits it was held to</h2><table>%s</table>\n'
-            '<h2>Measured</h2><table>%s</table>\n<h2>Made and judged by</h2><table>%s</table>\n'
-            '<div class="sign"><div><label for="name">Name</label><input id="name" autocomplete="name"></div><div><label for="day">Date</label><input id="day"></div>'
-            '<div><label>Signature</label><div class="line"></div></div></div>\n'
-            '<p class="foot">The judge is proved: what it accepts has every clause above. Reading, finishing, writing and this sheet are tested, not proved. '
-            'A file belongs to this sheet where its SHA-256 is the one above.</p></body></html>\n'
-            % (escape(visible(facts['given'][0])), STYLE, escape(visible(facts['given'][0])), escape(facts['date']),
+            '<h2>Measured</h2><table>%s</table>\n<h2>Made and judged by</h2><table>%s</table>\n%s</body></html>\n'
+            % (title, escape(visible(facts['given'][0])), STYLE, title, escape(visible(facts['given'][0])), escape(facts['date']), verdict,
                ''.join('<div class="warning">%s</div>' % escape(visible(words)) for words in warnings),
-               file_rows('given', *facts['given']), file_rows('mesh', *facts['made']), clause_rows(facts['clauses'], facts['thin']), rows(facts['limits']),
-               rows(facts['measured'] + [('lines, points, borders', '; '.join(losses) or 'none in the file')]), rows(facts['library'])))
+               file_rows('given', *facts['given']), made, clause_rows(facts['clauses'], facts['thin']), rows(facts['limits']),
+               rows(facts['measured'] + [('lines, points, borders', '; '.join(losses) or 'none in the file')]), rows(facts['library']), end))

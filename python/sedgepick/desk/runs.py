@@ -17,6 +17,14 @@ PROGRESS = 0.1       # seconds between two words on it
 NOTHING = numpy.zeros(0)
 
 
+class NotAccepted(surfaces.Fault):
+    """The mesh was made and judged, and is not accepted; a sheet says which clauses do not hold."""
+
+    def __init__(self, words, output):
+        super().__init__(words)
+        self.output = output
+
+
 class Told:
     """Says how far the task is."""
     last = 0.0
@@ -56,6 +64,8 @@ def main():
     try:
         facts = {'read': read, 'front': look, 'mesh': mesh}[task['kind']](task, Told())
         say(state='done', **facts)
+    except NotAccepted as fault:
+        refuse(str(fault), sheet=True, output=fault.output)
     except (surfaces.Fault, library.NoLibrary, Refused, OSError) as fault:
         refuse(str(fault))
     except MemoryError:
@@ -74,9 +84,9 @@ def read_line():
     return found
 
 
-def refuse(words):
+def refuse(words, **more):
     field = fields.field_of(words)
-    say(state='refused', words=plain(words), field=field)
+    say(state='refused', words=plain(words), field=field, **more)
 
 
 def plain(words):
@@ -241,7 +251,14 @@ def mesh(task, told):
     meshing.finish(work, result)
     mesh_files.check_losses(work)
     told.stage('Writing the mesh and judging it')
-    mesh_files.written(work)
+    try:
+        mesh_files.written(work)
+    except surfaces.Fault as fault:
+        if work.judged is None or work.judged.verdict.accepted:
+            raise
+        text(task, SHEET, papers.sheet(papers.facts_of(work, {**drawn_facts(work, rounds)[0], 'date': now()})))
+        os.remove(work.outputs.made[chosen.output])
+        raise NotAccepted(str(fault), chosen.output) from fault
     work.seconds = time.perf_counter() - begin
     told.stage('Writing the report and the sheet')
     finished = drawn_facts(work, rounds)
@@ -251,10 +268,14 @@ def mesh(task, told):
     text(task, TABLE, sheets.table(work.result.sheet, cells[:, ::-1] if surface.clockwise else cells))
     facts, arrays = finished
     facts['steps'] = steps_data
-    facts['date'] = datetime.now().astimezone().strftime('%Y-%m-%d %H:%M %Z')
+    facts['date'] = now()
     text(task, SHEET, papers.sheet(papers.facts_of(work, facts)))
     write(task, facts, arrays)
     return {'output': chosen.output}
+
+
+def now():
+    return datetime.now().astimezone().strftime('%Y-%m-%d %H:%M %Z')
 
 
 def text(task, name, content):
@@ -284,7 +305,7 @@ def drawn_facts(work, rounds):
     pairs, nodes = kept_of(surface)
     order = lambda values: numpy.argsort(values, kind='stable')[:WORST].tolist()
     facts = {'name': surface.name, 'output': work.options.output, 'sha256': surface.sha256, 'output_sha256': work.outputs.digest(work.options.output), 'summary': report.summary(work),
-             'verdict': [[str(name), str(words)] for name, words in work.verdict], 'accepted': True, 'warnings': list(map(plain, work.warnings)), 'notes': surface.notes,
+             'verdict': [[str(name), str(words)] for name, words in work.verdict or ()], 'accepted': bool(work.verdict), 'warnings': list(map(plain, work.warnings)), 'notes': surface.notes,
              'quads': len(result.quads), 'left': len(result.triangles), 'added': len(result.added), 'dropped': meshing.dropped(work), 'seconds': work.seconds,
              'least_jacobian': float(jacobians.min()) if len(jacobians) else None, 'least_angle': float(least.min()) if len(least) else None,
              'mean_jacobian': float(jacobians.mean()) if len(jacobians) else None,

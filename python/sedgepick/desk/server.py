@@ -4,7 +4,9 @@
   sedgepick-desk slab.msh
 
 The page is served to this machine alone, under an address that nobody can guess and that is printed. Ctrl-C ends it, and every run with it; what is not downloaded is
-gone then. Files are held in a temporary folder."""
+gone then. Files are held in a temporary folder.
+
+Exit status: 0 ended by Ctrl-C, SIGTERM or SIGHUP; 1 the library, the file or the port cannot be had; 2 wrong options."""
 import argparse, hmac, json, os, re, secrets, signal, socket, sys, threading, webbrowser
 from http.server import BaseHTTPRequestHandler, ThreadingHTTPServer
 from urllib.parse import quote, unquote, urlsplit
@@ -150,6 +152,8 @@ class Handler(BaseHTTPRequestHandler):
     def get_task(self, task, way):
         if not way:
             return self.say(200, task.told())
+        if task.state == 'refused' and task.said.get('sheet') and way in (['show', 'sheet'], ['out', 'sheet']):
+            return self.paper(task, 'sheet', way[0] == 'show')
         if task.state != 'done':
             raise Wrong(409, 'the run is not done')
         if way == ['data']:

@@ -573,6 +573,7 @@ function checked() {
 
 // What was asked for differs from what is shown.
 function stale() {
+  offerClauses('');
   state.front = null;
   if (state.done) $('run').textContent = 'Run again';
   if (state.view === 'front') {
@@ -612,7 +613,16 @@ function fault(id, words) {
   $(id).hidden = !words;
 }
 
-const refuse = words => fault('refused', words);
+function refuse(words) {
+  fault('refused', words);
+  offerClauses('');
+}
+
+// A button to the sheet of a mesh that was made and is not accepted; none where there is no address.
+function offerClauses(address) {
+  $('show-clauses').hidden = !address;
+  $('show-clauses').dataset.src = address;
+}
 
 async function settle(mine, file, task, name) {
   busy('Reading ' + name);
@@ -713,7 +723,7 @@ async function run() {
     const found = await follow(begun.task, told => { if (mine === state.run && told.state === 'running') showProgress(told); });
     if (mine !== state.run) return;
     if (found.state === 'done') finish(begun.task, await data(begun.task));
-    else refused(found);
+    else refused({...found, sheet: found.sheet ? 'task/' + begun.task + '/show/sheet' : ''});
   } catch (refusal) {
     if (mine === state.run) refused({words: refusal.message, fields: refusal.fields});
   } finally {
@@ -725,12 +735,13 @@ async function run() {
 }
 
 // A refusal in words, beside the field that caused it where that is known.
-function refused({words, field, fields = {}, state: ended}) {
+function refused({words, field, fields = {}, sheet = '', state: ended}) {
   const own = {...fields, ...(field ? {[field]: words} : {})};
   for (const [name, said] of Object.entries(own)) wrong(name, said);
   const first = Object.keys(own)[0];
   if (first && $('field-' + first)) $('field-' + first).focus();
   else refuse(ended === 'stopped' ? (words === 'stopped' ? 'Stopped; nothing was made.' : words) : words || 'It was refused');
+  offerClauses(sheet);
 }
 
 function stopRun() {
@@ -898,8 +909,10 @@ function play(on) {
 
 // ---- the sheet
 
-function showSheet() {
-  $('paper').src = $('paper').dataset.src;
+function showSheet(address, accepted) {
+  $('sheet-says').textContent = accepted ? 'Acceptance sheet' : 'Not accepted';
+  $('sheet-hint').textContent = accepted ? 'Type your name on its line, or sign it on paper.' : 'No mesh is written, and there is nothing to sign.';
+  $('paper').src = address;
   $('sheet').showModal();
 }
 
@@ -947,7 +960,8 @@ function listen() {
   $('step-on').addEventListener('click', () => { play(false); step(state.step + 1); });
   $('step-play').addEventListener('click', () => play(state.timer === null));
   $('cell-close').addEventListener('click', () => pick(null));
-  $('show-sheet').addEventListener('click', showSheet);
+  $('show-sheet').addEventListener('click', () => showSheet($('paper').dataset.src, true));
+  $('show-clauses').addEventListener('click', () => showSheet($('show-clauses').dataset.src, false));
   $('print').addEventListener('click', () => { $('paper').contentWindow.focus(); $('paper').contentWindow.print(); });
   $('close-sheet').addEventListener('click', () => $('sheet').close());
 }
