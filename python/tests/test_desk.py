@@ -876,6 +876,9 @@ class Written(unittest.TestCase):
                 self.assertLessEqual(self.js('document.documentElement.scrollWidth'), width)
                 light = sum(map(int, re.findall(r'\d+', self.js('getComputedStyle(document.body).backgroundColor'))[:3])) > 600
                 self.assertEqual(light, scheme == 'light')
+        self.show('report.html', 390, 844)
+        sizes = self.js('[...document.querySelectorAll(".chart text")].map(e => e.getBoundingClientRect().height)')
+        self.assertGreater(min(sizes), 9)  # pixels: words that can be read, in a chart that is moved sideways
         self.show('report.html')
         self.assertRegex(self.browser.find_element('class name', 'date').text, time.strftime('%Y-'))
 
