@@ -1,6 +1,6 @@
 """Universal files of I-DEAS (.unv), as Gmsh and Salome write them: nodes, cells and groups by name. meshio has no reader of them."""
-import meshio
 import numpy
+from .msh import meshio
 from .surfaces import Fault, visible
 
 NODES, CELLS = '2411', '2412'

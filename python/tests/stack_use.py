@@ -26,7 +26,7 @@ def frames(archive):
                 found[name][0] += int(re.fullmatch(r'\$0x([0-9a-f]+),%rsp', words)[1], 16)  # a frame of one size
             elif last == 'call' and words.startswith('*'):  # a jump by a register is a table of cases, within the function
                 raise ValueError('%s calls what it is handed: %s' % (name, line))
-            elif last[0] in 'cj' and (target := TARGET.match(words)) and target[1] != name:
+            elif last[0] in 'cj' and (target := TARGET.match(words)) and target[1] != name and not target[1].startswith('.LCPI'):  # a constant's name stands for the next step
                 found[name][1].add(target[1])
     return found
 

@@ -7,7 +7,7 @@ from exact_judge import faults
 
 try:
     import numpy
-    from sedgepick import finishing, quality
+    from sedgepick import files, finishing, meshing, quality, surfaces
     from sedgepick.front import Quality
 except ImportError:
     numpy = None
@@ -479,6 +479,53 @@ class Wandering(Step):
         self.assertGreater(total, 0)
 
 
+def squares(count, y=0.0, first=0):
+    """A row of squares with a triangle at either end, which can walk to each other and slant every quad: points, the two triangles, quads."""
+    points, triangles = strip(count)
+    points = [(x - height / math.sqrt(3), height + y) for x, height in points]
+    left, above = [triangles[0], triangles[-1]], count + 1
+    quads = [(i, i + 1, above + i + 2, above + i + 1) for i in range(count - 1)]
+    return points, *([tuple(node + first for node in cell) for cell in cells] for cells in (left, quads))
+
+
+class Closing(Step):
+    """Slanted quads have a scaled Jacobian of 0.65, which is poor here: under 0.7."""
+    def closed(self, most_share, *rows):
+        points, left, quads = [], [], []
+        for place, count in enumerate(rows):
+            more = squares(count, 1000.0 * place, len(points))
+            points, left, quads = points + more[0], left + more[1], quads + more[2]
+        before = finishing.cover_of(points, left, quads)
+        after, done = finishing.close(before, 0.3, 0.7, most_share)
+        self.judge(after, points, left + quads)
+        poor = (quality.scaled_jacobians(numpy.array(points), after.quads()) < 0.7).sum()
+        return done, len(after.triangles()), int(poor)
+
+    def test_as_long_as_few_are_poor(self):
+        """Walking makes all 200 quads poor; where that is too much the two triangles stay."""
+        self.assertEqual(self.closed(1.01, 200), (1, 0, 200))
+        self.assertEqual(self.closed(1.0, 200), (0, 2, 0))
+
+    def test_too_many_triangles(self):
+        """Two of 101 cells are over 1 %: they gain nothing, and are closed."""
+        self.assertEqual(self.closed(1.0, 100), (1, 0, 100))
+
+    def test_too_many_poor_anyway(self):
+        """Triangles do not stay where too many quads are poor with them too."""
+        self.assertEqual(self.closed(0.0, 200), (1, 0, 200))
+
+    def test_the_cheapest_first(self):
+        """Of two rows the short one is closed, and the long one, which would make too many poor, stays."""
+        self.assertEqual(self.closed(0.02, 200, 4), (1, 2, 4))
+
+    def test_counts_as_the_steps_do(self):
+        """A quad at the limit is not poor, one that is a bit under it is."""
+        cover = finishing.cover_of([(0, 0), (2, 0), (2, 1), (0, 2)], [], [(0, 1, 2, 3)])
+        worth = 2 / math.sqrt(5)
+        self.assertEqual([finishing.closing.count_poor(cover, limit) for limit in (worth - 1e-9, worth + 1e-9)], [0, 1])
+        self.assertEqual(finishing.closing.count_poor(finishing.cover_of([(0, 0), (1, 0), (0, 1)], [(0, 1, 2)])), 0)
+
+
 class EvenGroups(Step):
     def odd(self, cover):
         left = cover.triangles()
@@ -528,6 +575,13 @@ class Pass(Step):
             points, triangles = irregular(16, seed)
             found = self.finished(points, triangles)
             self.assertGreaterEqual(len(found.quads), 0.99 * len(triangles) / 2)
+
+    def test_no_triangle_that_gains_nothing(self):
+        """After run_front, a slab with columns can be all quads, and keeps 1.5 % poor quads or more with two triangles too."""
+        work = meshing.Work(surfaces.checked(files.read(os.path.join(FILES, 'columns.msh'))), meshing.Settings())
+        meshing.prepare(work)
+        meshing.run(work)
+        self.assertEqual((len(work.result.quads), len(work.result.triangles)), (321, 0))
 
     def test_any_unit(self):
         points, triangles = irregular(8, 1)

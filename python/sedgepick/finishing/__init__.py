@@ -11,6 +11,7 @@ a whole by the proved `accept`. Each step is a function from a cover to a cover,
     improve        poor quads
     mend           patches around poor quads and leftover triangles
     wander         leftover triangles to where they leave fewer poor quads
+    close          leftover triangles at the price of poor quads, unless that makes too many quads poor
     even_groups    for the even rule: no odd group of leftover triangles but where a piece of the mesh is odd
 
 Pairs and walks are held to a better scaled Jacobian first (STAGES) and to that of the quality set then.
@@ -25,6 +26,7 @@ from dataclasses import dataclass, field
 import numpy
 from ..fitting import power_within
 from ..front import FAR, Quality
+from .closing import close
 from .covers import NONE, Cover, Overlaps, cover_of
 from .even_groups import even_groups
 from .improvement import improve
@@ -40,7 +42,7 @@ STAGES = (0.5,)        # least scaled Jacobians that pairs and walks are held to
 BETTER = (0.4, 0.5, 0.6)  # what poor quads are improved to, where that can be
 MOST_POOR = (2, 2, 4)  # quads that the walks of a round may make poor, two triangles counting as five; the last where over 1 % of the cells are triangles
 
-__all__ = ['BETTER', 'Cover', 'Finished', 'Overlaps', 'STAGES', 'Step', 'THIN', 'cover_of', 'even_groups', 'finish', 'improve', 'mend', 'pair', 'swap', 'take_back', 'take_in', 'walk', 'wander']
+__all__ = ['BETTER', 'Cover', 'Finished', 'Overlaps', 'STAGES', 'Step', 'THIN', 'close', 'cover_of', 'even_groups', 'finish', 'improve', 'mend', 'pair', 'swap', 'take_back', 'take_in', 'walk', 'wander']
 
 
 @dataclass(frozen=True)
@@ -108,6 +110,7 @@ def finish(points, triangles, quads, locked=(), *, quality=None, thin=THIN, even
             step('walked on', walk, least, (REACHES[0], REACHES[-1]), POOR, most_poor)
             if steps[-2].done + steps[-1].done:
                 step('mended', mend, least)
+    step('closed', close, least)
     if even:
         step('evened', even_groups, thin)
     is_quad = cover.cells[:, 3] != NONE
