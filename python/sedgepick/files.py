@@ -14,6 +14,7 @@ GOOD = '.msh (Gmsh), .vtk, .vtu, .inp (Abaqus, CalculiX), .med, .xdmf, .bdf'
 # formats that are read by their suffix: those that docs/COMMAND.md names and the tests try; others are read where --from names them
 READ = {'.msh': 'gmsh', '.vtk': 'vtk', '.vtu': 'vtu', '.inp': 'abaqus', '.med': 'med', '.xdmf': 'xdmf', '.xmf': 'xdmf', '.bdf': 'nastran', '.nas': 'nastran', '.fem': 'nastran',
         '.mesh': 'medit', '.stl': 'stl', '.off': 'off', '.obj': 'obj', '.unv': 'unv'}
+GEOMETRY = ('.geo', '.step', '.stp', '.iges', '.igs', '.brep')  # what Gmsh makes a mesh of
 OWN = {'unv': unv.read}  # readers of formats that meshio does not read
 
 
@@ -56,6 +57,8 @@ def named_form(path, given):
 
 def reading_form(path, given):
     """The format in which a file is read: as given, else one of the list, by the suffix."""
+    if not given and suffix_of(path) in GEOMETRY:
+        raise Fault('it is a geometry and no mesh: mesh it first, as in gmsh -2 %s -o slab.msh' % os.path.basename(path))
     form = form_of(path, given)
     if not given and READ.get(suffix_of(path)) != form:
         raise Fault('%s files are read where --from %s says so: the readers of such formats are not tried here. Formats that are: %s' % (form, form, ', '.join(sorted(READ))))

@@ -93,14 +93,14 @@ def check_written(parser, options):
 
 
 class Parser(argparse.ArgumentParser):
-    """Tells wrong options as an object too, where one is asked for."""
+    """Tells wrong options in a line, without all that can be said, and as an object too where one is asked for."""
     wants_json = False
 
     def error(self, message):
         if self.wants_json:
             from . import answers
             answers.show(answers.text_of(answers.refusal(2, message)))
-        super().error(message)
+        self.exit(2, '%s: error: %s\n%s --help lists every option\n' % (self.prog, message, self.prog))
 
 
 def check_streams(parser, options):
@@ -109,6 +109,8 @@ def check_streams(parser, options):
         parser.error('- is standard input, and is one mesh: give it by itself')
     if '-' in options.input and not options.form:
         parser.error('- reads standard input: --from says the format, such as gmsh, vtu or abaqus')
+    if options.output == '-' and not options.to:
+        parser.error('-o - writes to standard output: --to says the format, such as gmsh22, vtu or abaqus')
     if options.json and options.output == '-':
         parser.error('--json and -o - both write to standard output: write the mesh to a file, or the object by --report FILE.json')
 

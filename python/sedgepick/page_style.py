@@ -18,6 +18,7 @@ td { border-top: 1px solid var(--line); padding: 3px 8px 3px 0; vertical-align: 
 .zoom { display: flex; justify-content: flex-end; gap: 4px; line-height: 1.2; margin-bottom: 6px; } .zoom button { font: inherit; font-size: 14px; min-width: 32px; padding: 5px 9px; border: 1px solid var(--line);
   border-radius: 6px; background: var(--paper); color: var(--ink); cursor: pointer; } .zoom button:focus-visible { outline: 2px solid #0d6270; outline-offset: 1px; }
 @media (max-width: 760px) { body { margin: 12px auto; font-size: 14px; } .lists { columns: 1; } h1 { font-size: 19px; } }
+@media screen and (max-width: 760px) { .chart { overflow-x: auto; } .chart svg { max-width: none; width: 900px; } }
 @media print { @page { size: A4; margin: 12mm; } body { max-width: none; margin: 0; padding: 0; font-size: 9.5pt; } .zoom { display: none; } h1 { font-size: 15pt; } h2 { font-size: 11pt; break-after: avoid; }
   svg, tr { break-inside: avoid; } .lists { column-gap: 20px; } }"""
 

@@ -111,5 +111,5 @@ def drawn(s):
         bars.append('<rect x="%d" y="%.1f" width="%d" height="%.1f" fill="%s"/><text x="%d" y="%.1f">%d</text><text x="%d" y="%d">%s</text>'
                     % (wide * i + 8, 20 + high - tall, wide - 16, tall, '#b03a2e' if i == STEPS else '#4a7fb0', wide * i + wide // 2, 15 + high - tall, n,
                        wide * i + wide // 2, high + 36, escape(name)))
-    return ('<svg class="sheet" viewBox="0 0 %d %d" width="%d" role="img" aria-label="quads by scaled Jacobian"><g font-size="12" text-anchor="middle">%s</g></svg>'
+    return ('<div class="chart" tabindex="0"><svg class="sheet" viewBox="0 0 %d %d" width="%d" role="img" aria-label="quads by scaled Jacobian"><g font-size="12" text-anchor="middle">%s</g></svg></div>'
             % (wide * (STEPS + 1), high + 46, wide * (STEPS + 1), ''.join(bars)))

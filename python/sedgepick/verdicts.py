@@ -37,12 +37,12 @@ class Judged:
     def clauses(self):
         """[(clause, words on its first offender, or None where it holds)]"""
         found, lost = self.verdict, self.verdict.lost
-        return [('given nodes are in place', None if found.moved is None else 'given node %d is not' % (found.moved + self.counted)),
-                ('given triangles have an area', self.cell('given triangle', self.triangles, found.given_flat, 'has none')),
-                ('quads turn left at each node', self.cell('quad', self.quads, found.folded, 'does not')),
-                ('no corner of a quad is too sharp', self.cell('quad', self.quads, found.sharp, 'has one')),
-                ('triangles have an area', self.cell('triangle', self.left, found.left_flat, 'has none')),
-                (THIN, self.cell('triangle', self.left, found.thin, 'is')),
+        return [('given nodes are in place', None if found.moved is None else 'given node %d is not in place' % (found.moved + self.counted)),
+                ('given triangles have an area', self.cell('given triangle', self.triangles, found.given_flat, 'has no area')),
+                ('quads turn left at each node', self.cell('quad', self.quads, found.folded, 'does not turn left at each node')),
+                ('no corner of a quad is too sharp', self.cell('quad', self.quads, found.sharp, 'has a corner that is too sharp')),
+                ('triangles have an area', self.cell('triangle', self.left, found.left_flat, 'has no area')),
+                (THIN, self.cell('triangle', self.left, found.thin, 'is too thin')),
                 ('each place is covered as often as by the given triangles', self.edge(found.uneven, 'the cells at the edge between %s and %s do not balance as the given ones do')),
                 ('lines and borders are kept', None if lost is None else self.edge(self.joints[lost], 'the edge between %s and %s is lost'))]
 

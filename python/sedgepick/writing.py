@@ -27,6 +27,8 @@ def check_form(path, form):
                 return make(made, path, form, points[:nodes], some, {}, {})
             except Fault as found:
                 fault = found
+    if 'it holds' in str(fault):  # of the cells of this trial
+        raise Fault('cannot write %s as %s: it holds no quads. Formats that take quads: %s' % (path, writing_form(path, form), GOOD))
     raise fault
 
 

@@ -94,7 +94,9 @@ class Options(Case):
         self.good(given, '-o', self.out, '--size', '0')
         os.remove(self.out)
         self.refused('out of range: for this mesh it is 0, auto or from', given, '-o', self.out, '--size', '100')
-        self.assertEqual(self.run_command(given, '-o', self.out, '--size', 'small').returncode, 2)
+        ran = self.run_command(given, '-o', self.out, '--size', 'small')
+        self.assertEqual((ran.returncode, ran.stderr.splitlines()), (2, ["sedgepick-mesh: error: argument --size: 'small' is no size: a length in the units of the file, 0 or auto",
+                                                                         'sedgepick-mesh --help lists every option']))
         self.assertEqual(self.run_command(given, '-o', self.out, '--stop', '2').returncode, 2)
 
     def test_quality(self):

@@ -264,7 +264,7 @@ class Runs(Case):
         """A sheet with every clause, marked as not accepted, that names no file and has no line for a name."""
         self.assertIn('NOT ACCEPTED', sheet)
         self.assertEqual((sheet.count('&#10003;</b>'), sheet.count('&#10007;</b>')), (7, 1))
-        self.assertRegex(sheet, '&#10007;</b>No triangle is too thin: triangle [0-9]+ is: node')
+        self.assertRegex(sheet, '&#10007;</b>No triangle is too thin: triangle [0-9]+ is too thin: node')
         self.assertEqual(len(re.findall('SHA-256 [0-9a-f]{64}<', sheet)), 1)
         self.assertNotRegex(sheet, 'Accepted|<input|Signature')
 
@@ -876,6 +876,9 @@ class Written(unittest.TestCase):
                 self.assertLessEqual(self.js('document.documentElement.scrollWidth'), width)
                 light = sum(map(int, re.findall(r'\d+', self.js('getComputedStyle(document.body).backgroundColor'))[:3])) > 600
                 self.assertEqual(light, scheme == 'light')
+        self.show('report.html', 390, 844)
+        sizes = self.js('[...document.querySelectorAll(".chart text")].map(e => e.getBoundingClientRect().height)')
+        self.assertGreater(min(sizes), 9)  # pixels: words that can be read, in a chart that is moved sideways
         self.show('report.html')
         self.assertRegex(self.browser.find_element('class name', 'date').text, time.strftime('%Y-'))
 

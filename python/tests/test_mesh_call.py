@@ -286,7 +286,7 @@ class Faults(unittest.TestCase):
         """The node that a verdict names is that of the arrays."""
         mesh = sedgepick.mesh([(0, 0), (2, 0), (1, 0.0175)], [(0, 1, 2)])
         self.assertTrue(mesh.accepted)
-        self.assertRegex(mesh.warnings[0], r'triangle 0 is: node 0 at \(0, 0\), node 1 at .*go down to 1 degrees themselves, so it is accepted all the same \(thin 10\)')
+        self.assertRegex(mesh.warnings[0], r'triangle 0 is too thin: node 0 at \(0, 0\), node 1 at .*go down to 1 degrees themselves, so it is accepted all the same \(thin 10\)')
 
 
 class Elsewhere(unittest.TestCase):

@@ -52,7 +52,7 @@ class Places(Case):
         with open(self.out) as file:
             self.assertEqual(file.read(), ran.stdout)
         refused = self.run_command(L_SLAB, '-o', '-')
-        self.assertEqual((refused.returncode, refused.stdout), (1, ''))
+        self.assertEqual((refused.returncode, refused.stdout), (2, ''))
         self.assertIn('--to says the format', refused.stderr)
         self.assertFalse(os.path.exists('-'))
 

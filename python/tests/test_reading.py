@@ -84,6 +84,7 @@ class Reading(Given):
         self.refused('it is a folder', self.folder, '-o', self.out)
         self.refused('it is empty', self.put('empty.msh', ''), '-o', self.out)
         self.refused("unknown format of mesh.xyz: .*'.xyz'", self.put('mesh.xyz', 'hello'), '-o', self.out)
+        self.refused('slab.geo: it is a geometry and no mesh: mesh it first, as in gmsh -2 slab.geo -o slab.msh', self.put('slab.geo', 'Point(1) = {0, 0, 0};'), '-o', self.out)
 
     @unittest.skipIf(hasattr(os, 'geteuid') and os.geteuid() == 0, 'root may read everything')
     def test_no_permission(self):
@@ -123,7 +124,7 @@ class Writing(Case):
         self.assertEqual(os.listdir(self.folder), ['out.stl'])
 
     def test_forms_without_quads_are_told_before_the_run(self):
-        with self.assertRaisesRegex(surfaces.Fault, 'cannot write out.stl as stl: .* Formats that take quads'):
+        with self.assertRaisesRegex(surfaces.Fault, 'cannot write out.stl as stl: it holds no quads. Formats that take quads'):
             writing.check_form('out.stl', None)
         writing.check_form(self.out, None)
 

@@ -67,7 +67,7 @@ class Finished(Judging):
     def test_the_given_mesh_is_thin(self):
         """A triangle of 1 degree that nothing can pair."""
         given = self.stored([(0, 0, 0), (2, 0, 0), (1, 0.0175, 0)], [('triangle', [(0, 1, 2)])])
-        self.assertRegex(self.good(given, '-o', self.out, status=3).stderr, r'warning: triangle 1 is: node 1 at .*the given triangles go down to 1 degrees themselves')
+        self.assertRegex(self.good(given, '-o', self.out, status=3).stderr, r'warning: triangle 1 is too thin: node 1 at .*the given triangles go down to 1 degrees themselves')
         rows = lambda: dict(re.findall(r'^  (no triangle is too thin|least angle asked of triangles) +(.*)$', open_text(text), re.M))
         text = self.path('r.txt')
         for thin, status, clause, asked in (('10', 3, NOT_ASKED, NOT_ASKED), ('0.5', 0, 'yes', '0.5 degrees'), ('0', 0, 'not asked', 'not asked')):
@@ -161,8 +161,8 @@ class Accept(Judging):
             cells['triangle'].append([a, b, len(points)])
             return numpy.vstack([points, [2 * points[b] - points[a]]])
 
-        for change, words in ((clockwise, r'quads turn left at each node: no; quad 5, cell 5 of the file, does not: node \d+ at \(.*node'), (missing, 'each place is covered as often as by the given triangles: no'),
-                              (twice, 'each place is covered as often as by the given triangles: no; the cells at the edge between node'), (flat, 'triangles have an area: no; triangle 11, cell 79 of the file, has none')):
+        for change, words in ((clockwise, r'quads turn left at each node: no; quad 5, cell 5 of the file, does not turn left at each node: node \d+ at \(.*node'), (missing, 'each place is covered as often as by the given triangles: no'),
+                              (twice, 'each place is covered as often as by the given triangles: no; the cells at the edge between node'), (flat, 'triangles have an area: no; triangle 11, cell 79 of the file, has no area')):
             with self.subTest(change.__name__):
                 self.assertRegex(self.judge(SLAB, self.changed(change), status=1).stdout, words)
 

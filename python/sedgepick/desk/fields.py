@@ -112,7 +112,7 @@ def field_of(words: str) -> str:
     """The field that a fault of a run speaks of; '' where it is none."""
     if words.startswith('not accepted: triangle'):
         return 'thin'
-    if words.startswith('not accepted: quad') and 'has one' in words:
+    if words.startswith('not accepted: quad') and 'is too sharp' in words:
         return 'least_angle'
     if words.startswith('cannot write'):
         return 'format'
