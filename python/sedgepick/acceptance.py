@@ -100,7 +100,7 @@ def accept(given_points, triangles, points, quads, left, joints=None, *, cosine=
     components, work, parents = [numbers(0 if over else n) for n in room(judged)]
     answer = (ctypes.c_size_t * NUMBERS)()
     refusal = library.load().sedgepick_accept(
-        *(word for slice, length in slices for word in (slice, length)), *(word for slice in (components, work, parents) for word in (slice, len(slice))),
+        *(word for pair in slices for word in pair), *(word for memory in (components, work, parents) for word in (memory, len(memory))),
         judged.given, judged.triangles, judged.points, judged.quads, judged.left, judged.joints, judged.cosine, judged.thin, answer, NUMBERS)
     if refusal:
         raise Refused(refusal, REFUSALS.get(refusal))
@@ -123,9 +123,9 @@ def told(judged, answer, components):
 def lend_doubles(points):
     """(slice, how many numbers it has)"""
     flat = doubles(points)
-    slice = (ctypes.c_double * max(len(flat), 1))()
-    ctypes.memmove(slice, flat.buffer_info()[0], 8 * len(flat))
-    return slice, len(flat)
+    memory = (ctypes.c_double * max(len(flat), 1))()
+    ctypes.memmove(memory, flat.buffer_info()[0], 8 * len(flat))
+    return memory, len(flat)
 
 
 def lend_nodes(cells, width, what):

@@ -108,7 +108,7 @@ class Quad(NamedTuple):
     """A quad, and how it came about."""
     nodes: tuple   # counterclockwise
     edge: tuple    # the front edge that it grew from, which is that between its first two nodes, the smaller one first
-    round: int     # the round that placed it, from 1
+    round: int     # noqa: A003 the round that placed it, from 1
     replaced: int  # how many triangles it replaced
 
 
@@ -233,7 +233,7 @@ class Memory:
         self.quads, self.left, self.components, self.trace = numbers(QUAD_WORDS * slots), numbers(3 * slots), numbers(slots), numbers(call.words)
         written = (self.quads, self.left, self.components, numbers(64 * slots + 8 * capacity), (ctypes.c_double * (4 * slots))())
         self.given = (self.xyz, len(self.xyz), lent(triangles), len(triangles))
-        self.written = tuple(word for slice in written for word in (slice, len(slice)))
+        self.written = tuple(word for memory in written for word in (memory, len(memory)))
         self.slices = (*self.given, lent(call.joints), len(call.joints), *self.written)
         q = call.quality
         self.stated = (call.given, call.capacity, call.count, call.slots, len(call.joints) // 2, call.size, call.stop,
@@ -258,9 +258,9 @@ def attempt(run, points, triangles, call, job=()):
 
 def lent(words):
     """Words as the library reads them."""
-    slice = numbers(len(words))
-    ctypes.memmove(slice, words.buffer_info()[0], 4 * len(words))
-    return slice
+    memory = numbers(len(words))
+    ctypes.memmove(memory, words.buffer_info()[0], 4 * len(words))
+    return memory
 
 
 def rows(numbers, count, width):

@@ -108,7 +108,7 @@ class Result:
     of_triangles: object
     rounded: tuple    # coordinates that the fit rounded: of given points on their way in, of added ones on their way back
     cutter: str
-    joints: list = () # how many edges of each part were locked
+    joints: list = ()  # how many edges of each part were locked
     notes: list = ()  # parts that are slit
     scale: float = 1  # the largest by which a part was fitted
     sheet: object = None  # of the quads, as the library measures them
@@ -160,7 +160,7 @@ def by_metis(triangles, count):
 def halved(points, triangles, part):
     """The parts, those that are too large cut in halves across their longer side until none is."""
     middles = points[triangles, :2].mean(axis=1)
-    part, waiting, ready = part.copy(), list(numpy.unique(part)), 0
+    part, waiting = part.copy(), list(numpy.unique(part))
     following = int(part.max()) + 1
     while waiting:
         which = waiting.pop()

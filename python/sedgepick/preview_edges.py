@@ -15,7 +15,7 @@ class Edge:
     ends: tuple       # its triangle lies on the left from the first to the second
     places: object    # x and y of the ends, then of the triangle's third node; of its middle, where it has another front edge
     shown: object     # a Preview; its quad has the part's node numbers
-    nodes: tuple = () # of the quad; None for one that would be inserted
+    nodes: tuple = ()  # of the quad; None for one that would be inserted
     corners: object = None
     jacobian: float = 0.0
 

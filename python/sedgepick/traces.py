@@ -56,8 +56,8 @@ def entry(words, at=0):
     if kind == FLIP and there >= 3:
         return Flip(tuple(map(int, words[at + 1:at + 3])))
     if kind == QUAD and there >= HEAD and there >= HEAD + int(words[at + HEAD - 1]):
-        a, b, c, d, u, v, round, count = map(int, words[at + 1:at + HEAD])
-        return Placed(Quad((a, b, c, d), (u, v), round, count), tuple(map(int, words[at + HEAD:at + HEAD + count])))
+        a, b, c, d, u, v, turn, count = map(int, words[at + 1:at + HEAD])
+        return Placed(Quad((a, b, c, d), (u, v), turn, count), tuple(map(int, words[at + HEAD:at + HEAD + count])))
     return None
 
 

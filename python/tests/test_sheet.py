@@ -5,7 +5,7 @@ import sedgepick
 from sedgepick import sheets
 
 try:
-    import meshio, numpy
+    import meshio
 except ImportError:
     meshio = None
 
