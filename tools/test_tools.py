@@ -792,6 +792,7 @@ class Running(unittest.TestCase):
         for path in ('crates/sedgepick/stdin', 'crates/sedgepick/stdout', *('examples/%s.%s' % (name, end) for name in ('slab', 'plate', 'leftovers') for end in ('in', 'out'))):
             self.write(path, '')
         self.write('python/setup.cfg', '[flake8]\n')
+        self.write('python/sedgepick/__init__.py', '')
 
     def write(self, path, text):
         path = os.path.join(self.root, path)

@@ -217,7 +217,7 @@ def body(work, place=0):
     rows = [(title, [row for row in own if row not in bars]) for title, own in rows]
     warnings = ''.join('<p class="warning">%s</p>' % escape(words) for words in work.warnings)
     return ('<h1>%s</h1>\n<p class="date">%s</p>\n<p>%s</p>%s\n%s%s<h2>Quads by scaled Jacobian</h2>\n%s\n<div class="lists">%s</div>'
-            % (escape(work.surface.name), datetime.now().astimezone().strftime('%Y-%m-%d %H:%M %Z'), escape(summary(work)).replace('\n', '<br>\n'), warnings, picture.draw(drawn, place), picture.insets(drawn), sheets.drawn(work.result.sheet), tables(rows)))
+            % (escape(work.surface.name), datetime.now().astimezone().strftime('%Y-%m-%d %H:%M %Z'), escape(summary(work)).replace('\n', '<br>\n'), warnings, picture.draw(drawn, place), picture.insets(drawn), sheets.draw(work.result.sheet), tables(rows)))
 
 
 def page(work):
