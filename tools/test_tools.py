@@ -1,5 +1,5 @@
 #!/usr/bin/env python3
-"""Tests of tools/convert, tools/draw, tools/change-definition, tools/landing-note, tools/check-docs and tools/fuzz: python3 tools/test_tools.py"""
+"""Tests of tools/convert, tools/draw, tools/change-definition, tools/landing-note, tools/check-docs, tools/fuzz and tools/test: python3 tools/test_tools.py"""
 import contextlib, glob, io, math, os, random, re, shutil, subprocess, sys, tempfile, time, unittest
 import unittest.mock
 import xml.etree.ElementTree as xml
@@ -794,6 +794,77 @@ class Fuzz(unittest.TestCase):
             self.assertTrue(1 <= len(found) < 40, len(found))
             self.assertEqual({status for status, *_ in found}, {1})
             self.assertEqual(len(FUZZ.tried(Slow, folder, [('.msh', b'x')] * 3)), 3)
+
+
+class Running(unittest.TestCase):
+    """tools/test in a tree of its own, whose steps are what a test says."""
+
+    def setUp(self):
+        self.root = tempfile.mkdtemp()
+        self.addCleanup(shutil.rmtree, self.root)
+        self.write('tools/test', content(os.path.join(HERE, 'test')).decode())
+        for path in ('tools/check-docs', 'tools/run-definition', 'bin/cargo'):
+            self.write(path, '#!/bin/sh\nexit 0\n')
+        self.write('tools/test_tools.py', 'import sys\nclass Drawing(): pass\nprint("tried", sys.argv[1:])\n')
+        for path in ('crates/sedgepick/stdin', 'crates/sedgepick/stdout', *('examples/%s.%s' % (name, end) for name in ('slab', 'plate', 'leftovers') for end in ('in', 'out'))):
+            self.write(path, '')
+        self.write('python/setup.cfg', '[flake8]\n')
+        self.write('python/sedgepick/__init__.py', '')
+
+    def write(self, path, text):
+        path = os.path.join(self.root, path)
+        os.makedirs(os.path.dirname(path), exist_ok=True)
+        with open(path, 'w') as file:
+            file.write(text)
+        os.chmod(path, 0o755)
+
+    def run_test(self, *words):
+        """(exit status, what is said)"""
+        ran = subprocess.run([os.path.join(self.root, 'tools/test'), *words], stdout=subprocess.PIPE, stderr=subprocess.STDOUT, text=True,
+                             env=dict(os.environ, PATH=os.path.join(self.root, 'bin') + ':' + os.environ['PATH']))
+        return ran.returncode, ran.stdout
+
+    def test_all_pass(self):
+        status, said = self.run_test('docs', 'tools')
+        self.assertEqual((status, said.split('\n')[-3:]), (0, ['tools/test: passed: docs tools', 'tools/test: ok', '']))
+
+    def test_goes_on_after_a_failure(self):
+        self.write('tools/check-docs', '#!/bin/sh\necho a fault\nexit 3\n')
+        status, said = self.run_test('docs', 'tools')
+        self.assertEqual(status, 1)
+        for words in ('a fault\nFAILED: docs (exit status 3)', 'tried []', 'tools/test: passed: tools\ntools/test: FAILED: docs\n'):
+            self.assertIn(words, said)
+
+    def test_a_step_ends_at_its_first_failure(self):
+        self.write('bin/cargo', '#!/bin/sh\necho "cargo $1"\n[ "$1" != test ]\n')
+        status, said = self.run_test('reference')
+        self.assertEqual((status, said.count('cargo test'), said.count('cargo run')), (1, 1, 0))
+
+    def test_quick(self):
+        self.write('tools/check-docs', '#!/bin/sh\nexit 1\n')
+        status, said = self.run_test('quick')
+        self.assertEqual(status, 1)
+        self.assertIn('FAILED: docs', said)
+        self.assertRegex(said, 'tools/test: passed: reference tools')
+
+    def test_skipped(self):
+        """What is not built is passed over with its name, and has failed where it was asked for."""
+        status, said = self.run_test()
+        self.assertEqual(status, 0)
+        self.assertIn('\n  program: target/bin/sedgepick is not there\n', said)
+        self.assertEqual([self.run_test(name)[0] for name in ('program', 'roots', 'bindings', 'python')], [1] * 4)
+
+    def test_names(self):
+        self.assertIn("tried ['Drawing.test_square']", self.run_test('Drawing.test_square')[1])
+        self.write('reference/src/lib.rs', 'fn turns() {}\n')
+        self.write('bin/cargo', '#!/bin/sh\necho "cargo $*"\n')
+        self.assertRegex(self.run_test('turns')[1], 'cargo test .*reference/Cargo.toml turns\n')
+        self.write('tools/python-tests', 'import sys\nprint("python", sys.argv[1:])\n')
+        self.write('python/tests/test_filing.py', '')
+        self.assertIn("python ['test_filing.Order']", self.run_test('test_filing.Order')[1])
+        self.assertIn("python ['test_filing', 'test_job']", self.run_test('python', 'test_filing', 'test_job')[1])
+        status, said = self.run_test('none_such')
+        self.assertEqual((status, said.split(';')[0]), (2, 'tools/test: none_such is no step and no test'))
 
 
 if __name__ == '__main__':

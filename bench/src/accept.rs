@@ -157,7 +157,8 @@ fn growth(rows: &[(usize, f64)]) {
 fn hard() {
     println!("\n| quads that need big numbers | quads | ms | us a corner |");
     println!("|---|---|---|---|");
-    let kinds: [(&str, fn(usize) -> Judged); 3] = [
+    type Make = fn(usize) -> Judged;
+    let kinds: [(&str, Make); 3] = [
         ("usual doubles", meshes::flat),
         ("longest numbers", meshes::longest),
         ("at the cosine limit", meshes::at_limit),
@@ -174,7 +175,7 @@ fn hard() {
 
 /// Both tables, or the one that is named.
 pub fn run(only: Option<String>) {
-    let asked = |name: &str| only.as_ref().map_or(true, |o| o == name);
+    let asked = |name: &str| only.iter().all(|o| o == name);
     if asked("meshes") {
         library();
     }

@@ -1,10 +1,12 @@
 """Quads from the triangles of a plane mesh, by an advancing front.
 
-The mesher is proved: a finished mesh is the one that a short definition fixes, bit for bit, and each of its quads is, in exact arithmetic, convex
-and counterclockwise. With the standard quality set no quad has a corner under 24.99 degrees; with any other set, the exact cosine of each corner is at most
-the set's largest cosine plus 1e-9. This package lends it memory.
+The mesher is proved: a finished mesh is the one that a short definition fixes, bit for bit, and
+each of its quads is, in exact arithmetic, convex and counterclockwise. With the standard quality
+set no quad has a corner under 24.99 degrees; with any other set, the exact cosine of each corner is
+at most the set's largest cosine plus 1e-9. This package lends it memory.
 
-A slab of any unit and any size is one call, which runs it in parts where it is large, finishes what the runs leave and has the whole mesh judged; it needs numpy:
+A slab of any unit and any size is one call, which runs it in parts where it is large, finishes what
+the runs leave and has the whole mesh judged; it needs numpy:
 
     mesh = sedgepick.mesh(points, triangles, lines=walls, points_kept=columns)
     mesh.quads, mesh.accepted
@@ -12,35 +14,40 @@ A slab of any unit and any size is one call, which runs it in parts where it is 
 One run of the proved mesher, within its range:
 
     >>> import sedgepick
-    >>> mesh = sedgepick.run_front([(0, 0), (1, 0), (1, 1), (0, 1)], [(0, 1, 2), (0, 2, 3)], size=1.0, stop=0)
+    >>> square = [(0, 0), (1, 0), (1, 1), (0, 1)], [(0, 1, 2), (0, 2, 3)]
+    >>> mesh = sedgepick.run_front(*square, size=1.0, stop=0)
     >>> mesh.quads[0]
     Quad(nodes=(0, 1, 2, 3), edge=(0, 1), round=1, replaced=2)
 
-A quad knows the front edge that it grew from, the round that placed it and how many triangles it replaced; `mesh.quads.nodes` has the nodes of all.
+A quad knows the front edge that it grew from, the round that placed it and how many triangles it
+replaced; `mesh.quads.nodes` has the nodes of all.
 
-Quads can be held to other numbers than the standard ones, here to corners of 40 degrees (exactly, but for 1e-9 of the cosine):
+Quads can be held to other numbers than the standard ones, here to corners of 40 degrees (exactly,
+but for 1e-9 of the cosine):
 
     >>> strict = sedgepick.Quality(largest_cosine=sedgepick.cosine_of(40), least_jacobian=0.5)
-    >>> len(sedgepick.run_front([(0, 0), (1, 0), (1.9, 0.5), (0.9, 0.5)], [(0, 1, 2), (0, 2, 3)], size=1.0, quality=strict).quads)
+    >>> slanted = [(0, 0), (1, 0), (1.9, 0.5), (0.9, 0.5)], [(0, 1, 2), (0, 2, 3)]
+    >>> len(sedgepick.run_front(*slanted, size=1.0, quality=strict).quads)
     0
 
 Joints are edges that no run takes away, here the diagonal:
 
-    >>> mesh = sedgepick.run_front([(0, 0), (1, 0), (1, 1), (0, 1)], [(0, 1, 2), (0, 2, 3)], size=1.0, joints=[(2, 0)])
+    >>> mesh = sedgepick.run_front(*square, size=1.0, joints=[(2, 0)])
     >>> len(mesh.quads), len(mesh.triangles)
     (0, 2)
 
-What an edge would give, were it the first that a run tries, can be asked before any run; an edge of a square, the same with a joint, and all edges of the front:
+What an edge would give, were it the first that a run tries, can be asked before any run; an edge of
+a square, the same with a joint, and all edges of the front:
 
-    >>> square = [(0, 0), (1, 0), (1, 1), (0, 1)], [(0, 1, 2), (0, 2, 3)]
-    >>> sedgepick.preview(*square, edge=(1, 0), size=1.0)
-    Preview(quad=Quad(nodes=(0, 1, 2, 3), edge=(0, 1), round=1, replaced=2), refused=None, insertions=0, flips=0)
-    >>> print(sedgepick.preview(*square, edge=(1, 0), size=1.0, joints=[(0, 2)]))
-    refused, region: the triangles inside the quad do not fill it, or a joint is inside it; no insertion, no flip
+    >>> sedgepick.preview(*square, edge=(1, 0), size=1.0).quad
+    Quad(nodes=(0, 1, 2, 3), edge=(0, 1), round=1, replaced=2)
+    >>> sedgepick.preview(*square, edge=(1, 0), size=1.0, joints=[(0, 2)])
+    Preview(quad=None, refused='region', insertions=0, flips=0)
     >>> [str(shown) for shown in sedgepick.preview_front(*square, size=1.0).values()][0]
     'quad 0 1 2 3 in place of 2 triangles; no insertion, no flip'
 
-A run can be asked for its trace, an entry for each insertion, flip and quad; with its first entries a mesh can be looked at as it was then:
+A run can be asked for its trace, an entry for each insertion, flip and quad; with its first entries
+a mesh can be looked at as it was then:
 
     >>> mesh = sedgepick.run_front(*square, size=1.0, trace=True)
     >>> [str(entry) for entry in sedgepick.entries(mesh.trace)]
@@ -65,7 +72,8 @@ A sheet says how good the quads of a list are, ours or not:
     >>> found.steps, found.without_metrics, found.jacobian
     ((0, 0, 0, 0, 0, 0, 0, 0, 0, 1), 1, Worst(quad=0, value=1.0))
 
-An archive can keep its meshes sorted; two are the same where their points agree and their triangles agree up to rotation and list order:
+An archive can keep its meshes sorted; two are the same where their points agree and their triangles
+agree up to rotation and list order:
 
     >>> turned = square[0], [(2, 3, 0), (1, 2, 0)]
     >>> sedgepick.filing_order(square, turned), sedgepick.Filed(*square) == sedgepick.Filed(*turned)
@@ -73,15 +81,17 @@ An archive can keep its meshes sorted; two are the same where their points agree
     >>> sedgepick.filing_order((square[0], square[1][:1]), square)
     -1
 
-Acceptance runs can cover every list of one to three different triangles on 3, 4 or 5 points, by its place in their order:
+Acceptance runs can cover every list of one to three different triangles on 3, 4 or 5 points, by its
+place in their order:
 
     >>> sedgepick.small_mesh(4, 13), sedgepick.small_mesh(4, 14)
     ([(0, 1, 3), (0, 2, 3), (1, 2, 3)], None)
     >>> [len(list(sedgepick.small_meshes(points))) for points in (3, 4, 5)]
     [1, 14, 175]
 
-A finished mesh, ours or not, can be judged against the mesh that was given, in exact arithmetic; the verdict is true where every clause holds, names the first
-offender of each that does not, and prints as a sheet:
+A finished mesh, ours or not, can be judged against the mesh that was given, in exact arithmetic;
+the verdict is true where every clause holds, names the first offender of each that does not, and
+prints as a sheet:
 
     >>> verdict = sedgepick.accept(*square, mesh.points, mesh.quads, mesh.triangles)
     >>> verdict.accepted, verdict.folded, verdict.uneven
@@ -99,16 +109,20 @@ offender of each that does not, and prints as a sheet:
     joints kept                                        holds
     components left over                               0, 0 odd
 
-Threads: the library keeps nothing between calls and each call here lends memory of its own, so any number of threads may call `run_front` at once. The
-interpreter's lock is free while the library runs.
+Threads: the library keeps nothing between calls and each call here lends memory of its own, so any
+number of threads may call `run_front` at once. The interpreter's lock is free while the library
+runs.
 
 Lists come back as numpy arrays where numpy is there, otherwise as lists of tuples.
 """
 from typing import TYPE_CHECKING
 from .acceptance import ANY_TRIANGLE, MOST_JUDGED, Judged, Verdict, accept
 from .filing import AFTER, BEFORE, SAME, Filed, filing_order
-from .front import (EVEN_COMPONENTS, EXHAUST, FAR, GRID_LINES, LARGEST_SIZE, LEAST_SIZE, MOST_CAPACITY, MOST_GIVEN, MOST_JOINTS, MOST_SLOTS, RANGES, REFUSALS, Counts,
-                    Quad, Quads, Quality, Refused, cosine_of, run_front)
+from .front import (
+    EVEN_COMPONENTS, EXHAUST, FAR, GRID_LINES, LARGEST_SIZE, LEAST_SIZE, MOST_CAPACITY, MOST_GIVEN,
+    MOST_JOINTS, MOST_SLOTS, RANGES, REFUSALS, Counts, Quad, Quads, Quality, Refused, cosine_of,
+    run_front,
+)
 from .front import Mesh as FrontMesh
 from .job import MOST_ALLOWANCE, MOST_MESHES, MOST_TRACE, Job, Slab
 from .library import NoLibrary, VERSION, commit
@@ -123,13 +137,19 @@ if TYPE_CHECKING:
 
 __version__ = VERSION
 __license__ = 'MIT'
-__all__ = ['AFTER', 'ANY_TRIANGLE', 'BEFORE', 'Counts', 'EVEN_COMPONENTS', 'EXHAUST', 'FAR', 'Fault', 'Filed', 'Flip', 'FrontMesh', 'GRID_LINES', 'Insertion', 'Job',
-           'Judged', 'KINDS', 'LARGEST_SIZE', 'LEAST_SIZE', 'MOST_ALLOWANCE', 'MOST_CAPACITY', 'MOST_GIVEN', 'MOST_JOINTS', 'MOST_JUDGED',
-           'MOST_MESHES', 'MOST_SLOTS', 'MOST_TRACE', 'Mesh', 'NoLibrary', 'Placed', 'Preview', 'Quad', 'Quads', 'Quality', 'RANGES', 'REFUSALS',
-           'Refused', 'Replayed', 'SAME', 'Sheet', 'Slab', 'Verdict', 'Worst', 'accept', 'commit', 'cosine_of', 'entries', 'filing_order', 'mesh', 'preview',
-           'preview_front', 'replay', 'run_front', 'sheet', 'small_mesh', 'small_meshes']
+__all__ = [
+    'AFTER', 'ANY_TRIANGLE', 'BEFORE', 'Counts', 'EVEN_COMPONENTS', 'EXHAUST', 'FAR', 'Fault',
+    'Filed', 'Flip', 'FrontMesh', 'GRID_LINES', 'Insertion', 'Job', 'Judged', 'KINDS',
+    'LARGEST_SIZE', 'LEAST_SIZE', 'MOST_ALLOWANCE', 'MOST_CAPACITY', 'MOST_GIVEN', 'MOST_JOINTS',
+    'MOST_JUDGED', 'MOST_MESHES', 'MOST_SLOTS', 'MOST_TRACE', 'Mesh', 'NoLibrary', 'Placed',
+    'Preview', 'Quad', 'Quads', 'Quality', 'RANGES', 'REFUSALS', 'Refused', 'Replayed', 'SAME',
+    'Sheet', 'Slab', 'Verdict', 'Worst', 'accept', 'commit', 'cosine_of', 'entries', 'filing_order',
+    'mesh', 'preview', 'preview_front', 'replay', 'run_front', 'sheet', 'small_mesh',
+    'small_meshes',
+]
 
-LATE = {'Fault': 'surfaces', 'Mesh': 'meshing', 'mesh': 'meshing'}  # what needs numpy is imported when it is asked for: the rest works without
+# what needs numpy is imported when it is asked for: the rest works without
+LATE = {'Fault': 'surfaces', 'Mesh': 'meshing', 'mesh': 'meshing'}
 
 
 def __getattr__(name: str) -> object:
@@ -141,6 +161,8 @@ def __getattr__(name: str) -> object:
     except ModuleNotFoundError as missing:
         if missing.name != 'numpy':
             raise
-        raise AttributeError('sedgepick.%s needs numpy: install it (Debian: apt install python3-numpy)' % name) from None
+        raise AttributeError(
+            'sedgepick.%s needs numpy: install it (Debian: apt install python3-numpy)' % name
+        ) from None
     globals()[name] = found
     return found

@@ -108,8 +108,9 @@ class Pair:
                            ('asked of quads', 'a cosine of at most %.14g and 1e-9' % options.cosine), ('asked of triangles', 'an angle of at least %g degrees' % options.thin if options.thin else 'nothing'),
                            ('nodes matched', 'bit for bit' if not options.near else 'within %g%s' % (options.near, self.near_words())),
                            ('library', 'sedgepick %s' % library.VERSION), ('commit', library.commit())]),
-                ('Verdict', rows + [('nodes dropped', self.dropped)]), ('Mesh', [('quads', len(self.quads)), ('triangles', len(self.left)),
-                 *(('least angle of %s' % name, '%.4f degrees' % self.least(cells)) for name, cells in (('quads', self.quads), ('triangles', self.left)) if len(cells))])]
+                ('Verdict', rows + [('nodes dropped', self.dropped)]),
+                ('Mesh', [('quads', len(self.quads)), ('triangles', len(self.left)),
+                          *(('least angle of %s' % name, '%.4f degrees' % self.least(cells)) for name, cells in (('quads', self.quads), ('triangles', self.left)) if len(cells))])]
 
     def facts(self):
         """What --json prints."""
@@ -148,8 +149,9 @@ def report_of(pair, page):
     title = 'sedgepick-accept: %s against %s' % (os.path.basename(pair.options.judged), os.path.basename(pair.options.given))
     if not page:
         return lines(title, pair.sections())
-    return bodied(title, '<h1>%s</h1>\n<p>%s</p>%s\n%s' % (escape(title), escape(pair.summary()), ''.join('<p class="warning">%s</p>' % escape(words) for _, words in pair.faults()),
-                                                        tables(pair.sections())))
+    warned = ''.join('<p class="warning">%s</p>' % escape(words) for _, words in pair.faults())
+    return bodied(title, '<h1>%s</h1>\n<p>%s</p>%s\n%s'
+                  % (escape(title), escape(pair.summary()), warned, tables(pair.sections())))
 
 
 def main(words=None):

@@ -26,7 +26,7 @@ def sheet_of(points, quads):
         nodes = numpy.unique(own)
         placed = fit(points[nodes]).there(points[nodes]) if len(nodes) else numpy.zeros((0, 2))
         found.append(sheets.sheet(placed, numpy.searchsorted(nodes, own)))
-    return sheets.joined(found)
+    return sheets.join(found)
 
 
 def dropped(given, result):

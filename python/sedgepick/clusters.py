@@ -4,6 +4,7 @@ What is sent is a part as it goes to the library, or a surface with its plan; wh
 scheduler can run code on its workers: that is Dask's nature, and such a cluster belongs on a network of one's own."""
 from __future__ import annotations
 import logging, warnings
+from functools import partial
 from typing import Any, Callable, Iterator, Sequence
 from . import library
 from .front import Refused
@@ -90,4 +91,4 @@ class Cluster:
     def in_turn(self, task: Callable, items: Sequence) -> Iterator[Callable[[], Any]]:
         """For each item, in order, a function that waits for what the task gives, or raises; all are sent at once."""
         for future in self.submitted(task, items):
-            yield lambda future=future: self.result(future)
+            yield partial(self.result, future)

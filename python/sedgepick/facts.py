@@ -52,4 +52,3 @@ def account_of(slab: Any) -> dict[str, int]:
 def versions() -> dict[str, Any]:
     return {'sedgepick': library.version(), 'interface': library.abi(), 'commit': library.commit(), 'build': library.build(), 'meshio': getattr(meshio, '__version__', None),
             'numpy': numpy.__version__, 'python': platform.python_version()}
-

@@ -119,11 +119,11 @@ def taken(path, form, limits, take):
 def show_names(surface):
     """Names of groups as they may be shown and written: control characters escaped."""
     own = [surface.hard, surface.names, *(marked.sets for marked in (surface.triangles, surface.quads, surface.lines, surface.vertices) if marked)]
-    if all(name == visible(name) for names in own for name in names):
+    if all(name == visible(name) for named in own for name in named):
         return
-    for names in own:
-        for name in [name for name in names if name != visible(name)]:
-            names[visible(name)] = names.pop(name)
+    for named in own:
+        for name in [name for name in named if name != visible(name)]:
+            named[visible(name)] = named.pop(name)
     surface.notes.append('names of groups have control characters; they are shown and written escaped')
 
 

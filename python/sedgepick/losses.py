@@ -1,5 +1,6 @@
 """What a run lost of the file's lines, points and borders of surfaces; and the checks of its result."""
 from dataclasses import dataclass
+from typing import Any
 import numpy
 from . import groups, quality
 from .front import GRID_LINES
@@ -14,7 +15,7 @@ class Loss:
     """Edges or nodes of one kind and group: how many there were, and those lost."""
     what: str
     total: int
-    lost: object   # nodes, or pairs of nodes
+    lost: Any      # nodes, or pairs of nodes
 
     def stand(self):
         return '%d of %d lost' % (len(self.lost), self.total) if len(self.lost) else 'all %d stand' % self.total if self.total > 1 else 'it stands'

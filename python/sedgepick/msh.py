@@ -469,7 +469,7 @@ try:
     import meshio
     from meshio import _helpers as meshio_forms
     from meshio.gmsh import _gmsh22, _gmsh40, _gmsh41
-    GMSH_READERS = ((_gmsh22, 0), (_gmsh40, 1), (_gmsh41, 1))  # and what their numbers of nodes are less than the file's
+    GMSH_READERS: tuple = ((_gmsh22, 0), (_gmsh40, 1), (_gmsh41, 1))  # and what their numbers of nodes are less than the file's
 except ImportError:
     meshio = meshio_forms = sys.modules[__name__]
     GMSH_READERS = ()

@@ -6,6 +6,7 @@ it, which have two. Where two parts meet, each has the cut edges with one triang
 import os, re, shutil, subprocess
 from concurrent.futures import ThreadPoolExecutor, as_completed
 from dataclasses import dataclass
+from typing import Any, Sequence
 import numpy
 from . import joints, quality, sheets
 from .evening import evened
@@ -25,28 +26,28 @@ METIS_SECONDS = 120.0  # that it may take; a million triangles take ten
 @dataclass
 class Fitted:
     """A part as the library takes it."""
-    nodes: object
-    placed: object     # the fit
-    points: object
-    triangles: object
-    size: object
-    joints: object
+    nodes: Any
+    placed: Any        # the fit
+    points: Any
+    triangles: Any
+    size: Any
+    joints: Any
 
 
 @dataclass
 class Plan:
     """A mesh in parts, before its run."""
     given: int         # nodes of the file
-    points: object     # with those that slits double
-    triangles: object
-    origin: object     # the node of the file that each stands for
-    part: object       # of each triangle
+    points: Any        # with those that slits double
+    triangles: Any
+    origin: Any        # the node of the file that each stands for
+    part: Any          # of each triangle
     cutter: str
     notes: list        # parts that are slit
-    hard: object
-    size: object
+    hard: Any
+    size: Any
     grid: bool
-    told: list = ()    # on how the parts were cut
+    told: Sequence[Any] = ()    # on how the parts were cut
 
     def count(self):
         return int(self.part.max()) + 1
@@ -70,7 +71,7 @@ class Task:
     stop: int
     quality: Quality
     grid: bool
-    call: object
+    call: Any
     trace: bool = False
 
     def __call__(self, own):
@@ -83,39 +84,39 @@ class Task:
 @dataclass
 class Answer:
     """What a part's run gave."""
-    nodes: object
+    nodes: Any
     size: float
-    mesh: object
-    added: object     # x and y
+    mesh: Any
+    added: Any        # x and y
     rounded: tuple    # as in Result
     joints: int       # edges that were locked
     scale: float
-    sheet: object     # of the mesh's quads
-    own: object       # the part as it went to the library
+    sheet: Any        # of the mesh's quads
+    own: Any          # the part as it went to the library
 
 
 @dataclass
 class Result:
     """The cells over the points: the given ones, then the added ones."""
-    added: object     # x and y
-    quads: object
-    replaced: object  # triangles that each quad replaced
-    triangles: object
+    added: Any        # x and y
+    quads: Any
+    replaced: Any     # triangles that each quad replaced
+    triangles: Any
     sizes: list       # of each part
     counts: list      # of each part
-    parts: object     # of each given triangle
-    of_quads: object  # the part of each quad
-    of_triangles: object
+    parts: Any        # of each given triangle
+    of_quads: Any     # the part of each quad
+    of_triangles: Any
     rounded: tuple    # coordinates that the fit rounded: of given points on their way in, of added ones on their way back
     cutter: str
-    joints: list = () # how many edges of each part were locked
-    notes: list = ()  # parts that are slit
+    joints: Sequence[Any] = ()  # how many edges of each part were locked
+    notes: Sequence[Any] = ()  # parts that are slit
     scale: float = 1  # the largest by which a part was fitted
-    sheet: object = None  # of the quads, as the library measures them
+    sheet: Any = None  # of the quads, as the library measures them
     odd: int = 0      # components, as they went to the library, with an odd number of triangles
-    grown: list = ()  # where traces are asked for: each part as it went to the library, and its mesh
-    finished: object = None  # where it went through the finishing pass: what that made
-    before: object = None    # and the result as it was
+    grown: Sequence[Any] = ()  # where traces are asked for: each part as it went to the library, and its mesh
+    finished: Any = None  # where it went through the finishing pass: what that made
+    before: Any = None    # and the result as it was
     homes: tuple = ()        # and the given triangle that each quad, and each triangle, has its groups from
 
 
@@ -160,7 +161,7 @@ def by_metis(triangles, count):
 def halved(points, triangles, part):
     """The parts, those that are too large cut in halves across their longer side until none is."""
     middles = points[triangles, :2].mean(axis=1)
-    part, waiting, ready = part.copy(), list(numpy.unique(part)), 0
+    part, waiting = part.copy(), list(numpy.unique(part))
     following = int(part.max()) + 1
     while waiting:
         which = waiting.pop()
@@ -265,4 +266,4 @@ def merged(given, answers, part, cutter):
     replaced = numpy.concatenate([answer.mesh.quads.replaced for answer in answers]).astype(int)
     return Result(numpy.concatenate(added), numpy.concatenate(quads), replaced, numpy.concatenate(left), sizes, counts, part, *owners,
                   tuple(map(sum, zip(*(answer.rounded for answer in answers)))), cutter, [answer.joints for answer in answers],
-                  scale=max(answer.scale for answer in answers), sheet=sheets.joined([answer.sheet for answer in answers]))
+                  scale=max(answer.scale for answer in answers), sheet=sheets.join([answer.sheet for answer in answers]))

@@ -15,7 +15,7 @@ class Edge:
     ends: tuple       # its triangle lies on the left from the first to the second
     places: object    # x and y of the ends, then of the triangle's third node; of its middle, where it has another front edge
     shown: object     # a Preview; its quad has the part's node numbers
-    nodes: tuple = () # of the quad; None for one that would be inserted
+    nodes: tuple = ()  # of the quad; None for one that would be inserted
     corners: object = None
     jacobian: float = 0.0
 
@@ -47,7 +47,7 @@ def looked(plan, stop, quality, sizes=None, progress=None, jobs=None):
 
     answers = parts.each(plan, one, progress, jobs)
     return Looked([edge for edges, *_ in answers for edge in edges], [size for *_, size, _ in answers], [joints for *_, joints in answers],
-                  sheets.joined([sheet for _, sheet, *_ in answers]))
+                  sheets.join([sheet for _, sheet, *_ in answers]))
 
 
 def of_part(plan, own, size, found):
@@ -86,4 +86,4 @@ def measured(quads):
     """The library's sheet of quads by their corners' places."""
     most = MOST_CAPACITY // 4
     sheet = lambda some: sheets.sheet(numpy.array(some).reshape(-1, 2), numpy.arange(4 * len(some)).reshape(-1, 4))
-    return sheets.joined([sheet(quads[i:i + most]) for i in range(0, max(len(quads), 1), most)])
+    return sheets.join([sheet(quads[i:i + most]) for i in range(0, max(len(quads), 1), most)])

@@ -87,4 +87,4 @@ def page(work):
     warnings = ''.join('<p class="warning">%s</p>' % escape(words) for words in work.warnings)
     shown = '<div id="front">%s</div><p id="says" class="says">%s</p>%s' % (drawn(work), POINT, SAYS)
     return report.bodied('Preview of ' + work.surface.name, '<h1>Preview of %s</h1>\n<p>%s</p>\n<p>%s</p>%s\n%s<h2>Quads by scaled Jacobian</h2>\n%s\n<div class="lists">%s</div>'
-                         % (escape(work.surface.name), escape(summary(work)), CAUTION, warnings, shown, sheets.drawn(work.looked.sheet), report.tables(sections(work))))
+                         % (escape(work.surface.name), escape(summary(work)), CAUTION, warnings, shown, sheets.draw(work.looked.sheet), report.tables(sections(work))))

@@ -85,8 +85,10 @@ def sections(work):
     quad_rows = worst(points, result.quads, jacobians, 'q', 'scaled Jacobian %.4f')
     triangle_rows = worst(points, result.triangles, angles, 't', 'least angle %.2f degrees')
     place = lambda row: (row[0], row[2] + ' at (%.6g, %.6g)' % tuple(row[1]))
-    counted = [('quads', '%d (%.2f %% of the cells)' % (len(result.quads), 100 * len(result.quads) / max(len(result.quads) + len(result.triangles), 1))), ('triangles left over', '%d (%.1f %% of what the cells stand for, a quad counting as two)'
-                                               % (len(result.triangles), 100 * len(result.triangles) / max(made, 1))),
+    quads, left = len(result.quads), len(result.triangles)
+    counted = [('quads', '%d (%.2f %% of the cells)' % (quads, 100 * quads / max(quads + left, 1))),
+               ('triangles left over', '%d (%.1f %% of what the cells stand for, a quad counting as two)'
+                % (left, 100 * left / max(made, 1))),
                ('nodes added', len(result.added)), ('nodes in no cell', '%d, %s' % (meshing.dropped(work), 'kept in the file' if work.options.keep_nodes else 'left out')),
                ('components of triangles', '%d before, %d after%s' % (work.given_components, len(after), ', the largest of %d' % max(after) if len(after) else ''))]
     lost = [(loss.what, loss.stand()) for loss in work.losses]
@@ -215,7 +217,7 @@ def body(work, place=0):
     rows = [(title, [row for row in own if row not in bars]) for title, own in rows]
     warnings = ''.join('<p class="warning">%s</p>' % escape(words) for words in work.warnings)
     return ('<h1>%s</h1>\n<p class="date">%s</p>\n<p>%s</p>%s\n%s%s<h2>Quads by scaled Jacobian</h2>\n%s\n<div class="lists">%s</div>'
-            % (escape(work.surface.name), datetime.now().astimezone().strftime('%Y-%m-%d %H:%M %Z'), escape(summary(work)).replace('\n', '<br>\n'), warnings, picture.draw(drawn, place), picture.insets(drawn), sheets.drawn(work.result.sheet), tables(rows)))
+            % (escape(work.surface.name), datetime.now().astimezone().strftime('%Y-%m-%d %H:%M %Z'), escape(summary(work)).replace('\n', '<br>\n'), warnings, picture.draw(drawn, place), picture.insets(drawn), sheets.draw(work.result.sheet), tables(rows)))
 
 
 def page(work):

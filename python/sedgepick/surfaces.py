@@ -1,5 +1,6 @@
 """A plane surface of triangles with what the file says of it, and the checks before a run."""
 from dataclasses import dataclass, field
+from typing import Any
 import numpy
 from . import quality
 
@@ -16,7 +17,7 @@ def visible(words):
 @dataclass
 class Marked:
     """Cells of one kind with their tags and the sets that they are in."""
-    cells: object
+    cells: Any
     tags: dict = field(default_factory=dict)   # name: a number for each cell
     sets: dict = field(default_factory=dict)   # name: true or false for each cell
 
@@ -39,7 +40,7 @@ class Marked:
 @dataclass
 class Surface:
     name: str
-    points: object                 # all nodes of the file
+    points: Any                    # all nodes of the file
     triangles: Marked
     lines: Marked
     vertices: Marked
@@ -48,9 +49,9 @@ class Surface:
     clockwise: bool = False        # every triangle was, and was turned
     notes: list = field(default_factory=list)
     sha256: str = ''               # of the bytes that were read
-    quads: object = None           # those of the file, which are kept as they are
-    place: object = None           # planes.Place, where the points are those of a sheet
-    joined: object = None          # what other planes and the quads have of the triangles; it is kept whatever else is not
+    quads: Any = None           # those of the file, which are kept as they are
+    place: Any = None           # planes.Place, where the points are those of a sheet
+    joined: Any = None          # what other planes and the quads have of the triangles; it is kept whatever else is not
 
 
 def point_words(points, node):

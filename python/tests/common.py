@@ -1,5 +1,5 @@
 """What the tests share: the library, and meshes to run."""
-import os, subprocess, sys, unittest
+import os, subprocess, sys
 
 HERE = os.path.dirname(os.path.abspath(__file__))
 PACKAGES = os.path.dirname(HERE)

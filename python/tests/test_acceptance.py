@@ -167,10 +167,10 @@ class Lent(unittest.TestCase):
                 'quads': acceptance.lend_quads(QUADS), 'left': acceptance.lend_nodes(LEFT, 3, ''), 'joints': acceptance.lend_nodes([(1, 4)], 2, '')}
         rooms = dict(zip(('components', 'work', 'parents'), acceptance.room(stated)), answer=acceptance.NUMBERS)
         written = {name: ((ctypes.c_size_t if name == 'answer' else ctypes.c_uint32) * (n + 1))(*[77] * (n + 1)) for name, n in rooms.items()}
-        lengths = {**{name: length for name, (_, length) in read.items()}, **{name: len(slice) for name, slice in written.items()}}
+        lengths = {**{name: length for name, (_, length) in read.items()}, **{name: len(memory) for name, memory in written.items()}}
         if short:
             lengths[short] -= 1 if short in read else 2
-        words = [word for name, (slice, _) in read.items() for word in (slice, lengths[name])]
+        words = [word for name, (memory, _) in read.items() for word in (memory, lengths[name])]
         words += [word for name in ('components', 'work', 'parents') for word in (written[name], lengths[name])]
         number = library.load().sedgepick_accept(*words, given, stated.triangles, stated.points, stated.quads, stated.left, 1, cosine, 1.0, written['answer'], lengths['answer'])
         return number, *(list(written[name]) for name in ('components', 'work', 'parents', 'answer'))
@@ -185,14 +185,14 @@ class Lent(unittest.TestCase):
         for short in ('given_points', 'triangles', 'points', 'quads', 'left', 'joints', 'components', 'work', 'parents', 'answer'):
             with self.subTest(short=short):
                 number, *slices = self.call(short)
-                self.assertEqual((number, {word for slice in slices for word in slice}), (4, {77}))
+                self.assertEqual((number, {word for memory in slices for word in memory}), (4, {77}))
                 self.assertEqual(self.call(short, cosine=0.4)[0], 14)
                 self.assertEqual(self.call(short, cosine=0.4, given=2 ** 20 + 1)[0], 1)
 
     def test_no_answer_before_others(self):
         self.assertEqual(self.call('answer', given=5)[0], 4)
         number, *slices = self.call(given=5)
-        self.assertEqual((number, {word for slice in slices for word in slice}), (5, {77}))
+        self.assertEqual((number, {word for memory in slices for word in memory}), (5, {77}))
 
 
 @unittest.skipIf(numpy is None, 'numpy is not installed')

@@ -1,5 +1,5 @@
 """Tests of reading strangers' files: the formats that are read, the limits of the child that reads, and names that are shown."""
-import os, re, signal, struct, time, unittest, zlib
+import os, signal, struct, time, unittest, zlib
 from case import Case, meshio, set_up
 from common import FILES
 
@@ -84,6 +84,7 @@ class Limits(Apart):
     def test_seconds(self):
         with self.assertRaisesRegex(surfaces.Fault, 'reading it takes over 0.5 s.*--read-seconds allows more'):
             apart.run(lambda: time.sleep(30), apart.Limits(0.5), 'reading it')
+
         def busy():
             while True:
                 pass

@@ -1,5 +1,5 @@
 """Tests of runs that are ended: Ctrl-C, SIGTERM, a kill, and the seconds that a run may take."""
-import os, random, signal, stat, subprocess, sys, time, unittest
+import os, random, signal, subprocess, sys, time, unittest
 from case import COMMAND, Case, meshio, set_up
 from common import FILES, grid
 
@@ -70,7 +70,6 @@ class Ending(Case):
 
     def metis(self, words):
         """A folder with a METIS that does this."""
-        folder = self.path('tmp')
         path = os.path.join(os.path.dirname(self.folder), os.path.basename(self.folder) + '-bin')
         os.makedirs(path, exist_ok=True)
         self.addCleanup(lambda: subprocess.run(['rm', '-r', path]))

@@ -2,13 +2,13 @@
 import doctest, os, pickle, subprocess, sys, unittest
 from concurrent.futures import ProcessPoolExecutor
 from case import Case, meshio, set_up
-from common import FILES, PACKAGES, ROOT, grid
+from common import FILES, PACKAGES, grid
 import exact_judge
 
 if meshio:
     import numpy
     import sedgepick
-    from sedgepick import files, meshing, parts, quality, verdicts
+    from sedgepick import files, meshing, quality, verdicts
 
 
 def setUpModule():

@@ -105,7 +105,7 @@ class Reader(unittest.TestCase):
         """Its cells have the number 0; meshio 5.0.0 does not read such a file."""
         text = content_of('l-slab-41.msh').decode()
         lines = text.split('\n')
-        begin, end = lines.index('$Entities') + 1, lines.index('$EndEntities')
+        begin = lines.index('$Entities') + 1
         counts = [int(word) for word in lines[begin].split()]
         row = begin + 1 + counts[0]  # the first curve: its number, a box, its groups
         words = lines[row].split()

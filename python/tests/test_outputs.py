@@ -1,5 +1,5 @@
 """Tests of the files that are written: regular files alone, whole or not at all, and none left under a temporary name."""
-import json, os, resource, shutil, stat, subprocess, sys, tempfile, unittest
+import json, os, resource, stat, subprocess, sys, tempfile, unittest
 from case import COMMAND, Case, meshio, set_up
 from common import FILES
 
@@ -143,7 +143,6 @@ class Left(Case):
             os.mkdir(left)
             self.good(L_SLAB, '-o', self.out)
             self.assertEqual(sorted(os.listdir(self.folder)), sorted([os.path.basename(used), '.sedgepick-abcd12345', '.sedgepick-notes', 'out.msh']))
-
 
 
 class Race(Case):

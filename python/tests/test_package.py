@@ -1,6 +1,6 @@
 """Tests of the Python package: run_front, its memory, quality sets, refusals, threads."""
 import math, os, random, subprocess, sys, threading, time, unittest
-from common import PACKAGES, ROOT, grid, make_library
+from common import PACKAGES, grid, make_library
 import sedgepick
 from sedgepick import front, library
 

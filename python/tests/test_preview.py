@@ -153,17 +153,17 @@ class Package(unittest.TestCase):
             points, triangles = shaken(5)
             looking = previews.Looking(points, triangles, size, 0, sedgepick.Quality(), (), False)
             slices = [word for word in looking.memory.slices if isinstance(word, ctypes.Array)]
-            for slice in slices[3:]:
-                slice[:] = [7] * len(slice)
+            for memory in slices[3:]:
+                memory[:] = [7] * len(memory)
             slices[0][3 * len(points):] = [0.5] * 6
-            before = [list(slice) for slice in slices]
+            before = [list(memory) for memory in slices]
             for edge in boundary(triangles)[::3]:
                 if refused:
                     with self.assertRaises(sedgepick.Refused):
                         looking.shown(*edge)
                 else:
                     looking.shown(*edge)
-                after = [list(slice) for slice in slices]
+                after = [list(memory) for memory in slices]
                 self.assertEqual(after[:6], before[:6])
                 self.assertEqual(set(after[6] + after[7]), {7} if refused else {0})
 

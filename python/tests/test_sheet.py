@@ -5,7 +5,7 @@ import sedgepick
 from sedgepick import sheets
 
 try:
-    import meshio, numpy
+    import meshio
 except ImportError:
     meshio = None
 
@@ -50,7 +50,7 @@ class Package(unittest.TestCase):
 
     def test_joined(self):
         parts = [[TURNED], [SQUARE], [], [LEANING, SQUARE], [LEANING]]
-        both = sheets.joined([sedgepick.sheet(POINTS, part) for part in parts])
+        both = sheets.join([sedgepick.sheet(POINTS, part) for part in parts])
         whole = sedgepick.sheet(POINTS, sum(parts, []))
         self.assertEqual((both.steps, both.without_metrics, both.jacobian, both.cosine), (whole.steps, whole.without_metrics, whole.jacobian, whole.cosine))
         self.assertEqual([tuple(row) for row in both.metrics], [tuple(row) for row in whole.metrics])
@@ -63,7 +63,7 @@ class Package(unittest.TestCase):
         text = sheets.text(found, 'a slab')
         self.assertRegex(text, r'0\.9 and above +1 #+\n')
         self.assertRegex(text, r'worst scaled Jacobian +0\.707107, quad 3\n')
-        self.assertEqual(sheets.drawn(found).count('<rect'), 11)
+        self.assertEqual(sheets.draw(found).count('<rect'), 11)
 
 
 @unittest.skipIf(meshio is None, 'numpy and meshio are not installed')

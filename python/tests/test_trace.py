@@ -2,7 +2,7 @@
 import ctypes, json, math, os, random, re, shutil, subprocess, sys, tempfile, unittest
 from common import FILES, PACKAGES, ROOT, grid, make_library
 import sedgepick
-from sedgepick import front, library, traces
+from sedgepick import front, library
 
 try:
     import meshio, numpy

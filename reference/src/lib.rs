@@ -9,6 +9,7 @@ pub mod generators;
 pub mod input;
 pub mod job;
 mod mesh;
+#[allow(clippy::too_many_arguments)] // its functions have the parameters of the published ones
 pub mod patched;
 pub mod preview;
 pub mod random;

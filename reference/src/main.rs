@@ -14,6 +14,7 @@ mod input;
 mod large;
 mod mesh;
 #[allow(dead_code)]
+#[allow(clippy::too_many_arguments)] // its functions have the parameters of the published ones
 mod patched;
 #[allow(dead_code)]
 mod published;

@@ -26,6 +26,7 @@ impl Random {
     }
 
     /// A number from `low` to `high`, both included.
+    #[allow(clippy::wrong_self_convention)] // a number of a range, no conversion
     pub fn from_to(&mut self, low: usize, high: usize) -> usize {
         low + self.below(high - low + 1)
     }

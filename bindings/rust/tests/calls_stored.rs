@@ -210,7 +210,7 @@ fn answer(stored: &Stored, told: &Result<Answer, Refusal>, after: &Slices) -> St
             let row = |n: &[usize]| line(&n.iter().map(|&n| n as u32).collect::<Vec<u32>>());
             format!(
                 "{COUNTS}\n{}quads triangles points components\n{}{QUAD}\n",
-                row(&counts.map(|n| n as usize)),
+                row(&counts),
                 row(&lengths)
             ) + &lines(&after.quads[..8 * a.quads], 8)
                 + "n0 n1 n2\n"

@@ -64,7 +64,7 @@ pub fn plain(r: &mut Random, room: &Room) -> Shape {
     let keep = move |_: usize, _: usize| left.below(10) >= share;
     let rising = move |i: usize, j: usize| match rule {
         0 => true,
-        1 => (i + j) % 2 == 0,
+        1 => (i + j) & 1 == 0,
         _ => turns.once_in(2),
     };
     squares(nx, ny, keep, rising)

@@ -135,7 +135,8 @@ fn the_ends_of_the_ranges_pass_and_the_next_doubles_do_not() {
         change(&mut set);
         set.is_good()
     };
-    let ends: [(fn(&mut Quality, f64), [f64; 2]); 4] = [
+    type Put = fn(&mut Quality, f64);
+    let ends: [(Put, [f64; 2]); 4] = [
         (|q, x| q.least_jacobian = x, JACOBIANS),
         (|q, x| q.largest_cosine = x, COSINES),
         (|q, x| q.side_low = x, FACTORS),

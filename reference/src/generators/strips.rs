@@ -8,6 +8,7 @@ use crate::random::Random;
 /// Three rows of points, turned by any angle. The middle row is numbered first, and
 /// some of its edges are flipped away: a quad on the outer row recovers them, among
 /// edges of the same row that the bucket test alone tells apart.
+#[allow(clippy::approx_constant)] // any angle will do, and the stored answers are of this one
 pub fn strip(r: &mut Random, room: &Room) -> Input {
     let width = 5 + r.below(9.min(room.points / 3 - 5));
     let step = r.pick(&[1.0, 0.5, 0.3, 0.25, 0.7, 0.4]);
