@@ -114,7 +114,7 @@ class Wheel(Folder):
         with self.assertRaisesRegex(Exception, 'takes functions of libtwo.so'):
             backend().tag(out)
 
-    @unittest.skipUnless(importlib.util.find_spec('pip'), 'pip is not installed')
+    @unittest.skipUnless(importlib.util.find_spec('pip') and importlib.util.find_spec('numpy'), 'pip or numpy is not installed')
     def test_pip(self):
         """In a venv: installed, used, taken away; then a link to the checkout."""
         venv = os.path.join(self.folder, 'venv')
