@@ -1,5 +1,5 @@
 """Tests of the desk: its server by plain requests, and its page in Chromium, driven as a person would."""
-import base64, hashlib, http.client, json, os, re, shutil, signal, struct, subprocess, sys, tempfile, time, types, unittest
+import base64, hashlib, http.client, json, os, re, shutil, signal, socket, struct, subprocess, sys, tempfile, time, types, unittest
 from common import FILES, PACKAGES, ROOT, make_library
 
 try:
@@ -410,8 +410,12 @@ class Ends(unittest.TestCase):
         self.assertFalse(os.path.exists(place))
 
     def test_command_line(self):
-        run = lambda *words: subprocess.run([sys.executable, SCRIPT, '--no-browser', *words], capture_output=True, text=True, timeout=30)
-        for words, said in ((['nothing.msh'], 'nothing.msh'), (['a.exe'], 'suffix'), (['--port', '99999'], 'port')):
+        run = lambda *words: subprocess.run([sys.executable, SCRIPT, '--no-browser', *words], capture_output=True, text=True, timeout=120)
+        taken = socket.create_server(('127.0.0.1', 0))
+        self.addCleanup(taken.close)
+        for words, said in ((['nothing.msh'], 'nothing.msh: there is no such file'), (['a.exe'], 'suffix'), (['slab.geo'], 'slab.geo: it is a geometry and no mesh: mesh it first'),
+                            ([FILES], 'it is a folder; name a mesh file'), (['--port', '99999'], 'port 99999 cannot be had: it is none from 0 to 65535'),
+                            ([COLUMNS, '--port', str(taken.getsockname()[1])], 'sedgepick-desk: port %d cannot be had: Address already in use' % taken.getsockname()[1])):
             ran = run(*words)
             self.assertEqual(ran.returncode, 1, ran.stderr)
             self.assertIn(said, ran.stderr)

@@ -11,7 +11,7 @@ import argparse, hmac, json, os, re, secrets, signal, socket, sys, threading, we
 from http.server import BaseHTTPRequestHandler, ThreadingHTTPServer
 from urllib.parse import quote, unquote, urlsplit
 from .. import library
-from ..files import READ, suffix_of
+from ..files import GEOMETRY, READ, suffix_of
 from ..picture import QUADS, TRIANGLES
 from ..preview_picture import REFUSED
 from ..surfaces import visible
@@ -259,6 +259,8 @@ def suffix_for(name):
     """The suffix of a format that is read, from the desk's own list."""
     suffix = suffix_of(name)
     found = next((own for own in READ if own == suffix), None)
+    if suffix in GEOMETRY:
+        raise Wrong(415, 'it is a geometry and no mesh: mesh it first, as in gmsh -2 %s -o slab.msh' % name)
     if found is None:
         raise Wrong(415, "a file with the suffix '%s' is not read; formats that are: %s" % (suffix, ', '.join(sorted(READ))))
     return found
@@ -278,8 +280,12 @@ def about(server):
 
 def open_given(server, path):
     """Opens the file of the command line, as if it were dropped on the page."""
+    if os.path.isdir(path):
+        raise Wrong(400, 'it is a folder; name a mesh file')
     name = shown_name(os.path.basename(path))
     suffix = suffix_for(name)
+    if not os.path.exists(path):
+        raise Wrong(404, 'there is no such file')
 
     def copy(place):
         with open(path, 'rb') as file:
@@ -326,11 +332,16 @@ def main(words=None):
         return fail(str(fault))
     try:
         server = Server(desk, chosen.port, chosen.upload)
+    except (OSError, OverflowError) as fault:
+        desk.close()
+        return fail('port %d cannot be had: %s' % (chosen.port, getattr(fault, 'strerror', None) or 'it is none from 0 to 65535'))
+    try:
         if chosen.file:
             open_given(server, chosen.file)
-    except (Wrong, OSError, OverflowError) as fault:
+    except (Wrong, OSError) as fault:
         desk.close()
-        return fail('%s: %s' % (chosen.file, fault) if chosen.file and not isinstance(fault, OverflowError) else str(fault))
+        server.server_close()
+        return fail('%s: %s' % (chosen.file, getattr(fault, 'strerror', None) or fault))
     stop = lambda number, frame: threading.Thread(target=server.shutdown, daemon=True).start()
     for number in (signal.SIGINT, signal.SIGTERM, signal.SIGHUP):
         signal.signal(number, stop)
