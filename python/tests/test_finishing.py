@@ -1,8 +1,8 @@
 """Tests of the finishing pass: each step by itself, then the pass as a whole before an exact judge."""
-import math, random, sys, unittest
+import math, os, random, sys, unittest
 from concurrent.futures import ThreadPoolExecutor
 from itertools import permutations
-from common import grid, make_library
+from common import FILES, grid, make_library
 from exact_judge import faults
 
 try:

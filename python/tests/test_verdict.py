@@ -1,5 +1,5 @@
 """Tests of the finished mesh and its verdict: what sedgepick-mesh writes, and what sedgepick-accept says of any two files."""
-import json, os, shutil, subprocess, sys, unittest
+import json, os, re, shutil, subprocess, sys, unittest
 from case import Case, meshio, set_up
 from common import FILES, PACKAGES, ROOT, grid
 
