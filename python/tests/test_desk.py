@@ -1,5 +1,5 @@
 """Tests of the desk: its server by plain requests, and its page in Chromium, driven as a person would."""
-import base64, hashlib, http.client, json, os, re, shutil, signal, socket, struct, subprocess, sys, tempfile, time, types, unittest
+import base64, contextlib, hashlib, http.client, json, os, re, shutil, signal, socket, struct, subprocess, sys, tempfile, time, types, unittest
 from common import FILES, PACKAGES, ROOT, make_library
 
 try:
@@ -327,8 +327,9 @@ def offspring(desk):
     """The children of the server, whichever of its threads started them."""
     found = []
     for thread in os.listdir('/proc/%d/task' % desk.child.pid):
-        with open('/proc/%d/task/%s/children' % (desk.child.pid, thread)) as file:
-            found += map(int, file.read().split())
+        with contextlib.suppress(FileNotFoundError):  # a thread that ended meanwhile
+            with open('/proc/%d/task/%s/children' % (desk.child.pid, thread)) as file:
+                found += map(int, file.read().split())
     return found
 
 

@@ -73,7 +73,8 @@ class Task:
 
     def crash(self, status):
         """Words on a child that ended without any."""
-        if b'MemoryError' in self.errors or b"can't start new thread" in self.errors or status == -signal.SIGSEGV:
+        silent = status == 1 and not self.errors.strip()  # Python itself had no memory left for a traceback
+        if silent or b'MemoryError' in self.errors or b"can't start new thread" in self.errors or status == -signal.SIGSEGV:
             return 'it takes over %d MB of memory' % self.limits.megabytes
         if status == -signal.SIGXCPU:
             return 'it takes over %g s of processor time' % self.limits.seconds
