@@ -1,4 +1,6 @@
 // What an acceptance tells programs in C and Rust, as numbers in a slice.
+#![tactic(auto)]
+
 ghost use Rattle.std.specs.Prelude.{◌≡◌, cond, List, ℕ, ◌≤◌, length};
 ghost use Rattle.definition.specs.Call.{onto};
 ghost use Rattle.refusals.specs.Refusals.{number_of};
@@ -22,7 +24,7 @@ pub const VERDICT: usize = 13;
 // What a verdict tells, in the order of the numbers.
 // Each offender is told by its place, or by how many entries there are where none offends.
 // u and v are the ends of the least uneven edge.
-#[derive(Drop)]
+#[derive(Clone, Copy)]
 pub struct Told {
     pub accepted: usize,
     pub moved: usize,

@@ -1,4 +1,6 @@
 // The refusals that open a call of the acceptance: they read what is handed in, and touch nothing.
+#![tactic(auto)]
+
 mod cells;
 mod nodes;
 
@@ -30,7 +32,7 @@ const PARENT_WORDS: usize = 2;
 
 // The numbers that the caller states: given points and triangles, points, quads and leftover triangles, joints,
 // the largest cosine of a quad's corner, and that of a leftover triangle's corner, where 1 asks nothing.
-#[derive(Drop)]
+#[derive(Clone, Copy)]
 pub struct Stated {
     pub given: usize,
     pub count: usize,

@@ -6,7 +6,7 @@ use crate::runs::{Triangles, list_hash};
 use small::{Found, small_mesh};
 
 // How many lists were meshed, and how many of them had the stored hash.
-#[derive(Drop)]
+#[derive(Clone, Copy)]
 pub struct Tally {
     pub made: u64,
     pub agreed: u64,

@@ -1,5 +1,7 @@
 // Meshes every list of one to three different triangles on 3, 4 or 5 points in many settings,
 // and writes how many lists, in how many runs, have what the Rust returns.
+#![tactic(auto)]
+
 mod answers;
 mod lists;
 mod positions;

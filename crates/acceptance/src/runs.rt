@@ -23,7 +23,7 @@ const SLOTS: [usize; 2] = [48, 9];
 const UNUSED: u32 = 4294967295;
 
 // A list's triangles, three nodes each, and zeros behind them.
-#[derive(Drop)]
+#[derive(Clone, Copy)]
 pub struct Triangles {
     pub nodes: [u32; 9],
     pub count: usize,

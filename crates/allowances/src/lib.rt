@@ -1,5 +1,7 @@
 // What a mesh of a job may use: its share of the job's attempt allowance and what the mesh before it left,
 // as numbers alone.
+#![tactic(auto)]
+
 ghost use Rattle.std.specs.Prelude.{◌≡◌, false, ◌-◌, ◌≤◌};
 ghost use Rattle.definition.specs.Job.{entitled, bad_job, job_limit, handed_on};
 ghost use Rattle.account.specs.Jobs.{job_start};
@@ -19,7 +21,7 @@ pub const MOST_MESHES: usize = 16;
 pub const MOST_ALLOWANCE: usize = 1000000;
 
 // The job's meshes, its attempt allowance, the meshes done, and what the one before left of what it was entitled to.
-#[derive(Drop)]
+#[derive(Clone, Copy)]
 pub struct Job {
     pub meshes: usize,
     pub allowance: usize,

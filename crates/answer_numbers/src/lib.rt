@@ -1,5 +1,7 @@
 // What a run, a mesh of a job, a preview and the replay of a trace tell programs in C and Rust,
 // as numbers in a slice.
+#![tactic(auto)]
+
 pub mod jobs;
 pub mod previews;
 pub mod replays;

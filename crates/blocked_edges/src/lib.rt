@@ -1,5 +1,7 @@
 // Refused edges in lent memory: records that are never removed,
 // in an area of a slice at b with room for n records and p nodes.
+#![tactic(auto)]
+
 ghost use Rattle.std.specs.Prelude.{◌≡◌, List, ℕ, ◌^◌, ◌<◌, ◌≤◌};
 ghost use Rattle.definition.specs.Plane.{Edge};
 ghost use Rattle.definition.specs.Cells.{has_edge_in};

@@ -5,7 +5,7 @@ use rules::Quality;
 
 // The side to turn to, the end of the front edge and its other end, the inward normal,
 // the target and the set of factors.
-#[derive(Drop)]
+#[derive(Clone, Copy)]
 pub struct Aim {
     pub left: bool,
     pub end: usize,
@@ -17,7 +17,7 @@ pub struct Aim {
 
 // What is worked out once for all nodes: a number that the square of a length is beyond only where the length is too
 // far, and what is wanted by edges, with the place from which on it is listed.
-#[derive(Drop)]
+#[derive(Clone, Copy)]
 pub struct Known {
     pub far: f64,
     pub at: usize,

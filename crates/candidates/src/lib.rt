@@ -1,4 +1,6 @@
 // The side nodes for an end of a front edge, ascending.
+#![tactic(auto)]
+
 pub mod aim;
 mod marks;
 mod spans;

@@ -12,7 +12,7 @@ use rings::next;
 use words::{greater, lesser, wide};
 
 // The numbers from low to high, both included.
-#[derive(Drop)]
+#[derive(Clone, Copy)]
 pub struct Span {
     pub low: usize,
     pub high: usize,

@@ -2,7 +2,7 @@
 ghost use Rattle.std.specs.Prelude.{◌≡◌, ◌≤◌};
 ghost use Rattle.cells.specs.Counting.{Few, Attempted, Split, Quadded};
 
-#[derive(Drop)]
+#[derive(Clone, Copy)]
 pub struct Counters {
     pub live: usize,
     pub used: usize,

@@ -1,1 +1,2 @@
 // Longer answers of the Rust as theorems of specs/; this crate has no functions.
+#![tactic(auto)]

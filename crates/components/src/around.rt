@@ -14,7 +14,7 @@ use rings::next;
 use words::wide;
 
 // The nodes of a triangle.
-#[derive(Drop)]
+#[derive(Clone, Copy)]
 struct Nodes {
     x: u32,
     y: u32,

@@ -10,7 +10,7 @@ use cells::find::kind;
 use regions::lists::{append, listed, mark};
 
 // A flood on its way: the edges of those listed below place `head` were crossed, and `count` are listed.
-#[derive(Drop)]
+#[derive(Clone, Copy)]
 pub struct Front {
     pub head: usize,
     pub count: usize,

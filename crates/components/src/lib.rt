@@ -1,4 +1,6 @@
 // The components of the live triangles.
+#![tactic(auto)]
+
 pub mod around;
 pub mod flood;
 pub mod marks;

@@ -19,7 +19,7 @@ use regions::lists::{append, listed};
 const STRETCH: usize = 8;
 
 // A piece taken: how many are listed then, and what the last look around the region found.
-#[derive(Drop)]
+#[derive(Clone, Copy)]
 struct Taken {
     count: usize,
     beside: usize,

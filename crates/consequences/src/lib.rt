@@ -1,1 +1,2 @@
 // what follows for every run: theorems alone, in specs/
+#![tactic(auto)]

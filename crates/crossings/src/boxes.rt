@@ -18,7 +18,7 @@ use rings::next;
 use words::wide;
 
 // A node that bounds others on one side, its coordinate, and whether all coordinates compared.
-#[derive(Drop)]
+#[derive(Clone, Copy)]
 pub struct Side {
     pub node: usize,
     pub at: f64,
@@ -26,7 +26,7 @@ pub struct Side {
 }
 
 // The four sides of a box.
-#[derive(Drop)]
+#[derive(Clone, Copy)]
 pub struct Sides {
     pub left: Side,
     pub right: Side,

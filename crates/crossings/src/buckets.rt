@@ -14,7 +14,7 @@ use plane::points::at;
 // The limits of a segment.
 // An edge overlaps the segment in bucket range only where some end lies right of x0, some left of x1,
 // some above y0 and some below y1.
-#[derive(Drop)]
+#[derive(Clone, Copy)]
 pub struct Limits {
     pub x0: f64,
     pub x1: f64,

@@ -22,7 +22,7 @@ use plane::sides::side;
 use rings::next;
 
 // An edge by its nodes, the smaller first, or none.
-#[derive(Drop)]
+#[derive(Clone, Copy)]
 pub enum Crossing {
     At(usize, usize),
     Nothing,

@@ -1,4 +1,6 @@
 // Edge candidates at an end of a front edge: the edges near an ideal, which is a direction in which a side is wanted.
+#![tactic(auto)]
+
 mod doubles;
 pub mod wishes;
 

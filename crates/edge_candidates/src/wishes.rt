@@ -24,7 +24,7 @@ pub const IDEAL_SUM: f64 = 0.2;
 
 // What is wanted at an end: whether the other end is in the same place, where no edge is a candidate;
 // the unit toward it; how many nodes are listed, and of how many the ideals are kept.
-#[derive(Drop)]
+#[derive(Clone, Copy)]
 pub struct Wish {
     pub near: bool,
     pub unit: Vec,
@@ -33,14 +33,14 @@ pub struct Wish {
 }
 
 // Whether an edge gives an ideal, and the ideal.
-#[derive(Drop)]
+#[derive(Clone, Copy)]
 struct Given {
     yes: bool,
     ideal: Vec,
 }
 
 // How many nodes are listed, and of how many the ideals are kept.
-#[derive(Drop)]
+#[derive(Clone, Copy)]
 struct Found {
     count: usize,
     kept: usize,

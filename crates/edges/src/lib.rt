@@ -1,4 +1,6 @@
 // The front's edges and loops in the lent memory: the edge at a place of the loops' order, and its length.
+#![tactic(auto)]
+
 ghost use Rattle.std.specs.Prelude.{◌≡◌, ◌+◌};
 ghost use Rattle.std.proofs.Math.ListN as listn;
 ghost use Rattle.definition.specs.Plane.{edge_length};

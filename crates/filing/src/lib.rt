@@ -1,4 +1,6 @@
 // The filing order of two meshes, in lent memory.
+#![tactic(auto)]
+
 mod conditions;
 mod meshes;
 mod orders;
@@ -13,7 +15,7 @@ use crate::meshes::order_meshes;
 use cells::clear::clear_words;
 
 // The first mesh stands before the second, is the same, or stands after it.
-#[derive(Drop)]
+#[derive(Clone, Copy)]
 pub enum Order {
     Before,
     Same,
@@ -21,7 +23,7 @@ pub enum Order {
 }
 
 // What a call answers: the order of the two meshes, or a refusal's number.
-#[derive(Drop)]
+#[derive(Clone, Copy)]
 pub enum Answer {
     Filed(Order),
     Refused(usize),

@@ -22,14 +22,14 @@ use plane::sides::apart;
 use words::lesser;
 
 // The slots of an edge's owners, where those are two and both triangles.
-#[derive(Drop)]
+#[derive(Clone, Copy)]
 pub enum Twins {
     Two(usize, usize),
     Other,
 }
 
 // A flip: not possible, not made for want of room for its entry, or made.
-#[derive(Drop)]
+#[derive(Clone, Copy)]
 pub enum Turned {
     Not,
     Short,

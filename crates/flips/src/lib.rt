@@ -1,4 +1,6 @@
 // Edges flipped, triangles split, and an edge recovered by flips.
+#![tactic(auto)]
+
 pub mod flip;
 pub mod recover;
 pub mod split;

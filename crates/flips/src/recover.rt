@@ -13,7 +13,7 @@ use traces::{FLIP, fits, note_flip};
 
 // Whether an edge was flipped, whether only its entry did not fit, where the next entry goes,
 // and a node below which no edge crosses then.
-#[derive(Drop)]
+#[derive(Clone, Copy)]
 pub struct Flipping {
     pub made: bool,
     pub short: bool,
@@ -23,7 +23,7 @@ pub struct Flipping {
 
 // Whether the edge is in the mesh after the recovery, whether a flip's entry did not fit, the flips made,
 // and where the next entry goes.
-#[derive(Drop)]
+#[derive(Clone, Copy)]
 pub struct Recovered {
     pub there: bool,
     pub short: bool,

@@ -1,5 +1,7 @@
 // A job: up to 16 meshes under one attempt allowance, run in turn.
 // The state is a value; each mesh has slices of its own.
+#![tactic(auto)]
+
 ghost use Rattle.refusals.specs.Stated.{asked};
 ghost use Rattle.allowances.specs.States.{job_of};
 ghost use Rattle.mesher.specs.Promise.{lent_of};
@@ -11,7 +13,7 @@ use mesher::run::{refused, run};
 use refusals::{Room, Stated, refusal};
 
 // What a mesh of a job comes to: the answer, the attempts charged, and the state for the next mesh.
-#[derive(Drop)]
+#[derive(Clone, Copy)]
 pub struct Mesh {
     pub answer: Answer,
     pub charged: usize,

@@ -1,4 +1,6 @@
 // Joints, the locked edges: a table that is made once and read by every flip and every region.
+#![tactic(auto)]
+
 ghost use Rattle.std.specs.Prelude.{◌≡◌, Bool, List, ◌+◌, ◌*◌, ◌≤◌, ◌<◌, length};
 ghost use Rattle.definition.specs.Lists.{table, below};
 ghost use Rattle.definition.specs.Plane.{Edge};

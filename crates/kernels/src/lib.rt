@@ -1,4 +1,6 @@
 // Single functions for the benchmark, to be linked from Rust: the square root, and a quad's score by its metrics.
+#![tactic(auto)]
+
 ghost use Rattle.std.specs.Prelude.{◌≡◌};
 ghost use Rattle.definition.specs.Root.{sqrt};
 ghost use Rattle.definition.specs.Plane.{flat};

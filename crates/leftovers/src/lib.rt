@@ -1,4 +1,6 @@
 // What a finished run hands back beside its quads.
+#![tactic(auto)]
+
 ghost use Rattle.std.specs.Prelude.{◌≡◌, ◌++◌, ◌*◌, ◌<◌, ◌≤◌, length, drop};
 ghost use Rattle.definition.specs.Lists.{flat_map};
 ghost use Rattle.definition.specs.Cells.{Mesh, triangles, tri_nodes};

@@ -2,6 +2,8 @@
 // what an edge would give, the mesh of a trace, the quality sheet, the verdict on a finished mesh, the filing order
 // and every small mesh.
 // include/sedgepick.h documents them for callers.
+#![tactic(auto)]
+
 mod job;
 mod orders;
 mod preview;

@@ -12,7 +12,7 @@ const FARTHER: f64 = 1.001;
 const NEARER: f64 = 0.999;
 
 // A distance is not beyond the reach where its square is below `near`, and is where its square is beyond `far`.
-#[derive(Drop)]
+#[derive(Clone, Copy)]
 pub struct Squares {
     pub near: f64,
     pub far: f64,

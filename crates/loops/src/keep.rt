@@ -15,7 +15,7 @@ use cells::layout::{RECORDS, refused_at};
 use edges::{first_on, length_on, second_on};
 
 // How many loops and edges there are so far.
-#[derive(Drop)]
+#[derive(Clone, Copy)]
 pub struct Sifted {
     pub loops: usize,
     pub edges: usize,

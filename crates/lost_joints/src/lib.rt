@@ -1,4 +1,6 @@
 // The test whether each joint that a given triangle has is an edge of the result's cells.
+#![tactic(auto)]
+
 pub mod filed;
 
 ghost use Rattle.std.specs.Prelude.{◌≡◌, ◌≤◌, ◌<◌, min, max, length, take, drop};
@@ -10,7 +12,7 @@ ghost use Rattle.lost_joints.specs.Promise.{stands_in, Searchable, Names, Readab
 use crate::filed::{file_edges, has_edge};
 
 // No joint is lost, or the first one that is.
-#[derive(Drop)]
+#[derive(Clone, Copy)]
 pub enum Lost {
     Nothing,
     Joint(usize),

@@ -1,7 +1,7 @@
 // What a front edge would give, as crate `previews` finds it out.
 
 // What an attempt is refused under, by the names of the counts.
-#[derive(Drop)]
+#[derive(Clone, Copy)]
 pub enum Kind {
     Placement,
     InvalidQuad,
@@ -11,7 +11,7 @@ pub enum Kind {
 }
 
 // A quad with its birth: its nodes, the edge it grew from, its round and how many triangles it replaced.
-#[derive(Drop)]
+#[derive(Clone, Copy)]
 pub struct Born {
     pub n0: usize,
     pub n1: usize,
@@ -24,14 +24,14 @@ pub struct Born {
 }
 
 // What the attempt costs.
-#[derive(Drop)]
+#[derive(Clone, Copy)]
 pub struct Cost {
     pub insertions: usize,
     pub flips: usize,
 }
 
 // Not on the front, at no cost; the quad; what the attempt is refused under; or a refusal's number.
-#[derive(Drop)]
+#[derive(Clone, Copy)]
 pub enum Shown {
     OffFront(Cost),
     Quad(Born, Cost),

@@ -24,7 +24,7 @@ use settling::standing::{Finish, Run, Standing};
 
 // What a call that ran answers, and the attempts charged to it: those made,
 // or, where want of lent memory ended the run, those begun.
-#[derive(Drop)]
+#[derive(Clone, Copy)]
 pub struct Ran {
     pub answer: Answer,
     pub charged: usize,

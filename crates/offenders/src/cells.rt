@@ -17,7 +17,7 @@ pub fn spot_of(points: &[f64], cells: &[u32], k: usize) -> Spot
 }
 
 // A quad's nodes.
-#[derive(Drop)]
+#[derive(Clone, Copy)]
 pub struct Four {
     pub n0: Spot,
     pub n1: Spot,
@@ -38,7 +38,7 @@ pub fn four_of(points: &[f64], quads: &[u32], i: usize) -> Four
 }
 
 // A triangle's nodes.
-#[derive(Drop)]
+#[derive(Clone, Copy)]
 pub struct Three {
     pub n0: Spot,
     pub n1: Spot,

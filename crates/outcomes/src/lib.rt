@@ -1,4 +1,6 @@
 // What an attempt hands back, beside the lent slices; its relation to the definition is in specs.
+#![tactic(auto)]
+
 ghost use Rattle.std.specs.Prelude.{◌≡◌};
 ghost use Rattle.outcomes.specs.Ends.{Plain};
 
@@ -6,7 +8,7 @@ use cells::counters::Counters;
 
 // How an attempt ends: a quad is placed; it is refused under one of five names;
 // or no point, too few slots, or too little of the trace is left and the run ends.
-#[derive(Drop)]
+#[derive(Clone, Copy)]
 pub enum End {
     Placed,
     Placement,
@@ -22,7 +24,7 @@ pub enum End {
 // The end of an attempt, the counters after it, the words used of the trace, the insertions that it made,
 // the pairs that it tried and the flips that it made.
 // Where a quad is placed, its nodes and how many triangles it replaced.
-#[derive(Drop)]
+#[derive(Clone, Copy)]
 pub struct Tried {
     pub end: End,
     pub counters: Counters,

@@ -16,7 +16,7 @@ const SMALLEST: f64 = 1e_150;
 const LARGEST: f64 = 1e150;
 
 // The lengths of the sides of a quad a b c d.
-#[derive(Drop)]
+#[derive(Clone, Copy)]
 pub struct Lengths {
     pub ab: f64,
     pub bc: f64,

@@ -1,4 +1,6 @@
 // Plane predicates and quad metrics over the lent points.
+#![tactic(auto)]
+
 pub mod area;
 pub mod floats;
 pub mod jacobian;

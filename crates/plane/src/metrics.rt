@@ -19,14 +19,14 @@ use crate::sides::{any_of, cross_of, tiny};
 use crate::vectors::{between, dot};
 
 // Absent, or the least scaled Jacobian and the largest cosine of the corners.
-#[derive(Drop)]
+#[derive(Clone, Copy)]
 pub enum Metrics {
     Absent,
     Measured(f64, f64),
 }
 
 // At each corner of a quad a b c d the product of the lengths of its two sides.
-#[derive(Drop)]
+#[derive(Clone, Copy)]
 pub struct Sides {
     pub at_a: f64,
     pub at_b: f64,

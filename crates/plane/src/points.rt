@@ -4,7 +4,7 @@ ghost use Rattle.definition.specs.Call.{point_at};
 ghost use Rattle.plane.specs.Points.{Within, node, ground};
 
 // A node without its z.
-#[derive(Drop)]
+#[derive(Clone, Copy)]
 pub struct Spot {
     pub x: f64,
     pub y: f64,

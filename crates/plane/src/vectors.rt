@@ -9,7 +9,7 @@ use crate::limits::{MISMATCH_HIGH, MISMATCH_LOW};
 use crate::points::{Spot, at};
 
 // A direction, or the difference of two nodes.
-#[derive(Drop)]
+#[derive(Clone, Copy)]
 pub struct Vec {
     pub dx: f64,
     pub dy: f64,

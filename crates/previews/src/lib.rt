@@ -1,4 +1,6 @@
 // What a front edge would give: one attempt on the starting mesh, which is then undone.
+#![tactic(auto)]
+
 ghost use Rattle.std.specs.Prelude.{◌≡◌, [], ◌+◌, ◌≤◌, ◌<◌, length};
 ghost use Rattle.definition.specs.Counts.{nothing_spent};
 ghost use Rattle.definition.specs.Cells.{key};

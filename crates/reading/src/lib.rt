@@ -1,4 +1,6 @@
 // The program's input text, read whole into lent slices.
+#![tactic(auto)]
+
 pub mod found;
 mod lists;
 mod values;

@@ -1,4 +1,6 @@
 // The refusals that open a call of run_front: they read the points, the triangles and the joints, and touch nothing.
+#![tactic(auto)]
+
 ghost use Rattle.std.specs.Prelude.{◌≡◌, false, not, ◌*◌, ◌≤◌, Float, length};
 ghost use Rattle.definition.specs.Call.{Lent, over_limit, bad_size, bad_stop, ranges, good_quality, bad_quality, too_short, unknown_node, twice, repeated_node, outside, far_point, grid_node, bad_grid, bad_joint, bad_joints, given_points, most_coordinate};
 ghost use Rattle.definition.specs.Cells.{new_tri, key};
@@ -63,7 +65,7 @@ const POINT_WORDS: usize = 8;
 const SLOT_FLOATS: usize = 4;
 
 // The numbers that the caller states.
-#[derive(Drop)]
+#[derive(Clone, Copy)]
 pub struct Stated {
     pub given: usize,
     pub capacity: usize,
@@ -102,7 +104,7 @@ pub fn standard(
 }
 
 // The lengths of the lent slices that are measured and not read: `out` of the triangles out, `floats` of the f64 work.
-#[derive(Drop)]
+#[derive(Clone, Copy)]
 pub struct Room {
     pub quads: usize,
     pub out: usize,

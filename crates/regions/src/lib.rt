@@ -1,4 +1,6 @@
 // The region that a quad replaces.
+#![tactic(auto)]
+
 pub mod flood;
 pub mod lists;
 pub mod place;

@@ -1,4 +1,6 @@
 // Replies to stored texts, and writes how many are the Rust's answers.
+#![tactic(auto)]
+
 mod cases;
 mod compare;
 

@@ -1,4 +1,6 @@
 // The program's answer to a text: the text is read, the mesh made, and what comes back written.
+#![tactic(auto)]
+
 mod floats;
 
 ghost use Rattle.std.proofs.Math.Option.{some};

@@ -10,7 +10,7 @@ use leftovers::write_triangles;
 
 // What a replay answers: a refusal's number, 0 where the whole trace was replayed, then the lengths of its lists.
 // The lengths are 0 in a refusal.
-#[derive(Drop)]
+#[derive(Clone, Copy)]
 pub struct Replayed {
     pub refusal: usize,
     pub quads: usize,

@@ -1,4 +1,6 @@
 // The mesh of a trace, built again: its entries are done one after the other, each tested first.
+#![tactic(auto)]
+
 pub mod doubles;
 pub mod ending;
 pub mod entries;
@@ -11,7 +13,7 @@ pub mod turns;
 ghost use Rattle.std.specs.Prelude.{◌≡◌};
 
 // What the caller states: given points, point capacity, triangles, slots, and the words of the trace.
-#[derive(Drop)]
+#[derive(Clone, Copy)]
 pub struct Told {
     pub given: usize,
     pub capacity: usize,
@@ -22,7 +24,7 @@ pub struct Told {
 
 // The state of a replay: the words read so far, the slots given out, the points and the quads;
 // whether a quad has a node twice; and the refusal that ended the replay, 0 while it goes on.
-#[derive(Drop)]
+#[derive(Clone, Copy)]
 pub struct Playing {
     pub at: usize,
     pub used: usize,

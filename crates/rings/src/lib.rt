@@ -1,4 +1,6 @@
 // Circular lists of codes 0 .. n in a part of a slice: next[] of n codes stands at b, prev[] at b + n.
+#![tactic(auto)]
+
 ghost use Rattle.rings.specs.Rings.{nx, CanRead, CanOpen, CanLink, CanUnlink, OpenedFrom, LinkedTo, UnlinkedFrom};
 ghost use Rattle.std.specs.Prelude.{◌≡◌};
 

@@ -31,7 +31,7 @@ fn shifted(m: u64, z: u64) -> u64
 // A finite double above zero as `doubled(last)` times a power of four.
 // `last` has the digits of its significand below the leading one, and on top of them a 1 for an odd exponent.
 // `half` is the exponent of the root, as the root's bits have it.
-#[derive(Drop)]
+#[derive(Clone, Copy)]
 pub struct Digits {
     pub last: u64,
     pub half: u64,
@@ -69,7 +69,7 @@ pub fn doubled(last: u64) -> u64
 }
 
 // A whole root, and what is left over of the number when its square is taken away.
-#[derive(Drop)]
+#[derive(Clone, Copy)]
 pub struct Whole {
     pub root: u64,
     pub rest: u64,

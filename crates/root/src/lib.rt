@@ -1,6 +1,8 @@
 // The square root of a double, rounded to nearest, and its floor, both worked out from the bits.
 // The root in the order of IEEE 754: the special operands (`sqrt`),
 // the exact result (`exact`), the rounding (`rounded`).
+#![tactic(auto)]
+
 ghost use Rattle.std.specs.Prelude.{◌≡◌, ◌+◌, ◌-◌, ◌*◌, ◌/◌, ◌^◌, ◌<◌, ◌≤◌, from_bits, to_bits};
 ghost use Rattle.std.specs.Float.{binary64};
 ghost use Rattle.definition.specs.Root.{sqrt, floor};

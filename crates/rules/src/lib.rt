@@ -1,4 +1,6 @@
 // The parameters fixed for a run, in one struct, `Rules`: built once and passed by value.
+#![tactic(auto)]
+
 ghost use Rattle.std.specs.Prelude.{◌≡◌};
 ghost use Rattle.definition.specs.Numbers.{base};
 ghost use Rattle.rules.specs.Settings.{quality_of};
@@ -10,7 +12,7 @@ pub const MOST_PAIRS: usize = 64;
 // A quad passes with a scaled Jacobian of at least `least_jacobian` and a largest cosine of at most `largest_cosine`.
 // The distance of a side node lies between two factors of the target.
 // `pairs` is the most pairs that an attempt tries.
-#[derive(Drop)]
+#[derive(Clone, Copy)]
 pub struct Quality {
     pub least_jacobian: f64,
     pub largest_cosine: f64,
@@ -32,7 +34,7 @@ pub fn standard_quality() -> Quality
     }
 }
 
-#[derive(Drop)]
+#[derive(Clone, Copy)]
 pub struct Rules {
     pub slots: usize,
     pub capacity: usize,

@@ -1,4 +1,6 @@
 // The quality sheet of a run, from what the run answered and left in its slices.
+#![tactic(auto)]
+
 ghost use Rattle.std.specs.Prelude.{◌≡◌, ℕ, ◌*◌, ◌≤◌, length};
 ghost use Rattle.definition.specs.Call.{Asked, Lent};
 ghost use Rattle.definition.specs.Sheet.{call};

@@ -1,1 +1,2 @@
 // Small answers of the Rust as theorems of specs/; this crate has no functions.
+#![tactic(auto)]

@@ -1,4 +1,6 @@
 // Reads a mesh as text from standard input, and writes what run_front makes of it, or the number of a refusal.
+#![tactic(auto)]
+
 use replies::WRITTEN;
 
 // The bytes that are read: one more than a text may have, so that a longer one is seen to be longer.

@@ -9,7 +9,7 @@ use cells::counters::Counters;
 use outcomes::End;
 
 // What a run counted so far, attempts apart (they stand in the counters).
-#[derive(Drop)]
+#[derive(Clone, Copy)]
 pub struct Tally {
     pub front_empty: usize,
     pub placement: usize,
@@ -24,7 +24,7 @@ pub struct Tally {
 
 // The state of a run beside the lent slices: counters, tally, quads placed, edges that have a record of refusal,
 // words used of the trace.
-#[derive(Drop)]
+#[derive(Clone, Copy)]
 pub struct Standing {
     pub counters: Counters,
     pub tally: Tally,
@@ -35,7 +35,7 @@ pub struct Standing {
 
 // How a step ends: no quad; a quad placed; a limit ended the run;
 // or no point, too few slots, or too little of the trace is left and the run ends.
-#[derive(Drop)]
+#[derive(Clone, Copy)]
 pub enum Going {
     Stuck,
     Progressed,
@@ -46,14 +46,14 @@ pub enum Going {
 }
 
 // A step's end and the standing after it.
-#[derive(Drop)]
+#[derive(Clone, Copy)]
 pub struct Step {
     pub kind: Going,
     pub standing: Standing,
 }
 
 // How a run ends.
-#[derive(Drop)]
+#[derive(Clone, Copy)]
 pub enum Finish {
     Done,
     NoPoint,
@@ -62,7 +62,7 @@ pub enum Finish {
 }
 
 // A run's end and the standing after it.
-#[derive(Drop)]
+#[derive(Clone, Copy)]
 pub struct Run {
     pub finish: Finish,
     pub standing: Standing,

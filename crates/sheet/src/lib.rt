@@ -1,4 +1,6 @@
 // The quality sheet of a list of quads, in lent memory.
+#![tactic(auto)]
+
 pub mod answers;
 mod conditions;
 pub mod lent;

@@ -14,7 +14,7 @@ use plane::points::at;
 use words::wide;
 
 // The least and the greatest x and y of some nodes; a NaN where coordinates do not compare.
-#[derive(Drop)]
+#[derive(Clone, Copy)]
 pub struct Frame {
     pub x0: f64,
     pub x1: f64,
@@ -23,7 +23,7 @@ pub struct Frame {
 }
 
 // The line through a node in a direction.
-#[derive(Drop)]
+#[derive(Clone, Copy)]
 pub struct Line {
     pub x: f64,
     pub y: f64,

@@ -1,4 +1,6 @@
 // Side nodes for an end of a front edge.
+#![tactic(auto)]
+
 pub mod blocks;
 pub mod inside;
 pub mod sides;

@@ -19,7 +19,7 @@ use plane::vectors::Vec;
 use rules::Rules;
 
 // The front edge u-v, taken from a to b.
-#[derive(Drop)]
+#[derive(Clone, Copy)]
 pub struct Edge {
     pub u: usize,
     pub v: usize,
@@ -29,7 +29,7 @@ pub struct Edge {
 
 // What an attempt goes by at both ends: the edge, with the seed's triangle on its left; the seed's slot,
 // the inward normal, the target, and whether the edge's length is off it.
-#[derive(Drop)]
+#[derive(Clone, Copy)]
 pub struct Stance {
     pub edge: Edge,
     pub seed: usize,
@@ -40,7 +40,7 @@ pub struct Stance {
 
 // An end of the edge and the other one, whether a quarter left looks into the triangle there,
 // and where the side nodes come to.
-#[derive(Drop)]
+#[derive(Clone, Copy)]
 pub struct Seat {
     pub end: usize,
     pub other: usize,
@@ -50,7 +50,7 @@ pub struct Seat {
 
 // Side nodes at an end: some are found; none;
 // or no point, too few slots or no room in the trace are left and the run ends.
-#[derive(Drop)]
+#[derive(Clone, Copy)]
 pub enum Found {
     Found,
     Missing,
@@ -60,7 +60,7 @@ pub enum Found {
 }
 
 // What was found, how many nodes, the insertions so far, the counters then, and where the trace's next entry goes.
-#[derive(Drop)]
+#[derive(Clone, Copy)]
 pub struct Side {
     pub found: Found,
     pub count: usize,

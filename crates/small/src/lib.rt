@@ -1,4 +1,6 @@
 // Every small mesh: the lists of one to three different triangles on 3, 4 or 5 points, by their place in the order.
+#![tactic(auto)]
+
 pub mod lent;
 
 ghost use Rattle.std.specs.Prelude.{◌≡◌, ◌≤◌};
@@ -9,7 +11,7 @@ ghost use Rattle.small.specs.Counts.{Counted, HasPlace, PairThere, TripleThere, 
 const OTHER_POINTS: u32 = 1;
 
 // Three nodes, ascending.
-#[derive(Drop)]
+#[derive(Clone, Copy)]
 pub struct Triangle {
     pub n0: u32,
     pub n1: u32,
@@ -17,7 +19,7 @@ pub struct Triangle {
 }
 
 // The list at a place; that the order has ended; or a refusal's number.
-#[derive(Drop)]
+#[derive(Clone, Copy)]
 pub enum Found {
     One(Triangle),
     Two(Triangle, Triangle),
@@ -27,7 +29,7 @@ pub enum Found {
 }
 
 // Two numbers, ascending.
-#[derive(Drop)]
+#[derive(Clone, Copy)]
 struct Pair {
     first: u32,
     second: u32,

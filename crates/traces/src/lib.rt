@@ -1,4 +1,6 @@
 // Entries of the lent trace: an empty one takes none.
+#![tactic(auto)]
+
 ghost use Rattle.std.specs.Prelude.{◌≡◌, List, ◌++◌, ℕ, ◌+◌, ◌^◌, ◌<◌, ◌≤◌, length, take, drop};
 ghost use Rattle.definition.specs.Plane.{flat};
 ghost use Rattle.definition.specs.Cells.{Quad, Event, was_split, was_flipped, Mesh};
@@ -18,14 +20,14 @@ pub const QUAD: usize = 9;
 const WORD: u64 = 4294967296;
 
 // Where the next entry goes, and the round in which a quad is placed.
-#[derive(Drop)]
+#[derive(Clone, Copy)]
 pub struct Log {
     pub at: usize,
     pub round: usize,
 }
 
 // A quad's nodes, the edge it grew from, the smaller node first, and its round.
-#[derive(Drop)]
+#[derive(Clone, Copy)]
 pub struct Grown {
     pub n0: usize,
     pub n1: usize,

@@ -13,7 +13,7 @@ pub const ROOM: usize = MOST_PAIRS;
 pub const NODES: usize = 4 * ROOM;
 
 // A pair's score and the four nodes of its quad.
-#[derive(Drop)]
+#[derive(Clone, Copy)]
 pub struct Trial {
     pub score: f64,
     pub n0: usize,

@@ -22,7 +22,7 @@ const FEW: usize = 32;
 
 // The half of a pair's quads that its first node gives: the edge a b and the side node c at a,
 // with the lengths of a b and c a.
-#[derive(Drop)]
+#[derive(Clone, Copy)]
 pub struct Half {
     pub a: usize,
     pub b: usize,

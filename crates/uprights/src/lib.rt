@@ -1,5 +1,7 @@
 // Triangles read upright: each as it is where it runs counterclockwise, else with its second and third nodes exchanged.
 // The first that has no area, and (`sides`) the least edge whose sides do not balance.
+#![tactic(auto)]
+
 pub mod sides;
 
 ghost use Rattle.std.specs.Prelude.{◌≡◌};

@@ -11,7 +11,7 @@ use words::wide;
 
 // The least edge whose sides do not balance, the first joint that is lost,
 // how many components the leftover triangles have, and how many of these are odd.
-#[derive(Drop)]
+#[derive(Clone, Copy)]
 pub struct Found {
     pub uneven: Answer,
     pub lost: Lost,

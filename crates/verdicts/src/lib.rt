@@ -1,4 +1,6 @@
 // The acceptance of a finished mesh: the refusals, and then the verdict, over lent slices.
+#![tactic(auto)]
+
 pub mod leaves;
 
 ghost use Rattle.std.specs.Prelude.{◌≡◌, ◌-◌};
@@ -21,7 +23,7 @@ use uprights::first_flat;
 // or how many entries there are where none offends; how many points were added;
 // the least edge that is not level and the first joint that is lost; how many components there are,
 // and how many are odd.
-#[derive(Drop)]
+#[derive(Clone, Copy)]
 pub struct Answered {
     pub refusal: usize,
     pub moved: usize,

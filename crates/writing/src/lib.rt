@@ -1,4 +1,6 @@
 // The program's answer, written as text.
+#![tactic(auto)]
+
 mod digits;
 mod lines;
 
@@ -10,7 +12,7 @@ ghost use Rattle.writing.specs.Put.{Within};
 ghost use Rattle.writing.specs.Answer.{most_written, columns, lengths_of, lengths_listed, shown, Few, Held, Answered};
 
 // The counts of a finished run that are written.
-#[derive(Drop)]
+#[derive(Clone, Copy)]
 pub struct Counts {
     pub front_empty: u32,
     pub attempts: u32,
@@ -24,7 +26,7 @@ pub struct Counts {
 }
 
 // The lengths of the lists of a finished run that are written.
-#[derive(Drop)]
+#[derive(Clone, Copy)]
 pub struct Lengths {
     pub quads: usize,
     pub triangles: usize,

@@ -1,5 +1,5 @@
 -- One test after the other.
-use Rattle.laws.specs.Kit.{◌≡◌, false, ◌*◌, ◌/◌, ◌≤◌, arith, needs, mul-le-mul, eqb, ltb, leb, eq-eqb, ne_eqb, lt-ltb, le-ltb, lt-leb, le-leb}
+use Rattle.laws.specs.Kit.{◌≡◌, false, ◌*◌, ◌/◌, ◌≤◌, arith, rules, mul-le-mul, eqb, ltb, leb, eq-eqb, ne_eqb, lt-ltb, le-ltb, lt-leb, le-leb}
 use native.Mathlib.Nat.{div-le_self}
 use Rattle.definition.specs.Job.{most_meshes, most_allowance, share, bad_job}
 use Rattle.allowances.proofs.bad_job.Statement.{statement}
@@ -78,4 +78,4 @@ returns_6 c =
     rw (some o, few e, going g, any y, fair f)
 
 pub bad_job_spec : {M : Type 1} → statement M
-bad_job_spec = tie.close (tie.spec returns returns_2 returns_3 returns_4 returns_5 (λ c. search needs) mul_most returns_6)
+bad_job_spec = tie.close (tie.spec returns returns_2 returns_3 returns_4 returns_5 (λ c. search rules) mul_most returns_6)

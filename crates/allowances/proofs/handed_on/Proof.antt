@@ -1,5 +1,5 @@
 -- One more is done, and the rest is left.
-use Rattle.laws.specs.Kit.{◌≡◌, ℕ, suc, ◌+◌, ◌-◌, arith, needs}
+use Rattle.laws.specs.Kit.{◌≡◌, ℕ, suc, ◌+◌, ◌-◌, arith, rules}
 use Rattle.definition.specs.Job as defined
 use Rattle.definition.specs.Job.{handed_on}
 use Rattle.allowances.specs.States.{job_of}
@@ -23,4 +23,4 @@ returns c =
     λ i. job (more i) (e.entitled.ensures i - a.charged)
 
 pub handed_on_spec : {M : Type 1} → statement M
-handed_on_spec = tie.close (tie.spec (λ c κs. search needs) add_t4 (λ c. search needs) returns)
+handed_on_spec = tie.close (tie.spec (λ c κs. search rules) add_t4 (λ c. search rules) returns)

@@ -1,5 +1,5 @@
 -- The smaller of two.
-use Rattle.laws.specs.Kit.{arith, needs}
+use Rattle.laws.specs.Kit.{arith, rules}
 use Rattle.definition.specs.Numbers.{max_attempts}
 use Rattle.definition.specs.Job.{job_limit}
 use Rattle.allowances.proofs.limit_of.Statement.{statement}
@@ -14,4 +14,4 @@ unfolding job_limit max_attempts
 returns_2 c = omega (arith, c.if1.false, c.before.before.entitled.ensures)
 
 pub limit_of_spec : {M : Type 1} → statement M
-limit_of_spec = tie.close (tie.spec (λ c κs. search needs) (λ c. search needs) (λ c. search needs) returns returns_2)
+limit_of_spec = tie.close (tie.spec (λ c κs. search rules) (λ c. search rules) (λ c. search rules) returns returns_2)

@@ -1,5 +1,5 @@
 -- Where the edge has a record its birth is written; else the record c is, first in the edge's list.
-use Rattle.laws.specs.Kit.{arith, needs, length-set}
+use Rattle.laws.specs.Kit.{arith, rules, length-set}
 use Rattle.blocked_edges.proofs.Blocking.{kept_old, old_to, kept_new, new_to, room_new}
 use Rattle.blocked_edges.proofs.block.Statement.{statement}
 use Rattle.blocked_edges.proofs.block.Tie as tie
@@ -38,8 +38,8 @@ pub block_spec : {M : Type 1} → statement M
 block_spec =
     tie.close
     (tie.spec
-    (λ c κs. search needs) (λ c. omega arith) (λ c. omega arith) (λ c. omega arith) (λ c. omega arith) (λ c. omega arith) (λ c. search needs) returns
-    (λ c κs. search needs) (λ c. omega arith) (λ c. omega arith) (λ c. omega arith) (λ c. omega arith) (λ c. omega arith) (λ c. omega arith) (λ c. omega arith)
+    (λ c κs. search rules) (λ c. omega arith) (λ c. omega arith) (λ c. omega arith) (λ c. omega arith) (λ c. omega arith) (λ c. search rules) returns
+    (λ c κs. search rules) (λ c. omega arith) (λ c. omega arith) (λ c. omega arith) (λ c. omega arith) (λ c. omega arith) (λ c. omega arith) (λ c. omega arith)
     (λ c. omega arith) (λ c. omega arith) (λ c. omega arith) (λ c. omega arith) (λ c. omega arith) (λ c. omega arith) (λ c. simp length-set (omega arith))
     (λ c. omega arith) (λ c. omega arith) (λ c. omega arith) (λ c. omega arith) (λ c. simp length-set (omega arith)) (λ c. omega arith) (λ c. omega arith)
-    (λ c. omega arith) (λ c. omega arith) (λ c. omega arith) (λ c. simp length-set (omega arith)) (λ c. omega arith) (λ c. search needs) returns_2)
+    (λ c. omega arith) (λ c. omega arith) (λ c. omega arith) (λ c. simp length-set (omega arith)) (λ c. omega arith) (λ c. search rules) returns_2)

@@ -1,5 +1,5 @@
 -- Each answer is what `stands` says of the edge's record: the tests are its three parts.
-use Rattle.laws.specs.Kit.{sym, ◌∙◌, arith, needs}
+use Rattle.laws.specs.Kit.{sym, ◌∙◌, arith, rules}
 use Rattle.blocked_edges.proofs.Standing.{stands_none, stands_true, stands_first, stands_second}
 use Rattle.blocked_edges.proofs.is_blocked.Statement.{statement}
 use Rattle.blocked_edges.proofs.is_blocked.Tie as tie
@@ -40,6 +40,6 @@ pub is_blocked_spec : {M : Type 1} → statement M
 is_blocked_spec =
     tie.close
     (tie.spec
-    (λ c κs. search needs) returns (λ c. omega arith) (λ c. omega arith) (λ c. omega arith) (λ c. omega arith) (λ c. omega arith) (λ c. omega arith)
+    (λ c κs. search rules) returns (λ c. omega arith) (λ c. omega arith) (λ c. omega arith) (λ c. omega arith) (λ c. omega arith) (λ c. omega arith)
     (λ c. omega arith) (λ c. omega arith) (λ c. omega arith) (λ c. omega arith) returns_2 (λ c. omega arith) (λ c. omega arith) (λ c. omega arith)
     returns_3 returns_4)

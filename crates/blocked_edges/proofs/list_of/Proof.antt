@@ -1,5 +1,5 @@
 -- The sum, less p where it is not below p.
-use Rattle.laws.specs.Kit.{sym, arith, needs}
+use Rattle.laws.specs.Kit.{sym, arith, rules}
 use Rattle.blocked_edges.proofs.Edges.{list_low, list_high}
 use Rattle.blocked_edges.proofs.list_of.Statement.{statement}
 use Rattle.blocked_edges.proofs.list_of.Tie as tie
@@ -18,4 +18,4 @@ returns_2 c =
     (sym (list_high a.p (a.u, a.v) c.if1.false), omega (arith, c.if1.false, o, m))
 
 pub list_of_spec : {M : Type 1} → statement M
-list_of_spec = tie.close (tie.spec (λ c. search needs) returns returns_2)
+list_of_spec = tie.close (tie.spec (λ c. search rules) returns returns_2)

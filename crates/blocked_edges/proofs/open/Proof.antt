@@ -1,5 +1,5 @@
 -- The loop's invariant: the nodes below v are opened (Opening.Opened).
-use Rattle.laws.specs.Kit.{◌-◌, arith, needs, length-set}
+use Rattle.laws.specs.Kit.{◌-◌, arith, rules, length-set}
 use Rattle.blocked_edges.proofs.Opening.{Opened, open_none, open_more, open_done}
 use Rattle.blocked_edges.proofs.open.Statement.{statement}
 use Rattle.blocked_edges.proofs.open.Tie as tie
@@ -35,4 +35,4 @@ open_spec =
     (tie.spec
     invariant_loop decreases_loop loop_holds (λ c. omega arith) (λ c. omega arith) (λ c. omega arith) (λ c. omega arith) (λ c. omega arith) (λ c. omega arith)
     (λ c. omega arith) (λ c. omega arith) (λ c. omega arith) (λ c. omega arith) (λ c. omega arith) (λ c. simp length-set (omega arith)) (λ c. omega arith)
-    (λ c. search needs) loop_again (λ c. c.before.loop.invariant.kept.len) returns)
+    (λ c. search rules) loop_again (λ c. c.before.loop.invariant.kept.len) returns)

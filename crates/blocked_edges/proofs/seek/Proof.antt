@@ -1,5 +1,5 @@
 -- The record of u-v is its place among the edges that are left to search (Walks.Rest).
-use Rattle.laws.specs.Kit.{sym, ◌∙◌, ap, ℕ, arith, needs, List}
+use Rattle.laws.specs.Kit.{sym, ◌∙◌, ap, ℕ, arith, rules, List}
 use Rattle.definition.specs.Plane.{Edge}
 use Rattle.blocked_edges.specs.Records.{head, Lists}
 use Rattle.blocked_edges.proofs.Walks.{Rest, turns, rest_start, rest_hit, rest_more, rest_falls, rest_end}
@@ -57,6 +57,6 @@ pub seek_spec : {M : Type 1} → statement M
 seek_spec =
     tie.close
     (tie.spec
-    invariant_loop decreases_loop (λ c κs. search needs) (λ c. omega arith) (λ c. omega arith) (λ c. omega arith) (λ c. omega arith) (λ c. omega arith) (λ c κs. search needs) loop_holds
-    (λ c. omega arith) (λ c. omega arith) (λ c. omega arith) (λ c κs. search needs) returns (λ c. omega arith) (λ c. omega arith) (λ c. omega arith)
-    (λ c. omega arith) (λ c. omega arith) (λ c κs. search needs) loop_less loop_again returns_2)
+    invariant_loop decreases_loop (λ c κs. search rules) (λ c. omega arith) (λ c. omega arith) (λ c. omega arith) (λ c. omega arith) (λ c. omega arith) (λ c κs. search rules) loop_holds
+    (λ c. omega arith) (λ c. omega arith) (λ c. omega arith) (λ c κs. search rules) returns (λ c. omega arith) (λ c. omega arith) (λ c. omega arith)
+    (λ c. omega arith) (λ c. omega arith) (λ c κs. search rules) loop_less loop_again returns_2)

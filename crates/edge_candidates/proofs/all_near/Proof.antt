@@ -1,5 +1,5 @@
 -- The loop's invariant: the ideals before place i are not near. The measure is how many are left.
-use Rattle.laws.specs.Kit.{◌≡◌, sym, ◌∙◌, false, ℕ, ◌+◌, ◌-◌, ◌<◌, ◌≤◌, arith, needs}
+use Rattle.laws.specs.Kit.{◌≡◌, sym, ◌∙◌, false, ℕ, ◌+◌, ◌-◌, ◌<◌, ◌≤◌, arith, rules}
 use Rattle.plane.specs.Vectors.{vec}
 use Rattle.edge_candidates.specs.Wishes.{kept_test}
 use Rattle.edge_candidates.proofs.Fours.{tested_by, tested_on, can_get_four, four_hit, four_miss}
@@ -71,5 +71,5 @@ pub all_near_spec : {M : Type 1} → statement M
 all_near_spec =
     tie.close
     (tie.spec
-    invariant_loop decreases_loop loop_holds (λ c. search needs) (λ c. omega arith) (λ c. omega arith) four_near_requires returns (λ c. omega arith) (λ c. omega arith) (λ c. omega arith)
-    four_near_requires_2 returns_2 (λ c. omega arith) (λ c. omega arith) loop_again (λ c κs. search needs) returns_3)
+    invariant_loop decreases_loop loop_holds (λ c. search rules) (λ c. omega arith) (λ c. omega arith) four_near_requires returns (λ c. omega arith) (λ c. omega arith) (λ c. omega arith)
+    four_near_requires_2 returns_2 (λ c. omega arith) (λ c. omega arith) loop_again (λ c κs. search rules) returns_3)

@@ -1,4 +1,4 @@
-use Rattle.laws.specs.Kit.{◌≡◌, sym, ◌∙◌, ap, needs, not-true, not-false, Float}
+use Rattle.laws.specs.Kit.{◌≡◌, sym, ◌∙◌, ap, rules, not-true, not-false, Float}
 use Rattle.definition.specs.Plane.{Edge, Vec, norm, over}
 use Rattle.definition.specs.Cells.{tri, new_live, key, tri_owner}
 use Rattle.definition.specs.Candidates.{toward}
@@ -92,4 +92,4 @@ pub edge_candidate_spec : {M : Type 1} → statement M
 edge_candidate_spec =
     tie.close
     (tie.spec
-    returns returns_2 returns_3 (λ c κs. search needs) returns_4 from_to_requires (λ c κs. search needs) (λ c κs. search needs) returns_5 (λ c κs. search needs) (λ c κs. search needs) returns_6)
+    returns returns_2 returns_3 (λ c κs. search rules) returns_4 from_to_requires (λ c κs. search rules) (λ c κs. search rules) returns_5 (λ c κs. search rules) (λ c κs. search rules) returns_6)

@@ -1,5 +1,5 @@
 -- The loop's invariant: the ideals from place i to place j are not near. The measure is how many are left.
-use Rattle.laws.specs.Kit.{◌≡◌, sym, ◌∙◌, ap, false, ℕ, ◌-◌, ◌<◌, ◌≤◌, arith, needs}
+use Rattle.laws.specs.Kit.{◌≡◌, sym, ◌∙◌, ap, false, ℕ, ◌-◌, ◌<◌, ◌≤◌, arith, rules}
 use Rattle.plane.specs.Vectors.{vec}
 use Rattle.edge_candidates.specs.Wanted.{near}
 use Rattle.edge_candidates.specs.Wishes.{kept_test}
@@ -58,5 +58,5 @@ pub few_near_spec : {M : Type 1} → statement M
 few_near_spec =
     tie.close
     (tie.spec
-    invariant_loop decreases_loop loop_holds (λ c. omega arith) (λ c. omega arith) vec_at_requires (λ c κs. search needs) returns (λ c. omega arith)
+    invariant_loop decreases_loop loop_holds (λ c. omega arith) (λ c. omega arith) vec_at_requires (λ c κs. search rules) returns (λ c. omega arith)
     (λ c. omega arith) loop_again returns_2)

@@ -1,4 +1,4 @@
-use Rattle.laws.specs.Kit.{◌≡◌, ◌∙◌, ap, subst, Bool, ◌||◌, ◌+◌, ◌*◌, arith, needs}
+use Rattle.laws.specs.Kit.{◌≡◌, ◌∙◌, ap, subst, Bool, ◌||◌, ◌+◌, ◌*◌, arith, rules}
 use Rattle.definition.specs.Plane.{Vec}
 use Rattle.plane.specs.Vectors.{vec}
 use Rattle.edge_candidates.specs.Words.{vec_at, Numbers}
@@ -48,7 +48,7 @@ pub four_near_spec : {M : Type 1} → statement M
 four_near_spec =
     tie.close
     (tie.spec
-    vec_at_requires (λ c κs. search needs) (λ c. omega (arith, c.before.before.before.requires.fits)) vec_at_requires_2 (λ c κs. search needs)
-    (λ c κs. search needs) (λ c. omega (arith, c.before.before.before.before.before.before.requires.fits)) vec_at_requires_3 (λ c κs. search needs)
-    (λ c. omega (arith, c.before.before.before.before.before.before.before.before.requires.fits)) vec_at_requires_4 (λ c κs. search needs)
-    (λ c κs. search needs) (λ c κs. search needs) returns)
+    vec_at_requires (λ c κs. search rules) (λ c. omega (arith, c.before.before.before.requires.fits)) vec_at_requires_2 (λ c κs. search rules)
+    (λ c κs. search rules) (λ c. omega (arith, c.before.before.before.before.before.before.requires.fits)) vec_at_requires_3 (λ c κs. search rules)
+    (λ c. omega (arith, c.before.before.before.before.before.before.before.before.requires.fits)) vec_at_requires_4 (λ c κs. search rules)
+    (λ c κs. search rules) (λ c κs. search rules) returns)

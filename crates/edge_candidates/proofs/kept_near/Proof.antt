@@ -1,4 +1,4 @@
-use Rattle.laws.specs.Kit.{◌≡◌, needs}
+use Rattle.laws.specs.Kit.{◌≡◌, rules}
 use Rattle.plane.specs.Vectors.{vec}
 use Rattle.edge_candidates.specs.Wishes.{kept_test}
 use Rattle.edge_candidates.proofs.Fours.{tested_by}
@@ -15,4 +15,4 @@ pub kept_near_spec : {M : Type 1} → statement M
 kept_near_spec =
     tie.close
     (tie.spec
-    (λ c κs. search needs) (λ c. c.few_near.ensures) (λ c κs. search needs) returns_2 (λ c κs. search needs) (λ c. c.all_near.ensures))
+    (λ c κs. search rules) (λ c. c.few_near.ensures) (λ c κs. search rules) returns_2 (λ c κs. search rules) (λ c. c.all_near.ensures))

@@ -1,4 +1,4 @@
-use Rattle.laws.specs.Kit.{sym, ◌∙◌, ap, subst, ◌+◌, ◌*◌, ◌<◌, arith, needs}
+use Rattle.laws.specs.Kit.{sym, ◌∙◌, ap, subst, ◌+◌, ◌*◌, ◌<◌, arith, rules}
 use Rattle.plane.specs.Vectors.{vec}
 use Rattle.edge_candidates.specs.Wanted.{turn, near}
 use Rattle.edge_candidates.specs.Wishes.{Tested, kept_test}
@@ -52,4 +52,4 @@ pub near_ideal_spec : {M : Type 1} → statement M
 near_ideal_spec =
     tie.close
     (tie.spec
-    (λ c κs. search needs) (λ c κs. search needs) returns (λ c. search needs) (λ c. search needs) kept_near_requires returns_2 rest_near_requires returns_3)
+    (λ c κs. search rules) (λ c κs. search rules) returns (λ c. search rules) (λ c. search rules) kept_near_requires returns_2 rest_near_requires returns_3)

@@ -1,5 +1,5 @@
 -- The loop's invariant: the nodes from place k to place i give no ideal that is near. The measure is how many are left.
-use Rattle.laws.specs.Kit.{◌≡◌, sym, ◌∙◌, ap, subst, false, ℕ, ◌-◌, ◌<◌, ◌≤◌, arith, needs}
+use Rattle.laws.specs.Kit.{◌≡◌, sym, ◌∙◌, ap, subst, false, ℕ, ◌-◌, ◌<◌, ◌≤◌, arith, rules}
 use Rattle.plane.specs.Points.{Within}
 use Rattle.plane.specs.Vectors.{vec}
 use Rattle.edge_candidates.specs.Wanted.{near}
@@ -63,5 +63,5 @@ pub rest_near_spec : {M : Type 1} → statement M
 rest_near_spec =
     tie.close
     (tie.spec
-    invariant_loop decreases_loop loop_holds (λ c. search needs) (λ c. search needs) (λ c. search needs) (λ c κs. search needs) ideal_toward_requires (λ c κs. search needs) returns (λ c. search needs)
+    invariant_loop decreases_loop loop_holds (λ c. search rules) (λ c. search rules) (λ c. search rules) (λ c κs. search rules) ideal_toward_requires (λ c κs. search rules) returns (λ c. search rules)
     (λ c. omega arith) loop_again returns_2)

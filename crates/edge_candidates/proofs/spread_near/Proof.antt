@@ -1,5 +1,5 @@
 -- The measure is how many ideals are left.
-use Rattle.laws.specs.Kit.{◌≡◌, sym, ◌∙◌, ap, false≢true, ◌-◌, ◌≤◌, arith, needs}
+use Rattle.laws.specs.Kit.{◌≡◌, sym, ◌∙◌, ap, false≢true, ◌-◌, ◌≤◌, arith, rules}
 use Rattle.plane.specs.Vectors.{vec}
 use Rattle.edge_candidates.specs.Wanted.{near}
 use Rattle.edge_candidates.specs.Wishes.{kept_test}
@@ -33,5 +33,5 @@ pub spread_near_spec : {M : Type 1} → statement M
 spread_near_spec =
     tie.close
     (tie.spec
-    invariant_loop decreases_loop (λ c. omega arith) (λ c. omega arith) (λ c. omega arith) vec_at_requires (λ c κs. search needs) returns (λ c. omega arith)
+    invariant_loop decreases_loop (λ c. omega arith) (λ c. omega arith) (λ c. omega arith) vec_at_requires (λ c κs. search rules) returns (λ c. omega arith)
     (λ c. omega arith) (λ c. omega arith) (λ c y. absurd (false≢true y)))

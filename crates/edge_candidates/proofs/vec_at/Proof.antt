@@ -1,4 +1,4 @@
-use Rattle.laws.specs.Kit.{arith, needs}
+use Rattle.laws.specs.Kit.{arith, rules}
 use Rattle.plane.specs.Vectors.{vec}
 use Rattle.edge_candidates.proofs.vec_at.Statement.{statement}
 use Rattle.edge_candidates.proofs.vec_at.Tie as tie
@@ -18,4 +18,4 @@ unfolding vec
 returns c = rw (c.before.get.ensures, c.get2.ensures)
 
 pub vec_at_spec : {M : Type 1} → statement M
-vec_at_spec = tie.close (tie.spec get_requires (λ c. search needs) get_requires_2 returns)
+vec_at_spec = tie.close (tie.spec get_requires (λ c. search rules) get_requires_2 returns)

@@ -1,5 +1,5 @@
 -- Refused by the first mesh, by the second, or filed.
-use Rattle.laws.specs.Kit.{◌≡◌, sym, ◌∙◌, needs}
+use Rattle.laws.specs.Kit.{◌≡◌, sym, ◌∙◌, rules}
 use Rattle.filing.specs.declared.Answer.TheVariants.{Filed}
 use Rattle.refusals.specs.Refusals.{number_of}
 use Rattle.filing.specs.Refusals.{first_refused, second_refused, both_filed, readable}
@@ -49,17 +49,17 @@ pub filing_order_spec : {M : Type 1} → statement M
 filing_order_spec =
     tie.close
     (tie.spec
-    (λ c κs. search needs)
-    (λ c κs. search needs)
-    (λ c. search needs)
-    (λ c. search needs)
+    (λ c κs. search rules)
+    (λ c κs. search rules)
+    (λ c. search rules)
+    (λ c. search rules)
     returns
-    (λ c. search needs)
-    (λ c. search needs)
+    (λ c. search rules)
+    (λ c. search rules)
     returns_2
     order_meshes_requires
-    (λ c κs. search needs)
-    (λ c κs. search needs)
-    (λ c. search needs)
-    (λ c. search needs)
+    (λ c κs. search rules)
+    (λ c κs. search rules)
+    (λ c. search rules)
+    (λ c. search rules)
     returns_3)

@@ -1,5 +1,5 @@
 -- The first node, then the second.
-use Rattle.laws.specs.Kit.{sym, subst, ℕ, ◌+◌, ◌*◌, ◌<◌, arith, needs, List, length, get_or, set, length-set}
+use Rattle.laws.specs.Kit.{sym, subst, ℕ, ◌+◌, ◌*◌, ◌<◌, arith, rules, List, length, get_or, set, length-set}
 use Rattle.front_edges.specs.Noting.{CopyTo}
 use Rattle.front_edges.proofs.Copies.{copy_done}
 use Rattle.front_edges.proofs.copy_edge.Statement.{statement}
@@ -26,6 +26,6 @@ pub copy_edge_spec : {M : Type 1} → statement M
 copy_edge_spec =
     tie.close
     (tie.spec
-    (λ c κs. search needs) (λ c. search needs) (λ c. search needs) (λ c. search needs) (λ c. search needs) (λ c. search needs) (λ c. search needs)
-    (λ c κs. search needs) (λ c. search needs) (λ c. search needs) (λ c. search needs) (λ c κs. search needs) (λ c. search needs) (λ c. search needs)
-    slice_write_w_2 (λ c. search needs) returns)
+    (λ c κs. search rules) (λ c. search rules) (λ c. search rules) (λ c. search rules) (λ c. search rules) (λ c. search rules) (λ c. search rules)
+    (λ c κs. search rules) (λ c. search rules) (λ c. search rules) (λ c. search rules) (λ c κs. search rules) (λ c. search rules) (λ c. search rules)
+    slice_write_w_2 (λ c. search rules) returns)

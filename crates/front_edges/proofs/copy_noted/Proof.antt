@@ -1,6 +1,6 @@
 -- No edge, one or two.
 use Rattle.front_edges.proofs.Copies.{copied_none, can_first, copied_one, can_second, copied_two}
-use Rattle.laws.specs.Kit.{needs}
+use Rattle.laws.specs.Kit.{rules}
 use Rattle.front_edges.proofs.copy_noted.Statement.{statement}
 use Rattle.front_edges.proofs.copy_noted.Tie as tie
 
@@ -40,5 +40,5 @@ pub copy_noted_spec : {M : Type 1} → statement M
 copy_noted_spec =
     tie.close
     (tie.spec
-    returns copy_edge_requires (λ c. search needs) (λ c. search needs) returns_2 (λ c. search needs) copy_edge_requires_2 (λ c. search needs)
-    (λ c. search needs) returns_3)
+    returns copy_edge_requires (λ c. search rules) (λ c. search rules) returns_2 (λ c. search rules) copy_edge_requires_2 (λ c. search rules)
+    (λ c. search rules) returns_3)

@@ -1,5 +1,5 @@
 -- The edges gathered, then sorted by their second nodes.
-use Rattle.laws.specs.Kit.{subst, ℕ, ◌+◌, arith, needs}
+use Rattle.laws.specs.Kit.{subst, ℕ, ◌+◌, arith, rules}
 use Rattle.front_edges.specs.Rows.{SortTo}
 use Rattle.front_edges.proofs.Gathers.{can_sort, sorted}
 use Rattle.front_edges.proofs.front_at.Statement.{statement}
@@ -31,4 +31,4 @@ returns c = λ m h.
 
 pub front_at_spec : {M : Type 1} → statement M
 front_at_spec =
-    tie.close (tie.spec (λ c κs. search needs) (λ c κs. search needs) (λ c. search needs) add_sort_row_2 sort_row_requires (λ c. search needs) returns)
+    tie.close (tie.spec (λ c κs. search rules) (λ c κs. search rules) (λ c. search rules) add_sort_row_2 sort_row_requires (λ c. search rules) returns)

@@ -1,5 +1,5 @@
 -- A number that 4 divides is followed by three more below the word's bound.
-use Rattle.laws.specs.Kit.{◌≡◌, sym, ap, subst, ℕ, ◌+◌, ◌%◌, arith, needs, get_or, set}
+use Rattle.laws.specs.Kit.{◌≡◌, sym, ap, subst, ℕ, ◌+◌, ◌%◌, arith, rules, get_or, set}
 use Rattle.front_edges.proofs.mark.Statement.{statement}
 use Rattle.front_edges.proofs.mark.Tie as tie
 
@@ -21,4 +21,4 @@ pub mark_spec : {M : Type 1} → statement M
 mark_spec =
     tie.close
     (tie.spec
-    (λ c κs. search needs) (λ c. search needs) (λ c. search needs) (λ c. search needs) add_w (λ c. search needs) (λ c. search needs) returns)
+    (λ c κs. search rules) (λ c. search rules) (λ c. search rules) (λ c. search rules) add_w (λ c. search rules) (λ c. search rules) returns)

@@ -1,5 +1,5 @@
 -- By the note where it has a front part.
-use Rattle.laws.specs.Kit.{◌≡◌, ap, subst, ℕ, ◌+◌, ◌%◌, needs, get_or}
+use Rattle.laws.specs.Kit.{◌≡◌, ap, subst, ℕ, ◌+◌, ◌%◌, rules, get_or}
 use Rattle.front_edges.proofs.node_fronts.Statement.{statement}
 use Rattle.front_edges.proofs.node_fronts.Tie as tie
 
@@ -39,5 +39,5 @@ pub node_fronts_spec : {M : Type 1} → statement M
 node_fronts_spec =
     tie.close
     (tie.spec
-    (λ c κs. search needs) (λ c. search needs) (λ c. search needs) (λ c. search needs) walk_and_note_requires (λ c. search needs) returns
-    copy_noted_requires (λ c. search needs) returns_2)
+    (λ c κs. search rules) (λ c. search rules) (λ c. search rules) (λ c. search rules) walk_and_note_requires (λ c. search rules) returns
+    copy_noted_requires (λ c. search rules) returns_2)

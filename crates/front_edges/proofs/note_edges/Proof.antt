@@ -1,5 +1,5 @@
 -- As many edges as the places tell.
-use Rattle.laws.specs.Kit.{refl, ◌+◌, arith, needs, [], ◌∷◌, get_or}
+use Rattle.laws.specs.Kit.{refl, ◌+◌, arith, rules, [], ◌∷◌, get_or}
 use Rattle.cells.specs.Layout.{front_v_at}
 use Rattle.front_edges.proofs.Noting.{note_left, note_done, none_is, one_is, two_is}
 use Rattle.front_edges.proofs.note_edges.Statement.{statement}
@@ -43,5 +43,5 @@ pub note_edges_spec : {M : Type 1} → statement M
 note_edges_spec =
     tie.close
     (tie.spec
-    (λ c κs. search needs) (λ c. search needs) returns returns_2 (λ c. search needs) (λ c κs. search needs) (λ c. search needs) returns_3
-    (λ c. search needs) (λ c κs. search needs) (λ c. search needs) returns_4 returns_5)
+    (λ c κs. search rules) (λ c. search rules) returns returns_2 (λ c. search rules) (λ c κs. search rules) (λ c. search rules) returns_3
+    (λ c. search rules) (λ c κs. search rules) (λ c. search rules) returns_4 returns_5)

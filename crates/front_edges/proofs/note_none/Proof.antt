@@ -1,6 +1,6 @@
 -- Only the note's word changes.
 use Rattle.front_edges.proofs.Noting.{none_written}
-use Rattle.laws.specs.Kit.{needs}
+use Rattle.laws.specs.Kit.{rules}
 use Rattle.front_edges.proofs.note_none.Statement.{statement}
 use Rattle.front_edges.proofs.note_none.Tie as tie
 
@@ -12,4 +12,4 @@ returns c =
     none_written a.w.now o.mark.new.0 a.s a.p a.u t.requires o.mark.ensures
 
 pub note_none_spec : {M : Type 1} → statement M
-note_none_spec = tie.close (tie.spec (λ c κs. search needs) (λ c. search needs) returns)
+note_none_spec = tie.close (tie.spec (λ c κs. search rules) (λ c. search rules) returns)

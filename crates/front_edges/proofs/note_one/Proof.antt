@@ -1,5 +1,5 @@
 -- The other end, then the note's word.
-use Rattle.laws.specs.Kit.{◌∙◌, ◌+◌, ◌*◌, arith, needs, get_or, length-set}
+use Rattle.laws.specs.Kit.{◌∙◌, ◌+◌, ◌*◌, arith, rules, get_or, length-set}
 use Rattle.front_edges.proofs.Noting.{can_mark, one_written}
 use Rattle.front_edges.proofs.note_one.Statement.{statement}
 use Rattle.front_edges.proofs.note_one.Tie as tie
@@ -31,5 +31,5 @@ pub note_one_spec : {M : Type 1} → statement M
 note_one_spec =
     tie.close
     (tie.spec
-    (λ c κs. search needs) (λ c. search needs) (λ c. search needs) (λ c. search needs) (λ c κs. search needs) (λ c. search needs) (λ c. search needs)
-    (λ c. search needs) (λ c. search needs) mark_requires same_length returns)
+    (λ c κs. search rules) (λ c. search rules) (λ c. search rules) (λ c. search rules) (λ c κs. search rules) (λ c. search rules) (λ c. search rules)
+    (λ c. search rules) (λ c. search rules) mark_requires same_length returns)

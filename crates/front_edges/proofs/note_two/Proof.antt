@@ -1,5 +1,5 @@
 -- Both other ends, then the note's word.
-use Rattle.laws.specs.Kit.{◌∙◌, ◌+◌, ◌*◌, ◌<◌, arith, needs, length, get_or, set, length-set}
+use Rattle.laws.specs.Kit.{◌∙◌, ◌+◌, ◌*◌, ◌<◌, arith, rules, length, get_or, set, length-set}
 use Rattle.front_edges.proofs.Noting.{can_mark, two_written}
 use Rattle.front_edges.proofs.note_two.Statement.{statement}
 use Rattle.front_edges.proofs.note_two.Tie as tie
@@ -41,6 +41,6 @@ pub note_two_spec : {M : Type 1} → statement M
 note_two_spec =
     tie.close
     (tie.spec
-    (λ c κs. search needs) (λ c. search needs) (λ c. search needs) (λ c. search needs) (λ c. search needs) (λ c. search needs) (λ c. search needs)
-    (λ c κs. search needs) (λ c. search needs) (λ c. search needs) (λ c. search needs) (λ c. search needs) (λ c. search needs) (λ c. search needs)
+    (λ c κs. search rules) (λ c. search rules) (λ c. search rules) (λ c. search rules) (λ c. search rules) (λ c. search rules) (λ c. search rules)
+    (λ c κs. search rules) (λ c. search rules) (λ c. search rules) (λ c. search rules) (λ c. search rules) (λ c. search rules) (λ c. search rules)
     slice_write_w_2 mark_requires same_length returns)

@@ -1,5 +1,5 @@
 -- The first node, then the second.
-use Rattle.laws.specs.Kit.{sym, subst, ℕ, ◌+◌, ◌<◌, arith, needs, List, length, set, length-set}
+use Rattle.laws.specs.Kit.{sym, subst, ℕ, ◌+◌, ◌<◌, arith, rules, List, length, set, length-set}
 use Rattle.front_edges.specs.Runs.{PutTo}
 use Rattle.front_edges.proofs.Puts.{put_done}
 use Rattle.front_edges.proofs.put_edge.Statement.{statement}
@@ -25,5 +25,5 @@ pub put_edge_spec : {M : Type 1} → statement M
 put_edge_spec =
     tie.close
     (tie.spec
-    (λ c. search needs) (λ c κs. search needs) (λ c. search needs) (λ c. search needs) (λ c. search needs) (λ c. search needs) (λ c κs. search needs)
-    (λ c. search needs) (λ c. search needs) slice_write_w_2 (λ c. search needs) returns)
+    (λ c. search rules) (λ c κs. search rules) (λ c. search rules) (λ c. search rules) (λ c. search rules) (λ c. search rules) (λ c κs. search rules)
+    (λ c. search rules) (λ c. search rules) slice_write_w_2 (λ c. search rules) returns)

@@ -1,6 +1,6 @@
 -- The walk, then the note.
 use Rattle.front_edges.proofs.Noting.{can_note, walked}
-use Rattle.laws.specs.Kit.{needs}
+use Rattle.laws.specs.Kit.{rules}
 use Rattle.front_edges.proofs.walk_and_note.Statement.{statement}
 use Rattle.front_edges.proofs.walk_and_note.Tie as tie
 
@@ -22,4 +22,4 @@ returns c = λ m h.
     (n.note_edges.ensures m (can_note a.w.now o.front_at.new.0 a.s a.p a.u a.from o.front_at.result m h g))
 
 pub walk_and_note_spec : {M : Type 1} → statement M
-walk_and_note_spec = tie.close (tie.spec (λ c κs. search needs) note_edges_requires (λ c. search needs) returns)
+walk_and_note_spec = tie.close (tie.spec (λ c κs. search rules) note_edges_requires (λ c. search rules) returns)

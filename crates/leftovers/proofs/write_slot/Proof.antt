@@ -1,4 +1,4 @@
-use Rattle.laws.specs.Kit.{sym, ◌∙◌, arith, needs}
+use Rattle.laws.specs.Kit.{sym, ◌∙◌, arith, rules}
 use Rattle.leftovers.specs.Wrote.{slot_tris}
 use Rattle.leftovers.proofs.Texts.{wrote_none, wrote_one, no_tri}
 use Rattle.leftovers.proofs.write_slot.Statement.{statement}
@@ -25,6 +25,6 @@ pub write_slot_spec : {M : Type 1} → statement M
 write_slot_spec =
     tie.close
     (tie.spec
-    (λ c κs. search needs) returns (λ c. search needs) (λ c. search needs) (λ c. search needs) (λ c. search needs) (λ c. search needs) (λ c. search needs)
-    (λ c. search needs) (λ c. search needs) (λ c. search needs) (λ c. search needs) (λ c. search needs) (λ c. search needs) (λ c. search needs)
-    (λ c. search needs) (λ c. search needs) (λ c κs. search needs) (λ c. search needs) (λ c. search needs) returns_2)
+    (λ c κs. search rules) returns (λ c. search rules) (λ c. search rules) (λ c. search rules) (λ c. search rules) (λ c. search rules) (λ c. search rules)
+    (λ c. search rules) (λ c. search rules) (λ c. search rules) (λ c. search rules) (λ c. search rules) (λ c. search rules) (λ c. search rules)
+    (λ c. search rules) (λ c. search rules) (λ c κs. search rules) (λ c. search rules) (λ c. search rules) returns_2)

@@ -1,4 +1,4 @@
-use Rattle.laws.specs.Kit.{arith, needs, length-set}
+use Rattle.laws.specs.Kit.{arith, rules, length-set}
 use Rattle.leftovers.proofs.Texts.{written}
 use Rattle.leftovers.proofs.write_three.Statement.{statement}
 use Rattle.leftovers.proofs.write_three.Tie as tie
@@ -10,4 +10,4 @@ returns : tie.Need-returns
 returns c = written c.args.out.now c.args.a c.args.b c.args.c c.requires
 
 pub write_three_spec : {M : Type 1} → statement M
-write_three_spec = tie.close (tie.spec (λ c. search needs) slice_write_out_2 (λ c. search needs) (λ c. search needs) returns)
+write_three_spec = tie.close (tie.spec (λ c. search rules) slice_write_out_2 (λ c. search rules) (λ c. search rules) returns)

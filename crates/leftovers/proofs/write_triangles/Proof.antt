@@ -1,4 +1,4 @@
-use Rattle.laws.specs.Kit.{◌≡◌, sym, ◌∙◌, ap, ◌-◌, arith, needs, List, length}
+use Rattle.laws.specs.Kit.{◌≡◌, sym, ◌∙◌, ap, ◌-◌, arith, rules, List, length}
 use Rattle.leftovers.proofs.Orders.{tris_all, tris_below}
 use Rattle.leftovers.proofs.Texts.{Writing, writing_none, writing_more}
 use Rattle.definition.specs.Lists.{flat_map}
@@ -37,7 +37,7 @@ loop_again c =
     let t = l.before.before.before in
     let a = t.args in
     writing_more a.w.now a.out.now l.loop.out _ a.s a.p a.used l.loop.n x.write_slot.result l.loop.i
-    t.requires.0.0 t.requires.0.1 l.loop.invariant i.loop_test.true (search needs) x.write_slot.ensures
+    t.requires.0.0 t.requires.0.1 l.loop.invariant i.loop_test.true (search rules) x.write_slot.ensures
 
 returns : tie.Need-returns invariant_loop decreases_loop
 returns c =
@@ -53,4 +53,4 @@ pub write_triangles_spec : {M : Type 1} → statement M
 write_triangles_spec =
     tie.close
     (tie.spec
-    invariant_loop decreases_loop loop_holds write_slot_requires (λ c. search needs) (λ c. search needs) loop_again (λ c. c.before.loop.invariant.len) returns)
+    invariant_loop decreases_loop loop_holds write_slot_requires (λ c. search rules) (λ c. search rules) loop_again (λ c. c.before.loop.invariant.len) returns)

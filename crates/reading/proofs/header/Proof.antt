@@ -1,5 +1,5 @@
 -- `header`: the line of names, then four values, each with its byte.
-use Rattle.laws.specs.Kit.{◌≡◌, needs, drop, now}
+use Rattle.laws.specs.Kit.{◌≡◌, rules, drop, now}
 use Rattle.reading.proofs.Chains.{found}
 use Rattle.reading.proofs.Heads.{no_names, no_triangles, no_points, no_size, no_rule, all_read, within}
 use Rattle.definition.specs.Text.{exactly, bytes, hex, one_digit}
@@ -26,7 +26,7 @@ read_stop : (c : tie.After-known-told5) → taken (now c.before.before.before.be
 read_stop c = found (number_as (now c.before.before.before.before.before.before.before.before.before.before.before.before.before.before.before.before.before.before.before.before.before.before.args.s)) c.before.before.before.digit_then.ensures c.before.stop.given.1
 
 enum_told : tie.Need-enum-told
-enum_told c = search needs
+enum_told c = search rules
 
 returns : tie.Need-returns
 unfolding bytes
@@ -55,6 +55,6 @@ pub header_spec : {M : Type 1} → statement M
 header_spec =
     tie.close
     (tie.spec
-    (λ c. search needs) (λ c κs. search needs) (λ c. search needs) enum_told returns (λ c κs. search needs) (λ c. search needs) (λ c. search needs)
-    returns_2 (λ c κs. search needs) (λ c. search needs) (λ c. search needs) returns_3 (λ c κs. search needs) (λ c. search needs) (λ c. search needs)
-    returns_4 (λ c κs. search needs) (λ c. search needs) (λ c. search needs) returns_5 (λ c. search needs) (λ c. search needs) returns_6)
+    (λ c. search rules) (λ c κs. search rules) (λ c. search rules) enum_told returns (λ c κs. search rules) (λ c. search rules) (λ c. search rules)
+    returns_2 (λ c κs. search rules) (λ c. search rules) (λ c. search rules) returns_3 (λ c κs. search rules) (λ c. search rules) (λ c. search rules)
+    returns_4 (λ c κs. search rules) (λ c. search rules) (λ c. search rules) returns_5 (λ c. search rules) (λ c. search rules) returns_6)

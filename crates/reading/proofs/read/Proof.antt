@@ -1,5 +1,5 @@
 -- `read`: the length, the line of numbers, the two lists, the end. A law for each way out.
-use Rattle.laws.specs.Kit.{◌≡◌, subst, ◌≤◌, arith, needs, length, drop, now}
+use Rattle.laws.specs.Kit.{◌≡◌, subst, ◌≤◌, arith, rules, length, drop, now}
 use Rattle.reading.proofs.Chains.{found}
 use Rattle.reading.proofs.Wholes.{too_long, no_start, no_triangles, no_points, more, all_read}
 use Rattle.definition.specs.Lists.{rows}
@@ -32,7 +32,7 @@ returns : tie.Need-returns
 returns c = record { reads = too_long (now c.before.before.before.before.args.s) c.if1.true; kept = tt }
 
 enum_told : tie.Need-enum-told
-enum_told c = search needs
+enum_told c = search rules
 
 returns_2 : tie.Need-returns-2
 returns_2 c = record { reads = no_start (now c.before.before.before.before.before.before.before.args.s) c.before.before.before.if1.false (found (start_as (now c.before.before.before.before.before.before.before.args.s)) c.before.before.header.ensures.reads c.enum_told.given.1); kept = tt }
@@ -77,6 +77,6 @@ pub read_spec : {M : Type 1} → statement M
 read_spec =
     tie.close
     (tie.spec
-    returns (λ c κs. search needs) (λ c. search needs) enum_told returns_2 triangle_list_requires (λ c. search needs) (λ c. search needs)
-    (λ c. search needs) returns_3 point_list_requires (λ c. search needs) (λ c. search needs) (λ c. search needs) (λ c. search needs) returns_4
-    (λ c. search needs) (λ c. search needs) returns_5 (λ c. search needs) (λ c. search needs) returns_6)
+    returns (λ c κs. search rules) (λ c. search rules) enum_told returns_2 triangle_list_requires (λ c. search rules) (λ c. search rules)
+    (λ c. search rules) returns_3 point_list_requires (λ c. search rules) (λ c. search rules) (λ c. search rules) (λ c. search rules) returns_4
+    (λ c. search rules) (λ c. search rules) returns_5 (λ c. search rules) (λ c. search rules) returns_6)

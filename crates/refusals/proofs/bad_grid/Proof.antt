@@ -1,5 +1,5 @@
 -- Without the profile nothing is tested; in it the size, then the points.
-use Rattle.laws.specs.Kit.{◌≡◌, refl, true, false, needs, not-true, not-false}
+use Rattle.laws.specs.Kit.{◌≡◌, refl, true, false, rules, not-true, not-false}
 use Rattle.definition.specs.Floats.{0·0, f64}
 use Rattle.definition.specs.Call.{given_points, bad_grid}
 use Rattle.refusals.proofs.bad_grid.Statement.{statement}
@@ -24,4 +24,4 @@ returns_3 c = λ l e.
     rw (g, c.if2.false) refl
 
 pub bad_grid_spec : {M : Type 1} → statement M
-bad_grid_spec = tie.close (tie.spec returns (λ c κs. search needs) returns_2 returns_3)
+bad_grid_spec = tie.close (tie.spec returns (λ c κs. search rules) returns_2 returns_3)

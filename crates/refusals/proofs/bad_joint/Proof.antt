@@ -1,5 +1,5 @@
 -- The two nodes are one, or one is not below the given points; otherwise the joint passes.
-use Rattle.laws.specs.Kit.{sym, arith, needs}
+use Rattle.laws.specs.Kit.{sym, arith, rules}
 use Rattle.refusals.proofs.Pairs.{one_node, unknown, second}
 use Rattle.refusals.proofs.bad_joint.Statement.{statement}
 use Rattle.refusals.proofs.bad_joint.Tie as tie
@@ -20,4 +20,4 @@ returns_3 c =
     second a.given a.u a.v c.wide2.result e.if1.false (omega (arith, c.before.before.wide.ensures)) c.wide2.ensures
 
 pub bad_joint_spec : {M : Type 1} → statement M
-bad_joint_spec = tie.close (tie.spec returns (λ c κs. search needs) returns_2 (λ c κs. search needs) returns_3)
+bad_joint_spec = tie.close (tie.spec returns (λ c κs. search rules) returns_2 (λ c κs. search rules) returns_3)

@@ -1,5 +1,5 @@
 -- No joint passed is bad; the first that is answers.
-use Rattle.laws.specs.Kit.{◌≡◌, sym, ◌∙◌, false, ℕ, ◌-◌, ◌<◌, ◌≤◌, arith, needs, not-suc-le-zero}
+use Rattle.laws.specs.Kit.{◌≡◌, sym, ◌∙◌, false, ℕ, ◌-◌, ◌<◌, ◌≤◌, arith, rules, not-suc-le-zero}
 use borrow.Author.Count.{below_more}
 use Rattle.definition.specs.Call.{joint_at, bad_joint}
 use Rattle.laws.specs.Bools.{never, holds}
@@ -42,4 +42,4 @@ bad_joints_spec =
     tie.close
     (tie.spec
     invariant_loop decreases_loop returns loop_holds (λ c. omega arith) (λ c. omega arith) (λ c. omega arith) (λ c. omega arith) (λ c. omega arith) (λ c. omega arith)
-    (λ c. omega arith) (λ c κs. search needs) returns_2 (λ c. omega arith) (λ c. omega arith) loop_again returns_3)
+    (λ c. omega arith) (λ c κs. search rules) returns_2 (λ c. omega arith) (λ c. omega arith) loop_again returns_3)

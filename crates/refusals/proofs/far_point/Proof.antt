@@ -1,5 +1,5 @@
 -- No point passed is outside; the first that is answers.
-use Rattle.laws.specs.Kit.{◌≡◌, sym, ◌∙◌, ap, false, ℕ, ◌+◌, ◌-◌, ◌*◌, ◌<◌, ◌≤◌, arith, needs, not-suc-le-zero, get_or}
+use Rattle.laws.specs.Kit.{◌≡◌, sym, ◌∙◌, ap, false, ℕ, ◌+◌, ◌-◌, ◌*◌, ◌<◌, ◌≤◌, arith, rules, not-suc-le-zero, get_or}
 use borrow.Author.Count.{below_more}
 use Rattle.definition.specs.Floats.{0·0}
 use Rattle.definition.specs.Call.{point_at, outside}
@@ -44,4 +44,4 @@ far_point_spec =
     tie.close
     (tie.spec
     invariant_loop decreases_loop loop_holds (λ c. omega arith) (λ c. omega arith) (λ c. omega arith) (λ c. omega arith) (λ c. omega arith) (λ c. omega arith)
-    (λ c. omega arith) (λ c κs. search needs) returns (λ c. omega arith) (λ c. omega arith) loop_again returns_2)
+    (λ c. omega arith) (λ c κs. search rules) returns (λ c. omega arith) (λ c. omega arith) loop_again returns_2)

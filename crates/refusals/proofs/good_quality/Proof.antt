@@ -1,6 +1,6 @@
 -- The set passes seven tests, in the definition's order; each that fails is an answer.
 -- `yes-k` is what passing test k gave.
-use Rattle.laws.specs.Kit.{◌≡◌, sym, ◌∙◌, true, false, needs, lt-leb, le-leb, not-true, not-false}
+use Rattle.laws.specs.Kit.{◌≡◌, sym, ◌∙◌, true, false, rules, lt-leb, le-leb, not-true, not-false}
 use Rattle.definition.specs.Floats.{◌≼◌, f64, 0·0, 0·1, 0·5, 0·99, 1·0, 4·0}
 use Rattle.definition.specs.Call.{ranges, good_quality, most_pairs}
 use Rattle.refusals.proofs.good_quality.Statement.{statement}
@@ -83,4 +83,4 @@ pub good_quality_spec : {M : Type 1} → statement M
 good_quality_spec =
     tie.close
     (tie.spec
-    (λ c κs. search needs) returns (λ c κs. search needs) returns_2 (λ c κs. search needs) returns_3 (λ c κs. search needs) returns_4 returns_5 returns_6 returns_7)
+    (λ c κs. search rules) returns (λ c κs. search rules) returns_2 (λ c κs. search rules) returns_3 (λ c κs. search rules) returns_4 returns_5 returns_6 returns_7)

@@ -1,5 +1,5 @@
 -- Of doubles within the limit the two tests are the definition's.
-use Rattle.laws.specs.Kit.{◌≡◌, sym, ◌∙◌, ap, false, not, ◌&&◌, needs, Float, binary64}
+use Rattle.laws.specs.Kit.{◌≡◌, sym, ◌∙◌, ap, false, not, ◌&&◌, rules, Float, binary64}
 use Rattle.definition.specs.Floats.{finite}
 use Rattle.definition.specs.Call.{grid_node}
 use Rattle.laws.specs.Bools.{both, to_T}
@@ -34,4 +34,4 @@ returns_2 c =
     ap not h
 
 pub off_grid_spec : {M : Type 1} → statement M
-off_grid_spec = tie.close (tie.spec (λ c κs. search needs) (λ c κs. search needs) returns returns_2)
+off_grid_spec = tie.close (tie.spec (λ c κs. search rules) (λ c κs. search rules) returns returns_2)

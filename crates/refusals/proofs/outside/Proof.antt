@@ -1,5 +1,5 @@
 -- Neither x nor y is beyond the limit, or one is.
-use Rattle.laws.specs.Kit.{sym, ◌∙◌, needs}
+use Rattle.laws.specs.Kit.{sym, ◌∙◌, rules}
 use Rattle.definition.specs.Call.{outside}
 use Rattle.refusals.proofs.outside.Statement.{statement}
 use Rattle.refusals.proofs.outside.Tie as tie
@@ -19,4 +19,4 @@ returns_2 c =
     rw e
 
 pub outside_spec : {M : Type 1} → statement M
-outside_spec = tie.close (tie.spec (λ c κs. search needs) (λ c κs. search needs) returns returns_2)
+outside_spec = tie.close (tie.spec (λ c κs. search rules) (λ c κs. search rules) returns returns_2)

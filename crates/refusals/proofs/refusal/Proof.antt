@@ -1,5 +1,5 @@
 -- One refusal after the other, in the definition's order; `no-k` is what passing test k gave.
-use Rattle.laws.specs.Kit.{◌≡◌, sym, ◌∙◌, false, cond, arith, needs}
+use Rattle.laws.specs.Kit.{◌≡◌, sym, ◌∙◌, false, cond, arith, rules}
 use Rattle.definition.specs.Call.{Lent, over_limit, bad_size, bad_stop, bad_quality, too_short, unknown_node, repeated_node, far_point, bad_grid, bad_joints}
 use Rattle.refusals.specs.Stated.{asked, Lends, blank, blank_lends}
 use Rattle.refusals.specs.Passed.{Roomy, limited, roomy}
@@ -147,6 +147,6 @@ pub refusal_spec : {M : Type 1} → statement M
 refusal_spec =
     tie.close
     (tie.spec
-    (λ c κs. search needs) returns (λ c κs. search needs) returns_2 (λ c κs. search needs) returns_3 (λ c κs. search needs) returns_4
+    (λ c κs. search rules) returns (λ c κs. search rules) returns_2 (λ c κs. search rules) returns_3 (λ c κs. search rules) returns_4
     (λ c κs. limited _ (no_1 (top2 (top3 (top4 c))))) returns_5 (λ c κs. (room c).triangles) returns_6 (λ c κs. (room (top6 c)).triangles) returns_7 far_point_requires returns_8
     bad_grid_requires returns_9 (λ c κs. (room (top6 (top7 (top8 (top9 c))))).joints) returns_10 returns_11)

@@ -1,5 +1,5 @@
 -- No triangle passed has a node twice; the first that has answers.
-use Rattle.laws.specs.Kit.{◌≡◌, sym, ◌∙◌, false, ℕ, ◌-◌, ◌<◌, ◌≤◌, arith, needs, not-suc-le-zero}
+use Rattle.laws.specs.Kit.{◌≡◌, sym, ◌∙◌, false, ℕ, ◌-◌, ◌<◌, ◌≤◌, arith, rules, not-suc-le-zero}
 use borrow.Author.Count.{below_more}
 use Rattle.definition.specs.Call.{tri_at, twice}
 use Rattle.laws.specs.Bools.{never, holds}
@@ -39,5 +39,5 @@ repeated_node_spec =
     tie.close
     (tie.spec
     invariant_loop decreases_loop loop_holds (λ c. omega arith) (λ c. omega arith) (λ c. omega arith) (λ c. omega arith) (λ c. omega arith) (λ c. omega arith)
-    (λ c. omega arith) (λ c. omega arith) (λ c. omega arith) (λ c. omega arith) (λ c. omega arith) (λ c κs. search needs) returns (λ c. omega arith)
+    (λ c. omega arith) (λ c. omega arith) (λ c. omega arith) (λ c. omega arith) (λ c. omega arith) (λ c κs. search rules) returns (λ c. omega arith)
     (λ c. omega arith) loop_again returns_2)

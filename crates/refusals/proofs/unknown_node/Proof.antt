@@ -1,5 +1,5 @@
 -- Every entry passed is below the given points; the first that is not answers.
-use Rattle.laws.specs.Kit.{sym, ℕ, ◌-◌, ◌<◌, ◌≤◌, arith, needs, get_or}
+use Rattle.laws.specs.Kit.{sym, ℕ, ◌-◌, ◌<◌, ◌≤◌, arith, rules, get_or}
 use borrow.Author.Count.{below_more}
 use Rattle.laws.specs.Bools.{holds}
 use Rattle.refusals.specs.Stated.{asked}
@@ -33,5 +33,5 @@ pub unknown_node_spec : {M : Type 1} → statement M
 unknown_node_spec =
     tie.close
     (tie.spec
-    invariant_loop decreases_loop (λ c. omega arith) (λ c. omega arith) (λ c. omega arith) (λ c. omega arith) (λ c κs. search needs) returns (λ c. omega arith)
+    invariant_loop decreases_loop (λ c. omega arith) (λ c. omega arith) (λ c. omega arith) (λ c. omega arith) (λ c κs. search rules) returns (λ c. omega arith)
     (λ c. omega arith) loop_again returns_2)

@@ -1,5 +1,5 @@
 -- The product and its floor are the definition's.
-use Rattle.laws.specs.Kit.{refl, needs}
+use Rattle.laws.specs.Kit.{refl, rules}
 use Rattle.definition.specs.Floats.{◌⊗◌, f64}
 use Rattle.exact.specs.GridTest.{1024·0, is_whole_part}
 use Rattle.refusals.proofs.whole_part.Statement.{statement}
@@ -10,4 +10,4 @@ unfolding is_whole_part 1024·0 ◌⊗◌ f64
 returns c = rw c.floor.ensures refl
 
 pub whole_part_spec : {M : Type 1} → statement M
-whole_part_spec = tie.close (tie.spec (λ c κs. search needs) returns)
+whole_part_spec = tie.close (tie.spec (λ c κs. search rules) returns)

@@ -1,6 +1,6 @@
 -- The loop's invariant: the codes from t up to c are the sentinels of empty rings, and nothing else changed.
 -- The measure is what is left.
-use Rattle.laws.specs.Kit.{◌+◌, ◌-◌, arith, needs, length-set}
+use Rattle.laws.specs.Kit.{◌+◌, ◌-◌, arith, rules, length-set}
 use Rattle.laws.specs.Frames.{only_refl}
 use Rattle.rings.proofs.Opens.{Opened, open_more, open_done}
 use Rattle.rings.proofs.open.Statement.{statement}
@@ -39,6 +39,6 @@ pub open_spec : {M : Type 1} → statement M
 open_spec =
     tie.close
     (tie.spec
-    invariant_loop decreases_loop loop_holds (λ c. search needs) (λ c. search needs) (λ c. search needs) slice_write_w (λ c. search needs) (λ c. search needs)
-    (λ c. search needs) (λ c. search needs) slice_write_w_2 (λ c. search needs) (λ c. search needs) loop_again (λ c. c.before.loop.invariant.kept.len)
+    invariant_loop decreases_loop loop_holds (λ c. search rules) (λ c. search rules) (λ c. search rules) slice_write_w (λ c. search rules) (λ c. search rules)
+    (λ c. search rules) (λ c. search rules) slice_write_w_2 (λ c. search rules) (λ c. search rules) loop_again (λ c. c.before.loop.invariant.kept.len)
     returns)

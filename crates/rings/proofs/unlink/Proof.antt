@@ -1,4 +1,4 @@
-use Rattle.laws.specs.Kit.{arith, needs, length-set}
+use Rattle.laws.specs.Kit.{arith, rules, length-set}
 use Rattle.rings.specs.Rings.{unlinkedW}
 use Rattle.rings.proofs.Rings.{unlinked_from}
 use Rattle.rings.proofs.unlink.Statement.{statement}
@@ -15,6 +15,6 @@ pub unlink_spec : {M : Type 1} → statement M
 unlink_spec =
     tie.close
     (tie.spec
-    (λ c. search needs) (λ c. search needs) (λ c. search needs) (λ c. search needs) (λ c. search needs) (λ c. search needs) (λ c. search needs)
-    (λ c. search needs) (λ c. search needs) (λ c. search needs) (λ c. search needs) (λ c. search needs) (λ c. search needs) (λ c. search needs)
-    (λ c. search needs) (λ c. simp length-set (omega arith)) (λ c. search needs) returns)
+    (λ c. search rules) (λ c. search rules) (λ c. search rules) (λ c. search rules) (λ c. search rules) (λ c. search rules) (λ c. search rules)
+    (λ c. search rules) (λ c. search rules) (λ c. search rules) (λ c. search rules) (λ c. search rules) (λ c. search rules) (λ c. search rules)
+    (λ c. search rules) (λ c. simp length-set (omega arith)) (λ c. search rules) returns)

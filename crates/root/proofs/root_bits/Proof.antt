@@ -1,7 +1,7 @@
 -- `root::root_bits` meets its contract: the number under the root, the exact result and the rounding,
 -- put together by `proofs/Rounds.antt`.
 -- Assumes nothing.
-use Rattle.laws.specs.Kit.{arith, needs}
+use Rattle.laws.specs.Kit.{arith, rules}
 use Rattle.root.proofs.Rounds.{RootBits, root_bits}
 use Rattle.root.proofs.root_bits.Statement.{statement}
 use Rattle.root.proofs.root_bits.Tie as tie
@@ -19,5 +19,5 @@ pub root_bits_spec : {M : Type 1} → statement M
 root_bits_spec =
     tie.close
     (tie.spec
-    (λ c κs. search needs) (λ c κs. search needs) (λ c κs. search needs) (λ c. search needs) (λ c κs. search needs) (λ c. omega (arith, (at_end c).below))
+    (λ c κs. search rules) (λ c κs. search rules) (λ c κs. search rules) (λ c. search rules) (λ c κs. search rules) (λ c. omega (arith, (at_end c).below))
     (λ c. ((at_end c).below, (at_end c).is)))

@@ -1,5 +1,5 @@
 -- A refusal is the whole answer; otherwise the rows are filled.
-use Rattle.laws.specs.Kit.{sym, ◌∙◌, needs}
+use Rattle.laws.specs.Kit.{sym, ◌∙◌, rules}
 use Rattle.sheet.specs.Refusals.{clear, readable}
 use Rattle.sheet.proofs.Returned.{refused_returns, filled_returns}
 use Rattle.sheet.proofs.sheet.Statement.{statement}
@@ -18,4 +18,4 @@ returns_2 c =
 
 pub sheet_spec : {M : Type 1} → statement M
 sheet_spec =
-    tie.close (tie.spec (λ c κs. search needs) (λ c. search needs) returns fill_requires (λ c. search needs) returns_2)
+    tie.close (tie.spec (λ c κs. search rules) (λ c. search rules) returns fill_requires (λ c. search rules) returns_2)

@@ -1,5 +1,5 @@
 -- The loop's invariant: the first k words are those of w.
-use Rattle.laws.specs.Kit.{◌≡◌, refl, subst, ℕ, ◌-◌, arith, needs, ◌++◌, take, drop}
+use Rattle.laws.specs.Kit.{◌≡◌, refl, subst, ℕ, ◌-◌, arith, rules, ◌++◌, take, drop}
 use Rattle.traces.proofs.Parts.{Copied, copied_more}
 use Rattle.traces.proofs.copy_words.Statement.{statement}
 use Rattle.traces.proofs.copy_words.Tie as tie
@@ -46,5 +46,5 @@ pub copy_words_spec : {M : Type 1} → statement M
 copy_words_spec =
     tie.close
     (tie.spec
-    invariant_loop decreases_loop loop_holds (λ c. search needs) (λ c. search needs) shared_slice_read_t (λ c. search needs) slice_write_t (λ c. search needs) (λ c. search needs) loop_again
+    invariant_loop decreases_loop loop_holds (λ c. search rules) (λ c. search rules) shared_slice_read_t (λ c. search rules) slice_write_t (λ c. search rules) (λ c. search rules) loop_again
     same_length returns)

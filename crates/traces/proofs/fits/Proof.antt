@@ -1,4 +1,4 @@
-use Rattle.laws.specs.Kit.{sym, arith, needs}
+use Rattle.laws.specs.Kit.{sym, arith, rules}
 use Rattle.traces.proofs.Logs.{fits_none, fits_within, fits_left}
 use Rattle.traces.proofs.fits.Statement.{statement}
 use Rattle.traces.proofs.fits.Tie as tie
@@ -19,4 +19,4 @@ returns_3 c =
     λ base m m' v h k l. fits_left base a.t.now a.at a.n m m' v c.before.if1.false h k l
 
 pub fits_spec : {M : Type 1} → statement M
-fits_spec = tie.close (tie.spec returns returns_2 (λ c. search needs) returns_3)
+fits_spec = tie.close (tie.spec returns returns_2 (λ c. search rules) returns_3)

@@ -1,4 +1,4 @@
-use Rattle.laws.specs.Kit.{refl, ◌≢◌, ◌+◌, ◌≤◌, arith, needs, length}
+use Rattle.laws.specs.Kit.{refl, ◌≢◌, ◌+◌, ◌≤◌, arith, rules, length}
 use Rattle.definition.specs.Cells.{was_flipped}
 use Rattle.definition.specs.Trace.{entry}
 use Rattle.traces.proofs.Logs.{log_none, log_put, enters_within}
@@ -22,7 +22,7 @@ returns c =
 mul_write_flip : tie.Need-overflow-mul-write-flip
 mul_write_flip c =
     let h = within c.before.before c.if1.false in
-    search needs
+    search rules
 
 sub_write_flip : tie.Need-overflow-sub-write-flip
 sub_write_flip c =
@@ -42,7 +42,7 @@ add_result : tie.Need-overflow-add-result
 add_result c =
     let s = c.before.before in
     let h = within s.before.before.before.before s.before.before.if1.false in
-    search needs
+    search rules
 
 returns_2 : tie.Need-returns-2
 unfolding entry
@@ -56,4 +56,4 @@ pub note_flip_spec : {M : Type 1} → statement M
 note_flip_spec =
     tie.close
     (tie.spec
-    returns mul_write_flip sub_write_flip part_write_flip_start (λ c. search needs) write_flip_requires add_result (λ c. search needs) returns_2)
+    returns mul_write_flip sub_write_flip part_write_flip_start (λ c. search rules) write_flip_requires add_result (λ c. search rules) returns_2)

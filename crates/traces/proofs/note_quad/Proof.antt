@@ -1,4 +1,4 @@
-use Rattle.laws.specs.Kit.{◌≡◌, refl, ◌≢◌, ℕ, ◌+◌, ◌-◌, ◌≤◌, arith, needs, List, length}
+use Rattle.laws.specs.Kit.{◌≡◌, refl, ◌≢◌, ℕ, ◌+◌, ◌-◌, ◌≤◌, arith, rules, List, length}
 use borrow.Rule.Slice.PartMut.{put_mid}
 use Rattle.definition.specs.Cells.{was_placed}
 use Rattle.traces.specs.Log.{heads}
@@ -22,7 +22,7 @@ returns c =
 mul_write_quad : tie.Need-overflow-mul-write-quad
 mul_write_quad c =
     let h = within c.before.before.before c.if1.false in
-    search needs
+    search rules
 
 sub_write_quad : tie.Need-overflow-sub-write-quad
 sub_write_quad c =
@@ -57,12 +57,12 @@ first_length c =
 add_slots : tie.Need-overflow-add-slots
 add_slots c =
     let h = within (top c) c.before.before.before.before.if1.false in
-    search needs
+    search rules
 
 mul_copy_words : tie.Need-overflow-mul-copy-words
 mul_copy_words c =
     let h = within (top c) c.before.before.before.before.if1.false in
-    search needs
+    search rules
 
 sub_copy_words : tie.Need-overflow-sub-copy-words
 sub_copy_words c =
@@ -86,7 +86,7 @@ add_result : tie.Need-overflow-add-result
 add_result c =
     let s = c.before.before.before.before in
     let h = within (top s) s.before.before.before.before.if1.false in
-    search needs
+    search rules
 
 returns_2 : tie.Need-returns-2
 returns_2 c =
@@ -102,5 +102,5 @@ pub note_quad_spec : {M : Type 1} → statement M
 note_quad_spec =
     tie.close
     (tie.spec
-    returns mul_write_quad sub_write_quad part_write_quad_start (λ c. search needs) write_quad_requires add_slots mul_copy_words sub_copy_words part_copy_words_start
-    (λ c. search needs) copy_words_requires add_result (λ c. search needs) returns_2)
+    returns mul_write_quad sub_write_quad part_write_quad_start (λ c. search rules) write_quad_requires add_slots mul_copy_words sub_copy_words part_copy_words_start
+    (λ c. search rules) copy_words_requires add_result (λ c. search rules) returns_2)

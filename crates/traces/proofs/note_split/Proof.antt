@@ -1,4 +1,4 @@
-use Rattle.laws.specs.Kit.{refl, ◌≢◌, ◌+◌, ◌≤◌, arith, needs, length}
+use Rattle.laws.specs.Kit.{refl, ◌≢◌, ◌+◌, ◌≤◌, arith, rules, length}
 use Rattle.definition.specs.Plane.{flat}
 use Rattle.definition.specs.Cells.{was_split}
 use Rattle.definition.specs.Trace.{two_words, entry}
@@ -23,7 +23,7 @@ returns c =
 mul_write_split : tie.Need-overflow-mul-write-split
 mul_write_split c =
     let h = within c.before.before c.if1.false in
-    search needs
+    search rules
 
 sub_write_split : tie.Need-overflow-sub-write-split
 sub_write_split c =
@@ -43,7 +43,7 @@ add_result : tie.Need-overflow-add-result
 add_result c =
     let s = c.before.before in
     let h = within s.before.before.before.before s.before.before.if1.false in
-    search needs
+    search rules
 
 returns_2 : tie.Need-returns-2
 unfolding entry two_words
@@ -57,4 +57,4 @@ pub note_split_spec : {M : Type 1} → statement M
 note_split_spec =
     tie.close
     (tie.spec
-    returns mul_write_split sub_write_split part_write_split_start (λ c. search needs) write_split_requires add_result (λ c. search needs) returns_2)
+    returns mul_write_split sub_write_split part_write_split_start (λ c. search rules) write_split_requires add_result (λ c. search rules) returns_2)

@@ -1,4 +1,4 @@
-use Rattle.laws.specs.Kit.{arith, needs, [], ◌∷◌}
+use Rattle.laws.specs.Kit.{arith, rules, [], ◌∷◌}
 use lib.Seq.{lt-length-sets, sets-eq}
 use Rattle.definition.specs.Trace.{entry}
 use Rattle.traces.proofs.write_flip.Statement.{statement}
@@ -21,4 +21,4 @@ pub write_flip_spec : {M : Type 1} → statement M
 write_flip_spec =
     tie.close
     (tie.spec
-    (λ c. search needs) (λ c. search needs) slice_write_t_2 (λ c. search needs) (λ c. search needs) (λ c. search needs) returns)
+    (λ c. search rules) (λ c. search rules) slice_write_t_2 (λ c. search rules) (λ c. search rules) (λ c. search rules) returns)

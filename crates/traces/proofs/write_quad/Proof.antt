@@ -1,4 +1,4 @@
-use Rattle.laws.specs.Kit.{arith, needs, [], ◌∷◌}
+use Rattle.laws.specs.Kit.{arith, rules, [], ◌∷◌}
 use lib.Seq.{lt-length-sets, sets-eq}
 use Rattle.traces.specs.Log.{heads}
 use Rattle.traces.proofs.write_quad.Statement.{statement}
@@ -62,4 +62,4 @@ pub write_quad_spec : {M : Type 1} → statement M
 write_quad_spec =
     tie.close
     (tie.spec
-    (λ c. search needs) (λ c. search needs) slice_write_t_2 (λ c. search needs) slice_write_t_3 (λ c. search needs) slice_write_t_4 (λ c. search needs) slice_write_t_5 (λ c. search needs) slice_write_t_6 (λ c. search needs) slice_write_t_7 (λ c. search needs) slice_write_t_8 (λ c. search needs) slice_write_t_9 (λ c. search needs) returns)
+    (λ c. search rules) (λ c. search rules) slice_write_t_2 (λ c. search rules) slice_write_t_3 (λ c. search rules) slice_write_t_4 (λ c. search rules) slice_write_t_5 (λ c. search rules) slice_write_t_6 (λ c. search rules) slice_write_t_7 (λ c. search rules) slice_write_t_8 (λ c. search rules) slice_write_t_9 (λ c. search rules) returns)

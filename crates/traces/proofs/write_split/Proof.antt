@@ -1,4 +1,4 @@
-use Rattle.laws.specs.Kit.{◌/◌, ◌%◌, arith, needs, [], ◌∷◌}
+use Rattle.laws.specs.Kit.{◌/◌, ◌%◌, arith, rules, [], ◌∷◌}
 use lib.Seq.{lt-length-sets}
 use Rattle.traces.proofs.Logs.{split_words}
 use Rattle.traces.proofs.write_split.Statement.{statement}
@@ -46,4 +46,4 @@ pub write_split_spec : {M : Type 1} → statement M
 write_split_spec =
     tie.close
     (tie.spec
-    (λ c κs. search needs) (λ c κs. search needs) (λ c. search needs) (λ c. search needs) slice_write_t_2 (λ c. search needs) slice_write_t_3 (λ c. search needs) slice_write_t_4 (λ c. search needs) slice_write_t_5 (λ c. search needs) (λ c. search needs) (λ c. search needs) returns)
+    (λ c κs. search rules) (λ c κs. search rules) (λ c. search rules) (λ c. search rules) slice_write_t_2 (λ c. search rules) slice_write_t_3 (λ c. search rules) slice_write_t_4 (λ c. search rules) slice_write_t_5 (λ c. search rules) (λ c. search rules) (λ c. search rules) returns)

@@ -1,5 +1,5 @@
 -- `answer`: the six parts one after the other. Each is short enough for the buffer.
-use Rattle.laws.specs.Kit.{◌∙◌, arith, needs, now}
+use Rattle.laws.specs.Kit.{◌∙◌, arith, rules, now}
 use Rattle.writing.proofs.Puts.{and_next, same_text}
 use Rattle.writing.proofs.Parts.{at_front, joined}
 use Rattle.definition.specs.Text.{bytes}
@@ -47,5 +47,5 @@ pub answer_spec : {M : Type 1} → statement M
 answer_spec =
     tie.close
     (tie.spec
-    (λ c κs. search needs) (λ c κs. search needs) (λ c. search needs) (λ c κs. search needs) (λ c. search needs) (λ c κs. search needs)
-    (λ c κs. search needs) (λ c. search needs) named_requires_3 same_length returns)
+    (λ c κs. search rules) (λ c κs. search rules) (λ c. search rules) (λ c κs. search rules) (λ c. search rules) (λ c κs. search rules)
+    (λ c κs. search rules) (λ c. search rules) named_requires_3 same_length returns)

@@ -1,5 +1,5 @@
 -- `counted`: the counts are a table of one row of nine.
-use Rattle.laws.specs.Kit.{refl, ap, needs, ◌++◌}
+use Rattle.laws.specs.Kit.{refl, ap, rules, ◌++◌}
 use Rattle.writing.proofs.Puts.{same_text}
 use Rattle.writing.proofs.Parts.{one_line}
 use Rattle.definition.specs.Text.{Bytes, bytes, show}
@@ -17,4 +17,4 @@ returns c =
     }
 
 pub counted_spec : {M : Type 1} → statement M
-counted_spec = tie.close (tie.spec (λ c. search needs) (λ c. search needs) (λ c κs. search needs) (λ c. search needs) returns)
+counted_spec = tie.close (tie.spec (λ c. search rules) (λ c. search rules) (λ c κs. search rules) (λ c. search rules) returns)

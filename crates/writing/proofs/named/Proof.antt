@@ -1,5 +1,5 @@
 -- `named`: the line of names, then the table.
-use Rattle.laws.specs.Kit.{arith, needs}
+use Rattle.laws.specs.Kit.{arith, rules}
 use Rattle.writing.proofs.Puts.{and_next}
 use Rattle.writing.proofs.named.Statement.{statement}
 use Rattle.writing.proofs.named.Tie as tie
@@ -15,4 +15,4 @@ returns c =
     }
 
 pub named_spec : {M : Type 1} → statement M
-named_spec = tie.close (tie.spec (λ c κs. search needs) (λ c κs. search needs) (λ c. search needs) returns)
+named_spec = tie.close (tie.spec (λ c κs. search rules) (λ c κs. search rules) (λ c. search rules) returns)

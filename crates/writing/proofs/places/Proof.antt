@@ -1,5 +1,5 @@
 -- `places`: the line of names, the given points, the others.
-use Rattle.laws.specs.Kit.{arith, needs}
+use Rattle.laws.specs.Kit.{arith, rules}
 use Rattle.writing.proofs.Puts.{and_next, same_text}
 use Rattle.writing.proofs.Parts.{two_tables}
 use Rattle.definition.specs.Text.{bytes, show_bits}
@@ -24,4 +24,4 @@ pub places_spec : {M : Type 1} → statement M
 places_spec =
     tie.close
     (tie.spec
-    (λ c. search needs) (λ c κs. search needs) (λ c κs. search needs) (λ c κs. search needs) (λ c. search needs) returns)
+    (λ c. search rules) (λ c κs. search rules) (λ c κs. search rules) (λ c κs. search rules) (λ c. search rules) returns)

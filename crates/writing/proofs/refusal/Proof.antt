@@ -1,5 +1,5 @@
 -- `refusal`: the word and the number, each with a newline.
-use Rattle.laws.specs.Kit.{arith, needs}
+use Rattle.laws.specs.Kit.{arith, rules}
 use Rattle.writing.proofs.Puts.{and_next}
 use Rattle.writing.proofs.Parts.{at_front}
 use Rattle.definition.specs.Text.{bytes, line_of, show_refusal}
@@ -15,4 +15,4 @@ returns c =
     at_front (and_next f.ensures (omega (arith, f.ensures.next, a.requires)) g.ensures.written) (omega (arith, f.ensures.next, g.ensures.short, a.requires))
 
 pub refusal_spec : {M : Type 1} → statement M
-refusal_spec = tie.close (tie.spec (λ c. search needs) (λ c κs. search needs) (λ c κs. search needs) (λ c. search needs) returns)
+refusal_spec = tie.close (tie.spec (λ c. search rules) (λ c κs. search rules) (λ c κs. search rules) (λ c. search rules) returns)

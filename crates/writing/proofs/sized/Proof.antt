@@ -1,5 +1,5 @@
 -- `sized`: the lengths are a table of one row of four.
-use Rattle.laws.specs.Kit.{refl, ap, needs, ◌++◌}
+use Rattle.laws.specs.Kit.{refl, ap, rules, ◌++◌}
 use Rattle.writing.proofs.Puts.{same_text}
 use Rattle.writing.proofs.Parts.{one_line}
 use Rattle.definition.specs.Text.{Bytes, bytes, show}
@@ -20,5 +20,5 @@ pub sized_spec : {M : Type 1} → statement M
 sized_spec =
     tie.close
     (tie.spec
-    (λ c. search needs) (λ c. search needs) (λ c. search needs) (λ c. search needs) (λ c. search needs) (λ c. search needs) (λ c κs. search needs)
-    (λ c. search needs) returns)
+    (λ c. search rules) (λ c. search rules) (λ c. search rules) (λ c. search rules) (λ c. search rules) (λ c. search rules) (λ c κs. search rules)
+    (λ c. search rules) returns)

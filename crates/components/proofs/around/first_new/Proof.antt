@@ -1,4 +1,4 @@
-use Rattle.laws.specs.Kit.{arith, needs}
+use Rattle.laws.specs.Kit.{arith, rules}
 use Rattle.components.proofs.Seeks.{ring_start}
 use Rattle.components.proofs.around.first_new.Statement.{statement}
 use Rattle.components.proofs.around.first_new.Tie as tie
@@ -24,4 +24,4 @@ returns c = λ k m xs h.
 pub first_new_spec : {M : Type 1} → statement M
 first_new_spec =
     tie.close
-    (tie.spec (λ c. search needs) (λ c. search needs) (λ c. search needs) (λ c. search needs) (λ c. search needs) next_requires next_new_requires returns)
+    (tie.spec (λ c. search rules) (λ c. search rules) (λ c. search rules) (λ c. search rules) (λ c. search rules) next_requires next_new_requires returns)

@@ -1,4 +1,4 @@
-use Rattle.laws.specs.Kit.{ℕ, arith, needs, List}
+use Rattle.laws.specs.Kit.{ℕ, arith, rules, List}
 use Rattle.definition.specs.Cells.{Mesh, Live}
 use Rattle.cells.specs.Rep.{TriIn}
 use Rattle.cells.proofs.Slots.{rep_see}
@@ -52,4 +52,4 @@ returns_2 c = λ k m xs h t.
     looked_both (nodes f k m xs h t) u.wide.ensures v.wide2.ensures (sought_looked (d.first_new.ensures k m xs h)) e.if1.false (sought_looked (c.first_new2.ensures k m xs h))
 
 pub look_tri_spec : {M : Type 1} → statement M
-look_tri_spec = tie.close (tie.spec read_nodes_requires (λ c κs. search needs) first_new_requires returns (λ c κs. search needs) first_new_requires_2 returns_2)
+look_tri_spec = tie.close (tie.spec read_nodes_requires (λ c κs. search rules) first_new_requires returns (λ c κs. search rules) first_new_requires_2 returns_2)

@@ -1,6 +1,6 @@
 -- Met are those up to the corner c, where the next one is, unless the ring ends there.
 -- Each one more is listed, and there is room for so many.
-use Rattle.laws.specs.Kit.{◌≡◌, refl, ◌∙◌, ◌+◌, ◌-◌, ◌^◌, ◌≤◌, arith, needs, List, length}
+use Rattle.laws.specs.Kit.{◌≡◌, refl, ◌∙◌, ◌+◌, ◌-◌, ◌^◌, ◌≤◌, arith, rules, List, length}
 use Rattle.definition.specs.Cells.{Mesh, Live}
 use Rattle.components.specs.Flood.{Marked}
 use Rattle.components.proofs.Grows.{few}
@@ -70,5 +70,5 @@ pub meet_ring_spec : {M : Type 1} → statement M
 meet_ring_spec =
     tie.close
     (tie.spec
-    invariant_loop decreases_loop first_new_requires loop_holds (λ c. search needs) append_requires (λ c. search needs) next_new_requires loop_less loop_again (λ c. c.before.loop.invariant.0)
+    invariant_loop decreases_loop first_new_requires loop_holds (λ c. search rules) append_requires (λ c. search rules) next_new_requires loop_less loop_again (λ c. c.before.loop.invariant.0)
     (λ c. λ m xs h. going_end (c.before.loop.invariant.3 m xs h) c.loop_test.false))

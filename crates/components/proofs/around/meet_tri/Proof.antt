@@ -1,4 +1,4 @@
-use Rattle.laws.specs.Kit.{◌∙◌, arith, needs, List, ◌++◌}
+use Rattle.laws.specs.Kit.{◌∙◌, arith, rules, List, ◌++◌}
 use Rattle.definition.specs.Cells.{Mesh, Live}
 use Rattle.cells.specs.Rep.{TriIn}
 use Rattle.cells.proofs.Slots.{rep_see}
@@ -60,4 +60,4 @@ returns c = λ m xs h t.
     (nodes f m xs h t) o.before.wide.ensures v.wide2.ensures g (d.meet_ring2.ensures m (xs ++ g.new) g.state)
 
 pub meet_tri_spec : {M : Type 1} → statement M
-meet_tri_spec = tie.close (tie.spec read_nodes_requires (λ c κs. search needs) meet_ring_requires (λ c κs. search needs) meet_ring_requires_2 same_length returns)
+meet_tri_spec = tie.close (tie.spec read_nodes_requires (λ c κs. search rules) meet_ring_requires (λ c κs. search rules) meet_ring_requires_2 same_length returns)

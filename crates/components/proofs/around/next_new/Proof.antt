@@ -1,6 +1,6 @@
 -- Of the triangles that follow in the ring and have y or z, those passed are listed.
 -- The measure is how many links are left.
-use Rattle.laws.specs.Kit.{ℕ, arith, needs, List}
+use Rattle.laws.specs.Kit.{ℕ, arith, rules, List}
 use Rattle.definition.specs.Cells.{Mesh, Live}
 use Rattle.cells.specs.Walk.{left}
 use Rattle.components.specs.Seek.{Ring, Passed}
@@ -54,5 +54,5 @@ pub next_new_spec : {M : Type 1} → statement M
 next_new_spec =
     tie.close
     (tie.spec
-    invariant_loop decreases_loop (λ c. λ u k m xs rest a. passed_start c.before.args.y c.before.args.z a) (λ c. search needs) is_new_requires returns (λ c. search needs) (λ c. search needs)
-    (λ c. search needs) next_requires loop_less loop_again (λ c. λ u k m xs rest a. passed_end (c.before.loop.invariant u k m xs rest a) c.loop_test.false))
+    invariant_loop decreases_loop (λ c. λ u k m xs rest a. passed_start c.before.args.y c.before.args.z a) (λ c. search rules) is_new_requires returns (λ c. search rules) (λ c. search rules)
+    (λ c. search rules) next_requires loop_less loop_again (λ c. λ u k m xs rest a. passed_end (c.before.loop.invariant u k m xs rest a) c.loop_test.false))

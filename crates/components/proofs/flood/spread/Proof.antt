@@ -1,5 +1,5 @@
 -- The flood goes on: what is listed and crossed is a flood from the same triangle, and never fewer are listed.
-use Rattle.laws.specs.Kit.{◌≡◌, refl, ◌∙◌, ◌+◌, ◌-◌, ◌^◌, ◌≤◌, arith, needs, List, ◌∷◌, ◌++◌, length}
+use Rattle.laws.specs.Kit.{◌≡◌, refl, ◌∙◌, ◌+◌, ◌-◌, ◌^◌, ◌≤◌, arith, rules, List, ◌∷◌, ◌++◌, length}
 use Rattle.definition.specs.Cells.{Mesh, Live}
 use Rattle.components.specs.Flood.{Beside, Flooding}
 use Rattle.components.proofs.Floods.{flood_few, flood_can, popped, popped_tri, flood_on}
@@ -71,5 +71,5 @@ pub spread_spec : {M : Type 1} → statement M
 spread_spec =
     tie.close
     (tie.spec
-    invariant_loop decreases_loop loop_holds (λ c. c.before.before.loop.invariant.0) returns listed_requires meet_tri_requires (λ c. search needs) (λ c. search needs)
+    invariant_loop decreases_loop loop_holds (λ c. c.before.before.loop.invariant.0) returns listed_requires meet_tri_requires (λ c. search rules) (λ c. search rules)
     loop_again (λ c. c.before.loop.invariant.0) returns_2)

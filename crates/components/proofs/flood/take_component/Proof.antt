@@ -1,4 +1,4 @@
-use Rattle.laws.specs.Kit.{sym, ◌∙◌, needs}
+use Rattle.laws.specs.Kit.{sym, ◌∙◌, rules}
 use Rattle.components.proofs.Floods.{taken_known, taken_other, slot_tri, slot_out, taken_new}
 use Rattle.components.proofs.flood.take_component.Statement.{statement}
 use Rattle.components.proofs.flood.take_component.Tie as tie
@@ -49,4 +49,4 @@ pub take_component_spec : {M : Type 1} → statement M
 take_component_spec =
     tie.close
     (tie.spec
-    (λ c κs. search needs) (λ c. search needs) returns (λ c κs. search needs) (λ c. search needs) returns_2 flood_requires (λ c. search needs) returns_3)
+    (λ c κs. search rules) (λ c. search rules) returns (λ c κs. search rules) (λ c. search rules) returns_2 flood_requires (λ c. search rules) returns_3)

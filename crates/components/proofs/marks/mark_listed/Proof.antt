@@ -1,4 +1,4 @@
-use Rattle.laws.specs.Kit.{◌≡◌, refl, ◌∙◌, ◌-◌, ◌^◌, ◌≤◌, arith, needs, List, [], length}
+use Rattle.laws.specs.Kit.{◌≡◌, refl, ◌∙◌, ◌-◌, ◌^◌, ◌≤◌, arith, rules, List, [], length}
 use Rattle.definition.specs.Cells.{Mesh, Live}
 use Rattle.regions.specs.Listing.{Listed}
 use Rattle.regions.proofs.Listings.{few, aside_trans}
@@ -91,4 +91,4 @@ pub mark_listed_spec : {M : Type 1} → statement M
 mark_listed_spec =
     tie.close
     (tie.spec
-    invariant_loop decreases_loop clear_marks_requires loop_holds listed_requires append_requires (λ c. search needs) (λ c. search needs) loop_again same_length returns)
+    invariant_loop decreases_loop clear_marks_requires loop_holds listed_requires append_requires (λ c. search rules) (λ c. search rules) loop_again same_length returns)

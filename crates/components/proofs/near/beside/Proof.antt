@@ -1,5 +1,5 @@
 -- One of the region after the other: no triangle beside those passed is left.
-use Rattle.laws.specs.Kit.{ℕ, ◌-◌, arith, needs, List}
+use Rattle.laws.specs.Kit.{ℕ, ◌-◌, arith, rules, List}
 use Rattle.definition.specs.Cells.{Mesh, Live}
 use Rattle.components.specs.Flood.{Beside}
 use Rattle.components.specs.Near.{BesideOne, Around}
@@ -48,5 +48,5 @@ pub beside_spec : {M : Type 1} → statement M
 beside_spec =
     tie.close
     (tie.spec
-    invariant_loop decreases_loop (λ c. λ k m region xs a. looking_start m region xs) listed_requires look_tri_requires returns (λ c. search needs) (λ c. search needs)
+    invariant_loop decreases_loop (λ c. λ k m region xs a. looking_start m region xs) listed_requires look_tri_requires returns (λ c. search rules) (λ c. search rules)
     loop_again returns_2)

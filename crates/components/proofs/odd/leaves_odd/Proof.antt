@@ -1,5 +1,5 @@
 -- By the number of those left, by the note, or by floods.
-use Rattle.laws.specs.Kit.{arith, needs}
+use Rattle.laws.specs.Kit.{arith, rules}
 use Rattle.cells.proofs.Frames.{even_noted}
 use Rattle.components.proofs.Odds.{listed_slot}
 use Rattle.components.proofs.Totals.{listed_few, odd_rest, even_listed}
@@ -47,5 +47,5 @@ pub leaves_odd_spec : {M : Type 1} → statement M
 leaves_odd_spec =
     tie.close
     (tie.spec
-    sub_if1 returns is_even_requires leaves_odd_near_requires (λ c. search needs) returns_2 (λ c κs. search needs) (λ c. search needs)
+    sub_if1 returns is_even_requires leaves_odd_near_requires (λ c. search rules) returns_2 (λ c κs. search rules) (λ c. search rules)
     (λ c. λ m xs h u l. c.before.before.leaves_odd_anywhere.ensures m xs h u))

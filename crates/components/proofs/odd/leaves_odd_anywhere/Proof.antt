@@ -1,4 +1,4 @@
-use Rattle.laws.specs.Kit.{◌≡◌, refl, ◌∙◌, ◌-◌, ◌^◌, ◌≤◌, arith, needs, List, ◌++◌, length}
+use Rattle.laws.specs.Kit.{◌≡◌, refl, ◌∙◌, ◌-◌, ◌^◌, ◌≤◌, arith, rules, List, ◌++◌, length}
 use Rattle.definition.specs.Cells.{Mesh, Live}
 use Rattle.components.specs.Flood.{Marked}
 use Rattle.components.proofs.Sweeps.{joined}
@@ -87,5 +87,5 @@ pub leaves_odd_anywhere_spec : {M : Type 1} → statement M
 leaves_odd_anywhere_spec =
     tie.close
     (tie.spec
-    invariant_loop decreases_loop mark_listed_requires loop_holds take_component_requires sub_if1 same_length returns (λ c. search needs) (λ c. search needs) loop_again
+    invariant_loop decreases_loop mark_listed_requires loop_holds take_component_requires sub_if1 same_length returns (λ c. search rules) (λ c. search rules) loop_again
     same_length_2 returns_2)

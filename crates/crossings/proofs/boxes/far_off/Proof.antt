@@ -1,5 +1,5 @@
 use Rattle.crossings.proofs.Noted.{beyond_left, beyond_right, beyond_low, beyond_high}
-use Rattle.laws.specs.Kit.{needs}
+use Rattle.laws.specs.Kit.{rules}
 use Rattle.crossings.proofs.boxes.far_off.Statement.{statement}
 use Rattle.crossings.proofs.boxes.far_off.Tie as tie
 
@@ -31,4 +31,4 @@ pub far_off_spec : {M : Type 1} → statement M
 far_off_spec =
     tie.close
     (tie.spec
-    (λ c κs. search needs) returns (λ c κs. search needs) returns_2 (λ c κs. search needs) returns_3 (λ c κs. search needs) returns_4)
+    (λ c κs. search rules) returns (λ c κs. search rules) returns_2 (λ c κs. search rules) returns_3 (λ c κs. search rules) returns_4)

@@ -1,4 +1,4 @@
-use Rattle.laws.specs.Kit.{false≢true, arith, needs, not-false}
+use Rattle.laws.specs.Kit.{false≢true, arith, rules, not-false}
 use Rattle.laws.specs.Frames.{keeps_refl}
 use Rattle.cells.specs.Layout.{mesh_end}
 use Rattle.crossings.proofs.Boxing.{near_known}
@@ -41,4 +41,4 @@ pub make_box_spec : {M : Type 1} → statement M
 make_box_spec =
     tie.close
     (tie.spec
-    (λ c κs. search needs) (λ c κs. search needs) (λ c. search needs) returns put_box_requires (λ c. search needs) returns_2)
+    (λ c κs. search rules) (λ c κs. search rules) (λ c. search rules) returns put_box_requires (λ c. search rules) returns_2)

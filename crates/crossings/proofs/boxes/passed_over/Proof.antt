@@ -1,5 +1,5 @@
 -- The box of a is known before it is looked at.
-use Rattle.laws.specs.Kit.{false≢true, arith, needs}
+use Rattle.laws.specs.Kit.{false≢true, arith, rules}
 use Rattle.laws.specs.Frames.{keeps_refl}
 use Rattle.cells.specs.Layout.{mesh_end}
 use Rattle.crossings.proofs.Noted.{can_note, can_look, away}
@@ -76,5 +76,5 @@ pub passed_over_spec : {M : Type 1} → statement M
 passed_over_spec =
     tie.close
     (tie.spec
-    returns (λ c κs. search needs) far_off_requires (λ c. search needs) returns_2 make_box_requires far_off_requires_2 (λ c. search needs) returns_3
-    (λ c. search needs) returns_4)
+    returns (λ c κs. search rules) far_off_requires (λ c. search rules) returns_2 make_box_requires far_off_requires_2 (λ c. search rules) returns_3
+    (λ c. search rules) returns_4)

@@ -1,4 +1,4 @@
-use Rattle.laws.specs.Kit.{◌≡◌, ap, ℕ, ◌+◌, arith, needs, get_or, length-set}
+use Rattle.laws.specs.Kit.{◌≡◌, ap, ℕ, ◌+◌, arith, rules, get_or, length-set}
 use Rattle.cells.specs.Notes.{note}
 use Rattle.crossings.proofs.Noted.{put_is}
 use Rattle.crossings.proofs.boxes.put_box.Statement.{statement}
@@ -42,7 +42,7 @@ pub put_box_spec : {M : Type 1} → statement M
 put_box_spec =
     tie.close
     (tie.spec
-    (λ c κs. search needs) (λ c. search needs) (λ c. search needs) (λ c. search needs) add_w_2 (λ c. search needs) (λ c κs. search needs)
-    (λ c. search needs) (λ c. search needs) (λ c. search needs) (λ c. search needs) slice_write_w_2 (λ c. search needs) (λ c. search needs)
-    (λ c. search needs) slice_write_w_3 (λ c. search needs) (λ c. search needs) (λ c. search needs) slice_write_w_4 (λ c. search needs)
-    (λ c. search needs) (λ c. search needs) slice_write_w_5 (λ c. search needs) returns)
+    (λ c κs. search rules) (λ c. search rules) (λ c. search rules) (λ c. search rules) add_w_2 (λ c. search rules) (λ c κs. search rules)
+    (λ c. search rules) (λ c. search rules) (λ c. search rules) (λ c. search rules) slice_write_w_2 (λ c. search rules) (λ c. search rules)
+    (λ c. search rules) slice_write_w_3 (λ c. search rules) (λ c. search rules) (λ c. search rules) slice_write_w_4 (λ c. search rules)
+    (λ c. search rules) (λ c. search rules) slice_write_w_5 (λ c. search rules) returns)

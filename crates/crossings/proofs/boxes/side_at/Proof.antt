@@ -1,4 +1,4 @@
-use Rattle.laws.specs.Kit.{◌≡◌, ◌∙◌, ap, ℕ, ◌+◌, ◌*◌, needs, get_or}
+use Rattle.laws.specs.Kit.{◌≡◌, ◌∙◌, ap, ℕ, ◌+◌, ◌*◌, rules, get_or}
 use Rattle.plane.specs.Points.{ground}
 use Rattle.definition.specs.Call.{point_at}
 use Rattle.cells.specs.Notes.{bound}
@@ -29,5 +29,5 @@ pub side_at_spec : {M : Type 1} → statement M
 side_at_spec =
     tie.close
     (tie.spec
-    (λ c κs. search needs) (λ c. search needs) (λ c. search needs) (λ c. search needs) (λ c. search needs) (λ c. search needs) (λ c κs. search needs)
+    (λ c κs. search rules) (λ c. search rules) (λ c. search rules) (λ c. search rules) (λ c. search rules) (λ c. search rules) (λ c κs. search rules)
     at_requires returns)

@@ -1,4 +1,4 @@
-use Rattle.laws.specs.Kit.{subst, needs, Float}
+use Rattle.laws.specs.Kit.{subst, rules, Float}
 use Rattle.definition.specs.Call.{point_at}
 use Rattle.plane.specs.Points.{spot_x, spot_y}
 use Rattle.crossings.specs.Boxes.{up, down, Picks}
@@ -25,4 +25,4 @@ pub widen_spec : {M : Type 1} → statement M
 widen_spec =
     tie.close
     (tie.spec
-    (λ c κs. search needs) (λ c κs. search needs) (λ c κs. search needs) (λ c κs. search needs) (λ c κs. search needs) returns)
+    (λ c κs. search rules) (λ c κs. search rules) (λ c κs. search rules) (λ c κs. search rules) (λ c κs. search rules) returns)

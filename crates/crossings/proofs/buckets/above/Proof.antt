@@ -1,4 +1,4 @@
-use Rattle.laws.specs.Kit.{needs, not-false}
+use Rattle.laws.specs.Kit.{rules, not-false}
 use Rattle.definition.specs.Floats.{0·0, f64}
 use Rattle.crossings.proofs.Limits.{after_nan, after_is}
 use Rattle.crossings.proofs.buckets.above.Statement.{statement}
@@ -20,4 +20,4 @@ returns_3 c =
     after_is _ _ _ _ (o1.in_order.ensures (not-false o1.in_order.result i1.if1.false)) (o2.in_order2.ensures (not-false o2.in_order2.result c.if2.false))
 
 pub above_spec : {M : Type 1} → statement M
-above_spec = tie.close (tie.spec (λ c κs. search needs) (λ c κs. search needs) returns (λ c κs. search needs) returns_2 returns_3)
+above_spec = tie.close (tie.spec (λ c κs. search rules) (λ c κs. search rules) returns (λ c κs. search rules) returns_2 returns_3)

@@ -1,5 +1,5 @@
 use Rattle.crossings.proofs.Tests.{axis_is}
-use Rattle.laws.specs.Kit.{needs}
+use Rattle.laws.specs.Kit.{rules}
 use Rattle.crossings.proofs.buckets.axis_meets.Statement.{statement}
 use Rattle.crossings.proofs.buckets.axis_meets.Tie as tie
 
@@ -17,4 +17,4 @@ pub axis_meets_spec : {M : Type 1} → statement M
 axis_meets_spec =
     tie.close
     (tie.spec
-    (λ c κs. search needs) (λ c κs. search needs) (λ c κs. search needs) (λ c κs. search needs) (λ c κs. search needs) returns)
+    (λ c κs. search rules) (λ c κs. search rules) (λ c κs. search rules) (λ c κs. search rules) (λ c κs. search rules) returns)

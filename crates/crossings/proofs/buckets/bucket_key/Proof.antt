@@ -1,5 +1,5 @@
 use Rattle.definition.specs.Floats.{◌⊘◌}
-use Rattle.laws.specs.Kit.{needs}
+use Rattle.laws.specs.Kit.{rules}
 use Rattle.crossings.proofs.buckets.bucket_key.Statement.{statement}
 use Rattle.crossings.proofs.buckets.bucket_key.Tie as tie
 
@@ -8,4 +8,4 @@ unfolding ◌⊘◌
 returns c = c.floor.ensures
 
 pub bucket_key_spec : {M : Type 1} → statement M
-bucket_key_spec = tie.close (tie.spec (λ c κs. search needs) returns)
+bucket_key_spec = tie.close (tie.spec (λ c κs. search rules) returns)

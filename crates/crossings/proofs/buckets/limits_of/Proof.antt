@@ -1,6 +1,6 @@
 use Rattle.definition.specs.Call.{point_at}
 use Rattle.plane.specs.Points.{spot_x, spot_y}
-use Rattle.laws.specs.Kit.{needs}
+use Rattle.laws.specs.Kit.{rules}
 use Rattle.crossings.proofs.buckets.limits_of.Statement.{statement}
 use Rattle.crossings.proofs.buckets.limits_of.Tie as tie
 
@@ -27,4 +27,4 @@ pub limits_of_spec : {M : Type 1} → statement M
 limits_of_spec =
     tie.close
     (tie.spec
-    (λ c κs. search needs) (λ c κs. search needs) (λ c κs. search needs) (λ c κs. search needs) (λ c κs. search needs) (λ c κs. search needs) returns)
+    (λ c κs. search rules) (λ c κs. search rules) (λ c κs. search rules) (λ c κs. search rules) (λ c κs. search rules) (λ c κs. search rules) returns)

@@ -1,5 +1,5 @@
 use Rattle.crossings.proofs.Tests.{meet_rest, meet_not}
-use Rattle.laws.specs.Kit.{needs}
+use Rattle.laws.specs.Kit.{rules}
 use Rattle.crossings.proofs.buckets.ranges_meet.Statement.{statement}
 use Rattle.crossings.proofs.buckets.ranges_meet.Tie as tie
 
@@ -21,4 +21,4 @@ returns_2 c =
     meet_not a.p a.q a.r a.s l.lesser.result g.greater.result l.lesser.ensures g.greater.ensures c.if1.false
 
 pub ranges_meet_spec : {M : Type 1} → statement M
-ranges_meet_spec = tie.close (tie.spec (λ c κs. search needs) (λ c κs. search needs) (λ c κs. search needs) (λ c κs. search needs) returns returns_2)
+ranges_meet_spec = tie.close (tie.spec (λ c κs. search rules) (λ c κs. search rules) (λ c κs. search rules) (λ c κs. search rules) returns returns_2)

@@ -1,4 +1,4 @@
-use Rattle.laws.specs.Kit.{◌≡◌, refl, sym, ◌∙◌, false, ◌<◌, arith, needs, not-true, not-false}
+use Rattle.laws.specs.Kit.{◌≡◌, refl, sym, ◌∙◌, false, ◌<◌, arith, rules, not-true, not-false}
 use Rattle.definition.specs.Plane.{parts}
 use Rattle.definition.specs.Cells.{Mesh}
 use Rattle.definition.specs.Call.{point_at}
@@ -68,4 +68,4 @@ returns_5 c =
     )
 
 pub better_of_spec : {M : Type 1} → statement M
-better_of_spec = tie.close (tie.spec returns returns_2 (λ c κs. search needs) returns_3 is_crossing_requires returns_4 returns_5)
+better_of_spec = tie.close (tie.spec returns returns_2 (λ c κs. search rules) returns_3 is_crossing_requires returns_4 returns_5)

@@ -1,5 +1,5 @@
 -- Where no edge of a node below `from` crosses, none of a node below a does; the memory stands for the same mesh.
-use Rattle.laws.specs.Kit.{◌∙◌, ◌-◌, ◌≤◌, arith, needs}
+use Rattle.laws.specs.Kit.{◌∙◌, ◌-◌, ◌≤◌, arith, rules}
 use Rattle.definition.specs.Cells.{Mesh}
 use Rattle.laws.specs.Frames.{Keeps, keeps_refl, keeps_trans}
 use Rattle.cells.specs.Layout.{mesh_end}
@@ -80,5 +80,5 @@ pub first_crossing_spec : {M : Type 1} → statement M
 first_crossing_spec =
     tie.close
     (tie.spec
-    invariant_loop decreases_loop limits_of_requires loop_holds least_near_requires same_length returns (λ c. search needs) (λ c. search needs) loop_again
+    invariant_loop decreases_loop limits_of_requires loop_holds least_near_requires same_length returns (λ c. search rules) (λ c. search rules) loop_again
     (λ c. c.before.loop.invariant.1.len) returns_2)

@@ -1,4 +1,4 @@
-use Rattle.laws.specs.Kit.{◌≡◌, needs, not-true, not-false}
+use Rattle.laws.specs.Kit.{◌≡◌, rules, not-true, not-false}
 use Rattle.definition.specs.Plane.{segments_cross}
 use Rattle.definition.specs.Call.{point_at}
 use Rattle.crossings.proofs.Tests.{parts_side, cross_rest, shares_a, shares_b, parts_not, parts_rest}
@@ -59,4 +59,4 @@ pub is_crossing_spec : {M : Type 1} → statement M
 is_crossing_spec =
     tie.close
     (tie.spec
-    (λ c κs. search needs) returns (λ c κs. search needs) returns_2 (λ c κs. search needs) (λ c κs. search needs) returns_3 (λ c κs. search needs) returns_4)
+    (λ c κs. search rules) returns (λ c κs. search rules) returns_2 (λ c κs. search rules) (λ c κs. search rules) returns_3 (λ c κs. search rules) returns_4)

@@ -1,4 +1,4 @@
-use Rattle.laws.specs.Kit.{needs}
+use Rattle.laws.specs.Kit.{rules}
 use Rattle.definition.specs.Call.{point_at}
 use Rattle.plane.specs.Points.{node_of}
 use Rattle.crossings.proofs.Limits.{least_away}
@@ -37,4 +37,4 @@ returns_2 c =
     )
 
 pub least_near_spec : {M : Type 1} → statement M
-least_near_spec = tie.close (tie.spec (λ c κs. search needs) (λ c. search needs) returns least_beside_requires (λ c. search needs) returns_2)
+least_near_spec = tie.close (tie.spec (λ c κs. search rules) (λ c. search rules) returns least_beside_requires (λ c. search rules) returns_2)

@@ -1,5 +1,5 @@
 use Rattle.crossings.proofs.Tests.{over_rest, over_not}
-use Rattle.laws.specs.Kit.{needs}
+use Rattle.laws.specs.Kit.{rules}
 use Rattle.crossings.proofs.cross.overlaps.Statement.{statement}
 use Rattle.crossings.proofs.cross.overlaps.Tie as tie
 
@@ -30,5 +30,5 @@ pub overlaps_spec : {M : Type 1} → statement M
 overlaps_spec =
     tie.close
     (tie.spec
-    (λ c κs. search needs) (λ c κs. search needs) (λ c κs. search needs) (λ c κs. search needs) (λ c κs. search needs) (λ c κs. search needs) returns
+    (λ c κs. search rules) (λ c κs. search rules) (λ c κs. search rules) (λ c κs. search rules) (λ c κs. search rules) (λ c κs. search rules) returns
     returns_2)

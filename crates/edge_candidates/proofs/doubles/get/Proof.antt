@@ -1,4 +1,4 @@
-use Rattle.laws.specs.Kit.{needs}
+use Rattle.laws.specs.Kit.{rules}
 use Rattle.edge_candidates.specs.Words.{float_at}
 use Rattle.edge_candidates.proofs.Bits.{no_nan_pair}
 use Rattle.edge_candidates.proofs.doubles.get.Statement.{statement}
@@ -21,5 +21,5 @@ pub get_spec : {M : Type 1} → statement M
 get_spec =
     tie.close
     (tie.spec
-    (λ c. search needs) (λ c. search needs) (λ c κs. search needs) (λ c. search needs) (λ c. search needs) (λ c. search needs) (λ c κs. search needs) (λ c. search needs)
-    (λ c. search needs) float_of_requires returns)
+    (λ c. search rules) (λ c. search rules) (λ c κs. search rules) (λ c. search rules) (λ c. search rules) (λ c. search rules) (λ c κs. search rules) (λ c. search rules)
+    (λ c. search rules) float_of_requires returns)

@@ -1,4 +1,4 @@
-use Rattle.laws.specs.Kit.{sym, subst, arith, needs, T, length-set}
+use Rattle.laws.specs.Kit.{sym, subst, arith, rules, T, length-set}
 use Rattle.edge_candidates.proofs.Bits.{put_to}
 use Rattle.edge_candidates.proofs.doubles.put.Statement.{statement}
 use Rattle.edge_candidates.proofs.doubles.put.Tie as tie
@@ -12,5 +12,5 @@ pub put_spec : {M : Type 1} → statement M
 put_spec =
     tie.close
     (tie.spec
-    (λ c κs. search needs) (λ c. search needs) (λ c. search needs) (λ c. search needs) (λ c. search needs) (λ c. search needs) (λ c. search needs)
-    (λ c. simp length-set (omega arith)) (λ c. search needs) returns)
+    (λ c κs. search rules) (λ c. search rules) (λ c. search rules) (λ c. search rules) (λ c. search rules) (λ c. search rules) (λ c. search rules)
+    (λ c. simp length-set (omega arith)) (λ c. search rules) returns)

@@ -1,4 +1,4 @@
-use Rattle.laws.specs.Kit.{arith, needs}
+use Rattle.laws.specs.Kit.{arith, rules}
 use Rattle.edge_candidates.proofs.wishes.add.Statement.{statement}
 use Rattle.edge_candidates.proofs.wishes.add.Tie as tie
 
@@ -14,4 +14,4 @@ pub add_spec : {M : Type 1} → statement M
 add_spec =
     tie.close
     (tie.spec
-    (λ c. search needs) (λ c. search needs) (λ c. search needs) (λ c. search needs) (λ c. search needs) (λ c. search needs) returns returns_2)
+    (λ c. search rules) (λ c. search rules) (λ c. search rules) (λ c. search rules) (λ c. search rules) (λ c. search rules) returns returns_2)

@@ -1,4 +1,4 @@
-use Rattle.laws.specs.Kit.{◌≡◌, sym, ◌∙◌, ap, subst, true, false, arith, needs, Float}
+use Rattle.laws.specs.Kit.{◌≡◌, sym, ◌∙◌, ap, subst, true, false, arith, rules, Float}
 use Rattle.definition.specs.Floats.{◌≺◌, ◌≼◌, 0·2, 1e_12, f64}
 use Rattle.definition.specs.Numbers.{ideal_sum, tiny_length}
 use Rattle.definition.specs.Plane.{Vec, norm, over}
@@ -100,5 +100,5 @@ pub ideal_of_spec : {M : Type 1} → statement M
 ideal_of_spec =
     tie.close
     (tie.spec
-    (λ c κs. search needs) returns (λ c κs. search needs) returns_2 is_front_requires from_to_requires (λ c κs. search needs) (λ c κs. search needs) returns_3
-    (λ c κs. search needs) (λ c κs. search needs) (λ c κs. search needs) (λ c κs. search needs) returns_4 (λ c κs. search needs) returns_5)
+    (λ c κs. search rules) returns (λ c κs. search rules) returns_2 is_front_requires from_to_requires (λ c κs. search rules) (λ c κs. search rules) returns_3
+    (λ c κs. search rules) (λ c κs. search rules) (λ c κs. search rules) (λ c κs. search rules) returns_4 (λ c κs. search rules) returns_5)

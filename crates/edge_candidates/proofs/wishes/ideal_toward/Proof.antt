@@ -1,6 +1,6 @@
 use Rattle.plane.specs.Vectors.{vec}
 use Rattle.edge_candidates.proofs.Halves.{half_is}
-use Rattle.laws.specs.Kit.{needs}
+use Rattle.laws.specs.Kit.{rules}
 use Rattle.edge_candidates.proofs.wishes.ideal_toward.Statement.{statement}
 use Rattle.edge_candidates.proofs.wishes.ideal_toward.Tie as tie
 
@@ -19,4 +19,4 @@ pub ideal_toward_spec : {M : Type 1} → statement M
 ideal_toward_spec =
     tie.close
     (tie.spec
-    (λ c κs. search needs) (λ c κs. search needs) (λ c κs. search needs) (λ c κs. search needs) (λ c κs. search needs) (λ c κs. search needs) returns)
+    (λ c κs. search rules) (λ c κs. search rules) (λ c κs. search rules) (λ c κs. search rules) (λ c κs. search rules) (λ c κs. search rules) returns)

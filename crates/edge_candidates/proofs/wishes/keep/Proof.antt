@@ -1,4 +1,4 @@
-use Rattle.laws.specs.Kit.{◌≡◌, ◌∙◌, subst, ℕ, ◌+◌, ◌*◌, ◌<◌, ◌≤◌, arith, needs, not-false, length}
+use Rattle.laws.specs.Kit.{◌≡◌, ◌∙◌, subst, ℕ, ◌+◌, ◌*◌, ◌<◌, ◌≤◌, arith, rules, not-false, length}
 use Rattle.plane.specs.Vectors.{vec}
 use Rattle.edge_candidates.specs.Wishes.{KeepTo}
 use Rattle.edge_candidates.proofs.Keeping.{keep_same, keep_done}
@@ -86,5 +86,5 @@ pub keep_spec : {M : Type 1} → statement M
 keep_spec =
     tie.close
     (tie.spec
-    (λ c. stays c.before.before) (λ c. stays c.before.before.before) (λ c κs. search needs) (λ c. stays c.before.before.before.before.before) (λ c κs. search needs)
+    (λ c. stays c.before.before) (λ c. stays c.before.before.before) (λ c κs. search rules) (λ c. stays c.before.before.before.before.before) (λ c κs. search rules)
     (λ c. stays c.before.before.before.before.before.before.before) mul_at add_at mul_at_2 add_at_2 put_requires add_put put_requires_2 add_result same_length returns_5)

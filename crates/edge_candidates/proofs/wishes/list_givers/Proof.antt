@@ -1,6 +1,6 @@
 -- The loop's invariant: all nodes that give an ideal but those whose edges with a the cells to come have are listed.
 -- The measure is how many links are left.
-use Rattle.laws.specs.Kit.{◌≡◌, refl, sym, ◌∙◌, subst, ℕ, arith, needs, length}
+use Rattle.laws.specs.Kit.{◌≡◌, refl, sym, ◌∙◌, subst, ℕ, arith, rules, length}
 use Rattle.definition.specs.Cells.{Mesh}
 use Rattle.cells.specs.Walk.{left}
 use Rattle.plane.specs.Vectors.{vec}
@@ -148,6 +148,6 @@ pub list_givers_spec : {M : Type 1} → statement M
 list_givers_spec =
     tie.close
     (tie.spec
-    invariant_loop decreases_loop (λ c. search needs) (λ c. search needs) (λ c. search needs) (λ c. search needs) (λ c. search needs) next_requires loop_holds
-    (λ c. search needs) node_after_requires node_before_requires (λ c. search needs) (λ c. search needs) (λ c. search needs) next_requires_2
+    invariant_loop decreases_loop (λ c. search rules) (λ c. search rules) (λ c. search rules) (λ c. search rules) (λ c. search rules) next_requires loop_holds
+    (λ c. search rules) node_after_requires node_before_requires (λ c. search rules) (λ c. search rules) (λ c. search rules) next_requires_2
     list_node_requires list_node_requires_2 loop_less loop_again (λ c. c.before.loop.invariant.0) returns)

@@ -1,4 +1,4 @@
-use Rattle.laws.specs.Kit.{◌≡◌, refl, ◌∙◌, ap, needs, Float}
+use Rattle.laws.specs.Kit.{◌≡◌, refl, ◌∙◌, ap, rules, Float}
 use Rattle.definition.specs.Floats.{◌≼◌, 1e_12, f64}
 use Rattle.definition.specs.Numbers.{tiny_length}
 use Rattle.definition.specs.Plane.{Vec, norm, over}
@@ -30,4 +30,4 @@ pub wish_at_spec : {M : Type 1} → statement M
 wish_at_spec =
     tie.close
     (tie.spec
-    (λ c κs. search needs) (λ c κs. search needs) (λ c κs. search needs) (λ c κs. search needs) (λ c. search needs) returns)
+    (λ c κs. search rules) (λ c κs. search rules) (λ c κs. search rules) (λ c κs. search rules) (λ c. search rules) returns)

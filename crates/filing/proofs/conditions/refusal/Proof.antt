@@ -1,5 +1,5 @@
 -- One refusal after the other, in the definition's order.
-use Rattle.laws.specs.Kit.{◌≡◌, refl, sym, ◌∙◌, ap, false, needs, lt-ltb, le-ltb}
+use Rattle.laws.specs.Kit.{◌≡◌, refl, sym, ◌∙◌, ap, false, rules, lt-ltb, le-ltb}
 use Rattle.definition.specs.Floats.{0·0, f64}
 use Rattle.definition.specs.Call.{most_given, unknown_node, repeated_node, far_point}
 use Rattle.refusals.specs.Stated as stated
@@ -116,13 +116,13 @@ refusal_spec =
     (tie.spec
     returns
     returns_2
-    (λ c. search needs)
+    (λ c. search rules)
     returns_3
-    (λ c. search needs)
+    (λ c. search rules)
     returns_4
-    (λ c. search needs)
+    (λ c. search rules)
     returns_5
-    (λ c κs. search needs)
+    (λ c κs. search rules)
     unknown_node_requires
     returns_6
     repeated_node_requires

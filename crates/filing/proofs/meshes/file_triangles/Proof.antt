@@ -1,5 +1,5 @@
 -- Put, then sorted.
-use Rattle.laws.specs.Kit.{arith, needs}
+use Rattle.laws.specs.Kit.{arith, rules}
 use Rattle.filing.proofs.Files.{filed_places}
 use Rattle.filing.proofs.meshes.file_triangles.Statement.{statement}
 use Rattle.filing.proofs.meshes.file_triangles.Tie as tie
@@ -19,5 +19,5 @@ file_triangles_spec =
     (tie.spec
     put_triangles_requires
     sort_places_requires
-    (λ c. search needs)
+    (λ c. search rules)
     returns)

@@ -1,5 +1,5 @@
 -- What the counts and points leave the same is decided by what follows.
-use Rattle.laws.specs.Kit.{refl, sym, ◌∙◌, ap, not, arith, needs, not-true, not-false}
+use Rattle.laws.specs.Kit.{refl, sym, ◌∙◌, ap, not, arith, rules, not-true, not-false}
 use Rattle.filing.specs.Filing.{is_same}
 use Rattle.filing.proofs.Files.{given_differ, points_differ, count_differ, tris_decide}
 use Rattle.filing.proofs.meshes.order_meshes.Statement.{statement}
@@ -47,12 +47,12 @@ pub order_meshes_spec : {M : Type 1} → statement M
 order_meshes_spec =
     tie.close
     (tie.spec
-    (λ c κs. search needs)
+    (λ c κs. search rules)
     returns
-    (λ c κs. search needs) (λ c κs. search needs)
+    (λ c κs. search rules) (λ c κs. search rules)
     returns_2
-    (λ c κs. search needs)
+    (λ c κs. search rules)
     returns_3
     order_triangles_requires
-    (λ c. search needs) (λ c. search needs)
+    (λ c. search rules) (λ c. search rules)
     returns_4)

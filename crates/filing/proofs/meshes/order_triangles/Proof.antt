@@ -1,5 +1,5 @@
 -- Both filed, then compared place by place.
-use Rattle.laws.specs.Kit.{◌∙◌, arith, needs}
+use Rattle.laws.specs.Kit.{◌∙◌, arith, rules}
 use Rattle.filing.proofs.Files.{places_order}
 use Rattle.filing.proofs.meshes.order_triangles.Statement.{statement}
 use Rattle.filing.proofs.meshes.order_triangles.Tie as tie
@@ -27,5 +27,5 @@ order_triangles_spec =
     (tie.spec
     file_triangles_requires
     file_triangles_requires_2
-    (λ c κs. omega arith) (λ c. search needs) (λ c. search needs)
+    (λ c κs. omega arith) (λ c. search rules) (λ c. search rules)
     returns)

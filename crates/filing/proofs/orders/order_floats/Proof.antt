@@ -1,5 +1,5 @@
 -- The code's two comparisons are the definition's.
-use Rattle.laws.specs.Kit.{sym, ◌∙◌, needs}
+use Rattle.laws.specs.Kit.{sym, ◌∙◌, rules}
 use Rattle.definition.specs.Floats.{◌≺◌}
 use Rattle.filing.specs.Filing.{order_floats}
 use Rattle.filing.proofs.orders.order_floats.Statement.{statement}
@@ -25,8 +25,8 @@ pub order_floats_spec : {M : Type 1} → statement M
 order_floats_spec =
     tie.close
     (tie.spec
-    (λ c κs. search needs)
+    (λ c κs. search rules)
     returns
-    (λ c κs. search needs)
+    (λ c κs. search rules)
     returns_2
     returns_3)

@@ -1,5 +1,5 @@
 -- The places passed are the same: the order is that of what follows.
-use Rattle.laws.specs.Kit.{◌≡◌, sym, ◌∙◌, ap, ◌-◌, ◌≤◌, arith, needs}
+use Rattle.laws.specs.Kit.{◌≡◌, sym, ◌∙◌, ap, ◌-◌, ◌≤◌, arith, rules}
 use Rattle.sorting.specs.Places.{key_at}
 use Rattle.filing.specs.Filing.{is_same, order_numbers}
 use Rattle.filing.specs.Totals.{equal_is}
@@ -44,9 +44,9 @@ order_keys_spec =
     invariant_loop
     decreases_loop
     loop_holds
-    (λ c κs. search needs)
-    (λ c κs. search needs)
-    (λ c κs. search needs)
+    (λ c κs. search rules)
+    (λ c κs. search rules)
+    (λ c κs. search rules)
     returns
     (λ c. omega arith)
     (λ c. omega arith)

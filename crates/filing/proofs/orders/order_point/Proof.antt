@@ -1,5 +1,5 @@
 -- By x, and by y where x is the same.
-use Rattle.laws.specs.Kit.{sym, ◌∙◌, ◌+◌, ◌*◌, arith, needs, get_or, nan}
+use Rattle.laws.specs.Kit.{sym, ◌∙◌, ◌+◌, ◌*◌, arith, rules, get_or, nan}
 use Rattle.filing.specs.Filing.{then, order_floats}
 use Rattle.filing.proofs.Marks.{decides, passes_on, read_points}
 use Rattle.filing.proofs.orders.order_point.Statement.{statement}
@@ -26,8 +26,8 @@ pub order_point_spec : {M : Type 1} → statement M
 order_point_spec =
     tie.close
     (tie.spec
-    (λ c. search needs) (λ c. search needs) (λ c. search needs) (λ c. search needs) (λ c. search needs) (λ c. search needs)
-    (λ c κs. search needs) (λ c κs. search needs) (λ c. search needs) (λ c. search needs) (λ c. search needs) (λ c. search needs)
-    (λ c. search needs) (λ c. search needs) (λ c. search needs) (λ c. search needs) (λ c κs. search needs)
+    (λ c. search rules) (λ c. search rules) (λ c. search rules) (λ c. search rules) (λ c. search rules) (λ c. search rules)
+    (λ c κs. search rules) (λ c κs. search rules) (λ c. search rules) (λ c. search rules) (λ c. search rules) (λ c. search rules)
+    (λ c. search rules) (λ c. search rules) (λ c. search rules) (λ c. search rules) (λ c κs. search rules)
     returns
     returns_2)

@@ -1,5 +1,5 @@
 -- The points passed are the same: the order is that of what follows.
-use Rattle.laws.specs.Kit.{◌≡◌, sym, ◌∙◌, ap, not, ◌-◌, ◌≤◌, arith, needs, not-true, not-false}
+use Rattle.laws.specs.Kit.{◌≡◌, sym, ◌∙◌, ap, not, ◌-◌, ◌≤◌, arith, rules, not-true, not-false}
 use Rattle.definition.specs.Lists.{below}
 use Rattle.definition.specs.Call.{point_at, first_points}
 use Rattle.filing.specs.Filing.{order_points}
@@ -41,8 +41,8 @@ order_points_spec =
     invariant_loop
     decreases_loop
     loop_holds
-    (λ c κs. search needs)
-    (λ c κs. search needs)
+    (λ c κs. search rules)
+    (λ c κs. search rules)
     returns
     (λ c. omega arith)
     (λ c. omega arith)

@@ -1,5 +1,5 @@
 -- Neither is below the other.
-use Rattle.laws.specs.Kit.{sym, ◌∙◌, ap, not, needs, lt}
+use Rattle.laws.specs.Kit.{sym, ◌∙◌, ap, not, rules, lt}
 use Rattle.definition.specs.Floats.{◌≺◌}
 use Rattle.filing.specs.Filing.{order_floats}
 use Rattle.filing.proofs.Marks.{later_same}
@@ -17,4 +17,4 @@ returns_2 c =
     rw (sym c.before.before.below.ensures ∙ c.before.if1.false) (ap not c.below2.ensures ∙ later_same (lt a.y a.x))
 
 pub same_floats_spec : {M : Type 1} → statement M
-same_floats_spec = tie.close (tie.spec (λ c κs. search needs) returns (λ c κs. search needs) returns_2)
+same_floats_spec = tie.close (tie.spec (λ c κs. search rules) returns (λ c κs. search rules) returns_2)

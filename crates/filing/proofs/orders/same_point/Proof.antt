@@ -1,5 +1,5 @@
 -- Both coordinates are the same.
-use Rattle.laws.specs.Kit.{sym, ◌∙◌, ap, ◌+◌, ◌*◌, arith, needs, get_or, nan}
+use Rattle.laws.specs.Kit.{sym, ◌∙◌, ap, ◌+◌, ◌*◌, arith, rules, get_or, nan}
 use Rattle.filing.specs.Filing.{is_same, order_floats}
 use Rattle.filing.proofs.Marks.{decides, passes_on, read_points}
 use Rattle.filing.proofs.orders.same_point.Statement.{statement}
@@ -28,8 +28,8 @@ pub same_point_spec : {M : Type 1} → statement M
 same_point_spec =
     tie.close
     (tie.spec
-    (λ c. search needs) (λ c. search needs) (λ c. search needs) (λ c. search needs) (λ c. search needs) (λ c. search needs)
-    (λ c κs. search needs) (λ c. search needs) (λ c. search needs) (λ c. search needs) (λ c. search needs)
-    (λ c. search needs) (λ c. search needs) (λ c. search needs) (λ c. search needs) (λ c κs. search needs)
+    (λ c. search rules) (λ c. search rules) (λ c. search rules) (λ c. search rules) (λ c. search rules) (λ c. search rules)
+    (λ c κs. search rules) (λ c. search rules) (λ c. search rules) (λ c. search rules) (λ c. search rules)
+    (λ c. search rules) (λ c. search rules) (λ c. search rules) (λ c. search rules) (λ c κs. search rules)
     returns
     returns_2)

@@ -1,5 +1,5 @@
 -- Both words are stored.
-use Rattle.laws.specs.Kit.{◌≡◌, ◌+◌, ◌*◌, ◌/◌, ◌%◌, arith, needs}
+use Rattle.laws.specs.Kit.{◌≡◌, ◌+◌, ◌*◌, ◌/◌, ◌%◌, arith, rules}
 use Rattle.definition.specs.Cells.{new_tri}
 use Rattle.filing.specs.Places.{key}
 use Rattle.sorting.specs.Words.{stored}
@@ -13,12 +13,12 @@ returns c =
     let b = c.args.b in
     let d = c.args.c in
     let e : a / 256 * 4294967296 + ((a % 256 * 4096 + b) * 4096 + d) ≡ (a * 4096 + b) * 4096 + d = omega arith in
-    rw e at (stored c.args.w.now c.args.i (a / 256) ((a % 256 * 4096 + b) * 4096 + d) (search needs))
+    rw e at (stored c.args.w.now c.args.i (a / 256) ((a % 256 * 4096 + b) * 4096 + d) (search rules))
 
 pub put_spec : {M : Type 1} → statement M
 put_spec =
     tie.close
     (tie.spec
-    (λ c. search needs) (λ c. search needs) (λ c. search needs) (λ c. search needs) (λ c. search needs) (λ c. search needs)
-    (λ c. search needs) (λ c. search needs) (λ c. search needs) (λ c. search needs) (λ c. search needs) (λ c. search needs)
+    (λ c. search rules) (λ c. search rules) (λ c. search rules) (λ c. search rules) (λ c. search rules) (λ c. search rules)
+    (λ c. search rules) (λ c. search rules) (λ c. search rules) (λ c. search rules) (λ c. search rules) (λ c. search rules)
     returns)

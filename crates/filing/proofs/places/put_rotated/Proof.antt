@@ -1,6 +1,6 @@
 -- The comparisons find the rotation.
 use Rattle.filing.specs.Rotations.{from_first, from_second, from_third, from_third'}
-use Rattle.laws.specs.Kit.{needs}
+use Rattle.laws.specs.Kit.{rules}
 use Rattle.filing.proofs.places.put_rotated.Statement.{statement}
 use Rattle.filing.proofs.places.put_rotated.Tie as tie
 
@@ -20,11 +20,11 @@ pub put_rotated_spec : {M : Type 1} → statement M
 put_rotated_spec =
     tie.close
     (tie.spec
-    (λ c κs. search needs) (λ c. search needs)
+    (λ c κs. search rules) (λ c. search rules)
     returns
-    (λ c κs. search needs) (λ c. search needs)
+    (λ c κs. search rules) (λ c. search rules)
     returns_2
-    (λ c κs. search needs) (λ c. search needs)
+    (λ c κs. search rules) (λ c. search rules)
     returns_3
-    (λ c κs. search needs) (λ c. search needs)
+    (λ c κs. search rules) (λ c. search rules)
     returns_4)

@@ -1,7 +1,7 @@
 -- The loop's invariant: the loops that stand, and behind them those of the edges left, are the front's;
 -- the definition's fuel suffices for these.
 -- The measure is how many edges stand from i on.
-use Rattle.laws.specs.Kit.{◌≡◌, refl, ◌∙◌, ◌-◌, arith, needs, List, length}
+use Rattle.laws.specs.Kit.{◌≡◌, refl, ◌∙◌, ◌-◌, arith, rules, List, length}
 use Rattle.definition.specs.Plane.{Edge}
 use Rattle.definition.specs.Cells.{Mesh}
 use Rattle.edges.specs.Parts.{edge_of}
@@ -99,5 +99,5 @@ pub front_loops_spec : {M : Type 1} → statement M
 front_loops_spec =
     tie.close
     (tie.spec
-    invariant_loop decreases_loop list_edges_requires next_fresh_requires loop_holds trace_requires keep_requires (λ c. search needs) next_fresh_requires_2 (λ c. search needs) loop_again
-    (λ c. search needs) (λ c. search needs) returns)
+    invariant_loop decreases_loop list_edges_requires next_fresh_requires loop_holds trace_requires keep_requires (λ c. search rules) next_fresh_requires_2 (λ c. search rules) loop_again
+    (λ c. search rules) (λ c. search rules) returns)

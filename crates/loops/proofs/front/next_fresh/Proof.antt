@@ -1,5 +1,5 @@
 -- The loop's invariant: the edges passed are in loops. The measure is how many are left.
-use Rattle.laws.specs.Kit.{◌≡◌, sym, ◌∙◌, ap, ℕ, ◌+◌, ◌-◌, arith, needs, eqb, eq-eqb, ne_eqb, get_or}
+use Rattle.laws.specs.Kit.{◌≡◌, sym, ◌∙◌, ap, ℕ, ◌+◌, ◌-◌, arith, rules, eqb, eq-eqb, ne_eqb, get_or}
 use Rattle.cells.specs.Layout.{front_used_at}
 use Rattle.loops.proofs.Looping.{Passing, passing_start, passing_on}
 use Rattle.loops.proofs.front.next_fresh.Statement.{statement}
@@ -36,5 +36,5 @@ pub next_fresh_spec : {M : Type 1} → statement M
 next_fresh_spec =
     tie.close
     (tie.spec
-    invariant_loop decreases_loop (λ c κs. search needs) loop_holds (λ c. search needs) (λ c. search needs) (λ c. search needs) returns (λ c. search needs)
-    (λ c. search needs) loop_again returns_2)
+    invariant_loop decreases_loop (λ c κs. search rules) loop_holds (λ c. search rules) (λ c. search rules) (λ c. search rules) returns (λ c. search rules)
+    (λ c. search rules) loop_again returns_2)

@@ -1,4 +1,4 @@
-use Rattle.laws.specs.Kit.{refl, ◌∙◌, ap, ℕ, ◌+◌, arith, needs, [], ◌∷◌, get_or, set, length-set}
+use Rattle.laws.specs.Kit.{refl, ◌∙◌, ap, ℕ, ◌+◌, arith, rules, [], ◌∷◌, get_or, set, length-set}
 use Rattle.edges.specs.Parts.{edge_of}
 use Rattle.loops.proofs.Tracing.{started, trace_start, trace_place, trace_walk, trace_to}
 use Rattle.loops.proofs.front.trace.Statement.{statement}
@@ -61,6 +61,6 @@ pub trace_spec : {M : Type 1} → statement M
 trace_spec =
     tie.close
     (tie.spec
-    (λ c. search needs) (λ c κs. search needs) (λ c. search needs) (λ c. search needs) (λ c. search needs) (λ c κs. search needs) (λ c. search needs)
-    (λ c. search needs) (λ c. simp length-set (omega arith)) (λ c κs. search needs) (λ c κs. search needs) (λ c. search needs) (λ c. search needs)
-    (λ c. simp length-set (omega arith)) (λ c κs. search needs) place_requires (λ c. search needs) walk_requires same_length returns)
+    (λ c. search rules) (λ c κs. search rules) (λ c. search rules) (λ c. search rules) (λ c. search rules) (λ c κs. search rules) (λ c. search rules)
+    (λ c. search rules) (λ c. simp length-set (omega arith)) (λ c κs. search rules) (λ c κs. search rules) (λ c. search rules) (λ c. search rules)
+    (λ c. simp length-set (omega arith)) (λ c κs. search rules) place_requires (λ c. search rules) walk_requires same_length returns)

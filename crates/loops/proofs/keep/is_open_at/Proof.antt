@@ -1,4 +1,4 @@
-use Rattle.laws.specs.Kit.{sym, ◌∙◌, ap, subst, not, ℕ, ◌*◌, needs}
+use Rattle.laws.specs.Kit.{sym, ◌∙◌, ap, subst, not, ℕ, ◌*◌, rules}
 use Rattle.definition.specs.Cells.{has_edge_in}
 use Rattle.laws.specs.Cells.{same_ends}
 use Rattle.blocked_edges.specs.Records.{IsEdge}
@@ -27,4 +27,4 @@ returns c =
     ∙ ap (has_edge_in bl) (same_ends u.first_on.ensures v.second_on.ensures))
 
 pub is_open_at_spec : {M : Type 1} → statement M
-is_open_at_spec = tie.close (tie.spec (λ c κs. search needs) (λ c κs. search needs) (λ c κs. search needs) (λ c. search needs) is_blocked_requires returns)
+is_open_at_spec = tie.close (tie.spec (λ c κs. search rules) (λ c κs. search rules) (λ c κs. search rules) (λ c. search rules) is_blocked_requires returns)

@@ -1,5 +1,5 @@
 -- What the test tells decides: the loop is measured, or nothing changes.
-use Rattle.laws.specs.Kit.{refl, sym, ◌∙◌, needs, length}
+use Rattle.laws.specs.Kit.{refl, sym, ◌∙◌, rules, length}
 use Rattle.laws.specs.Bools.{never}
 use Rattle.loops.proofs.keep.keep.Statement.{statement}
 use Rattle.loops.proofs.keep.keep.Tie as tie
@@ -26,4 +26,4 @@ returns_2 c =
 pub keep_spec : {M : Type 1} → statement M
 keep_spec =
     tie.close
-    (tie.spec any_open_requires measure_requires (λ c. search needs) (λ c. search needs) returns returns_2)
+    (tie.spec any_open_requires measure_requires (λ c. search rules) (λ c. search rules) returns returns_2)

@@ -1,5 +1,5 @@
 -- One loop needs no perimeter, with the second come two, and then one at a time.
-use Rattle.laws.specs.Kit.{arith, needs, length-set}
+use Rattle.laws.specs.Kit.{arith, rules, length-set}
 use Rattle.loops.proofs.Keeping.{first_is, measured_two, measured_more}
 use Rattle.loops.proofs.keep.measure.Statement.{statement}
 use Rattle.loops.proofs.keep.measure.Tie as tie
@@ -35,5 +35,5 @@ pub measure_spec : {M : Type 1} → statement M
 measure_spec =
     tie.close
     (tie.spec
-    returns perimeter_requires (λ c. search needs) perimeter_requires_2 slice_write_f_2 (λ c. simp length-set) returns_2 perimeter_requires_3 (λ c. search needs)
-    (λ c. search needs) (λ c. simp length-set) returns_3)
+    returns perimeter_requires (λ c. search rules) perimeter_requires_2 slice_write_f_2 (λ c. simp length-set) returns_2 perimeter_requires_3 (λ c. search rules)
+    (λ c. search rules) (λ c. simp length-set) returns_3)

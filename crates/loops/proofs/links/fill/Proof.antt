@@ -1,5 +1,5 @@
 -- The loop's invariant: the first i words are filled, and nothing else changed. The measure is how many are left.
-use Rattle.laws.specs.Kit.{◌≡◌, subst, ℕ, ◌-◌, ◌≤◌, arith, needs}
+use Rattle.laws.specs.Kit.{◌≡◌, subst, ℕ, ◌-◌, ◌≤◌, arith, rules}
 use Rattle.loops.specs.Link.{Filled}
 use Rattle.loops.proofs.Linking.{fill_start, fill_more}
 use Rattle.loops.proofs.links.fill.Statement.{statement}
@@ -35,5 +35,5 @@ pub fill_spec : {M : Type 1} → statement M
 fill_spec =
     tie.close
     (tie.spec
-    invariant_loop decreases_loop loop_holds (λ c. search needs) (λ c. search needs) slice_write_w (λ c. search needs) (λ c. search needs) loop_again
+    invariant_loop decreases_loop loop_holds (λ c. search rules) (λ c. search rules) slice_write_w (λ c. search rules) (λ c. search rules) loop_again
     (λ c. c.before.loop.invariant.1.len) returns)

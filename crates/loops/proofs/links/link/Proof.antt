@@ -1,4 +1,4 @@
-use Rattle.laws.specs.Kit.{arith, needs, length-set}
+use Rattle.laws.specs.Kit.{arith, rules, length-set}
 use Rattle.cells.specs.Layout.{front_links_at, heads_at}
 use Rattle.loops.specs.Link.{linked}
 use Rattle.loops.proofs.links.link.Statement.{statement}
@@ -12,5 +12,5 @@ pub link_spec : {M : Type 1} → statement M
 link_spec =
     tie.close
     (tie.spec
-    (λ c κs. search needs) (λ c. search needs) (λ c. search needs) (λ c. search needs) (λ c κs. search needs) (λ c. search needs) (λ c. search needs)
-    (λ c. search needs) (λ c. search needs) (λ c. search needs) (λ c. simp length-set (omega arith)) (λ c. search needs) returns)
+    (λ c κs. search rules) (λ c. search rules) (λ c. search rules) (λ c. search rules) (λ c κs. search rules) (λ c. search rules) (λ c. search rules)
+    (λ c. search rules) (λ c. search rules) (λ c. search rules) (λ c. simp length-set (omega arith)) (λ c. search rules) returns)

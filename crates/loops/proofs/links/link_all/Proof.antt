@@ -1,5 +1,5 @@
 -- The loop's invariant: the edges from number i on are in the lists of their ends. The measure is how many are left.
-use Rattle.laws.specs.Kit.{◌≡◌, refl, ◌∙◌, ℕ, arith, needs, List, length}
+use Rattle.laws.specs.Kit.{◌≡◌, refl, ◌∙◌, ℕ, arith, rules, List, length}
 use Rattle.definition.specs.Plane.{Edge}
 use Rattle.loops.specs.Link.{Linking}
 use Rattle.loops.proofs.Linking.{Going, going_start, going_end, going_next, going_on}
@@ -31,5 +31,5 @@ pub link_all_spec : {M : Type 1} → statement M
 link_all_spec =
     tie.close
     (tie.spec
-    invariant_loop decreases_loop (λ c. (refl, λ n es g. going_start g)) (λ c. search needs) link_edge_requires (λ c. omega (arith, c.before.before.before.before.loop_test.true)) loop_again
+    invariant_loop decreases_loop (λ c. (refl, λ n es g. going_start g)) (λ c. search rules) link_edge_requires (λ c. omega (arith, c.before.before.before.before.loop_test.true)) loop_again
     (λ c. c.before.loop.invariant.0) (λ c. λ n es q. going_end c.loop_test.false (c.before.loop.invariant.1 n es q)))

@@ -1,4 +1,4 @@
-use Rattle.laws.specs.Kit.{◌∙◌, ap, ℕ, ◌+◌, needs, get_or}
+use Rattle.laws.specs.Kit.{◌∙◌, ap, ℕ, ◌+◌, rules, get_or}
 use Rattle.loops.proofs.Linking.{can_link_first, can_link_second, link_edge_to}
 use Rattle.loops.proofs.links.link_edge.Statement.{statement}
 use Rattle.loops.proofs.links.link_edge.Tie as tie
@@ -49,6 +49,6 @@ pub link_edge_spec : {M : Type 1} → statement M
 link_edge_spec =
     tie.close
     (tie.spec
-    (λ c κs. search needs) (λ c. search needs) (λ c. search needs) (λ c. search needs) (λ c κs. search needs) (λ c κs. search needs) (λ c. search needs)
-    (λ c. search needs) (λ c. search needs) (λ c κs. search needs) (λ c. search needs) link_requires (λ c. search needs) (λ c. search needs)
-    link_requires_2 (λ c. search needs) returns)
+    (λ c κs. search rules) (λ c. search rules) (λ c. search rules) (λ c. search rules) (λ c κs. search rules) (λ c κs. search rules) (λ c. search rules)
+    (λ c. search rules) (λ c. search rules) (λ c κs. search rules) (λ c. search rules) link_requires (λ c. search rules) (λ c. search rules)
+    link_requires_2 (λ c. search rules) returns)

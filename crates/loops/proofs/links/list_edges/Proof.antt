@@ -1,4 +1,4 @@
-use Rattle.laws.specs.Kit.{subst, ℕ, needs}
+use Rattle.laws.specs.Kit.{subst, ℕ, rules}
 use Rattle.cells.specs.Layout.{front_used_at, heads_at}
 use Rattle.loops.specs.Link.{Filled}
 use Rattle.loops.proofs.Linking.{cleared, list_to}
@@ -41,5 +41,5 @@ pub list_edges_spec : {M : Type 1} → statement M
 list_edges_spec =
     tie.close
     (tie.spec
-    (λ c κs. search needs) (λ c κs. search needs) (λ c κs. search needs) (λ c. search needs) (λ c κs. search needs) link_all_requires (λ c. search needs)
+    (λ c κs. search rules) (λ c κs. search rules) (λ c κs. search rules) (λ c. search rules) (λ c κs. search rules) link_all_requires (λ c. search rules)
     returns)

@@ -1,4 +1,4 @@
-use Rattle.laws.specs.Kit.{◌∙◌, ap, ℕ, ◌+◌, needs, get_or}
+use Rattle.laws.specs.Kit.{◌∙◌, ap, ℕ, ◌+◌, rules, get_or}
 use Rattle.loops.proofs.Ends.{far_by_first, far_by_second}
 use Rattle.loops.proofs.walks.far.Statement.{statement}
 use Rattle.loops.proofs.walks.far.Tie as tie
@@ -26,5 +26,5 @@ pub far_spec : {M : Type 1} → statement M
 far_spec =
     tie.close
     (tie.spec
-    (λ c κs. search needs) (λ c. search needs) (λ c. search needs) (λ c. search needs) (λ c κs. search needs) (λ c κs. search needs) (λ c. search needs)
-    (λ c. search needs) (λ c. search needs) (λ c κs. search needs) returns returns_2)
+    (λ c κs. search rules) (λ c. search rules) (λ c. search rules) (λ c. search rules) (λ c κs. search rules) (λ c κs. search rules) (λ c. search rules)
+    (λ c. search rules) (λ c. search rules) (λ c κs. search rules) returns returns_2)

@@ -1,6 +1,6 @@
 -- The loop's invariant: the first edge in no loop at the node is the first such from c on.
 -- The measure is how many edges stand from c on.
-use Rattle.laws.specs.Kit.{◌≡◌, sym, ◌∙◌, ap, ℕ, ◌+◌, ◌-◌, ◌<◌, arith, needs, eqb, eq-eqb, ne_eqb, List, get_or}
+use Rattle.laws.specs.Kit.{◌≡◌, sym, ◌∙◌, ap, ℕ, ◌+◌, ◌-◌, ◌<◌, arith, rules, eqb, eq-eqb, ne_eqb, List, get_or}
 use Rattle.definition.specs.Plane.{Edge}
 use Rattle.cells.specs.Layout.{front_used_at}
 use Rattle.loops.specs.Trace.{Ready}
@@ -66,5 +66,5 @@ pub first_left_spec : {M : Type 1} → statement M
 first_left_spec =
     tie.close
     (tie.spec
-    invariant_loop decreases_loop (λ c κs. search needs) (λ c κs. search needs) (λ c. search needs) (λ c. search needs) (λ c. search needs) (λ c κs. search needs)
-    loop_holds (λ c. search needs) (λ c. search needs) (λ c. search needs) returns next_at_requires loop_less loop_again returns_2)
+    invariant_loop decreases_loop (λ c κs. search rules) (λ c κs. search rules) (λ c. search rules) (λ c. search rules) (λ c. search rules) (λ c κs. search rules)
+    loop_holds (λ c. search rules) (λ c. search rules) (λ c. search rules) returns next_at_requires loop_less loop_again returns_2)

@@ -1,4 +1,4 @@
-use Rattle.laws.specs.Kit.{◌∙◌, ap, ℕ, ◌+◌, ◌*◌, needs, get_or}
+use Rattle.laws.specs.Kit.{◌∙◌, ap, ℕ, ◌+◌, ◌*◌, rules, get_or}
 use Rattle.loops.proofs.Ends.{next_by_first, next_by_second}
 use Rattle.loops.proofs.walks.next_at.Statement.{statement}
 use Rattle.loops.proofs.walks.next_at.Tie as tie
@@ -29,6 +29,6 @@ pub next_at_spec : {M : Type 1} → statement M
 next_at_spec =
     tie.close
     (tie.spec
-    (λ c κs. search needs) (λ c κs. search needs) (λ c. search needs) (λ c. search needs) (λ c. search needs) (λ c κs. search needs) (λ c. search needs)
-    (λ c. search needs) (λ c. search needs) (λ c. search needs) (λ c κs. search needs) returns (λ c. search needs) (λ c. search needs) (λ c. search needs)
-    (λ c. search needs) (λ c. search needs) (λ c κs. search needs) returns_2)
+    (λ c κs. search rules) (λ c κs. search rules) (λ c. search rules) (λ c. search rules) (λ c. search rules) (λ c κs. search rules) (λ c. search rules)
+    (λ c. search rules) (λ c. search rules) (λ c. search rules) (λ c κs. search rules) returns (λ c. search rules) (λ c. search rules) (λ c. search rules)
+    (λ c. search rules) (λ c. search rules) (λ c κs. search rules) returns_2)

@@ -1,4 +1,4 @@
-use Rattle.laws.specs.Kit.{arith, needs, length-set}
+use Rattle.laws.specs.Kit.{arith, rules, length-set}
 use Rattle.cells.specs.Layout.{front_used_at, order_at}
 use Rattle.loops.proofs.Places.{change, place_room, place_to}
 use Rattle.loops.proofs.walks.place.Statement.{statement}
@@ -24,5 +24,5 @@ pub place_spec : {M : Type 1} → statement M
 place_spec =
     tie.close
     (tie.spec
-    (λ c κs. search needs) (λ c. search needs) (λ c. search needs) (λ c. search needs) (λ c. search needs) (λ c κs. search needs) add_w_2
-    (λ c. search needs) slice_write_w_2 (λ c. search needs) returns)
+    (λ c κs. search rules) (λ c. search rules) (λ c. search rules) (λ c. search rules) (λ c. search rules) (λ c κs. search rules) add_w_2
+    (λ c. search rules) slice_write_w_2 (λ c. search rules) returns)

@@ -1,5 +1,5 @@
 -- The loop's invariant: the memory stands for every mesh of the first i triangles. The measure is how many are left.
-use Rattle.laws.specs.Kit.{◌≡◌, ◌∙◌, ◌-◌, ◌≤◌, arith, needs}
+use Rattle.laws.specs.Kit.{◌≡◌, ◌∙◌, ◌-◌, ◌≤◌, arith, rules}
 use Rattle.definition.specs.Cells.{Mesh}
 use Rattle.laws.specs.Frames.{Keeps, keeps_refl, keeps_trans}
 use Rattle.cells.specs.Layout.{mesh_end}
@@ -108,6 +108,6 @@ pub build_spec : {M : Type 1} → statement M
 build_spec =
     tie.close
     (tie.spec
-    invariant_loop decreases_loop empty_requires loop_holds mul_wide (λ c. search needs) shared_slice_read_wide (λ c κs. search needs) mul_wide_3 add_wide
-    (λ c. search needs) shared_slice_read_wide_2 (λ c κs. search needs) mul_wide_5 add_wide_2 (λ c. search needs) shared_slice_read_wide_3
-    (λ c κs. search needs) push_tri_requires add_i loop_less loop_again same_length returns)
+    invariant_loop decreases_loop empty_requires loop_holds mul_wide (λ c. search rules) shared_slice_read_wide (λ c κs. search rules) mul_wide_3 add_wide
+    (λ c. search rules) shared_slice_read_wide_2 (λ c κs. search rules) mul_wide_5 add_wide_2 (λ c. search rules) shared_slice_read_wide_3
+    (λ c κs. search rules) push_tri_requires add_i loop_less loop_again same_length returns)

@@ -1,5 +1,5 @@
 -- What is read before it is written is cleared, and the rings are opened.
-use Rattle.laws.specs.Kit.{needs}
+use Rattle.laws.specs.Kit.{rules}
 use Rattle.meshes.proofs.Builds.{empty_done}
 use Rattle.meshes.proofs.build.empty.Statement.{statement}
 use Rattle.meshes.proofs.build.empty.Tie as tie
@@ -21,5 +21,5 @@ pub empty_spec : {M : Type 1} → statement M
 empty_spec =
     tie.close
     (tie.spec
-    (λ c κs. search needs) (λ c κs. search needs) (λ c κs. search needs) (λ c κs. search needs) (λ c κs. search needs) (λ c. search needs) (λ c. search needs)
-    (λ c. search needs) (λ c. search needs) (λ c κs. search needs) (λ c. search needs) returns)
+    (λ c κs. search rules) (λ c κs. search rules) (λ c κs. search rules) (λ c κs. search rules) (λ c κs. search rules) (λ c. search rules) (λ c. search rules)
+    (λ c. search rules) (λ c. search rules) (λ c κs. search rules) (λ c. search rules) returns)

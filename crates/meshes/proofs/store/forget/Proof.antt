@@ -1,5 +1,5 @@
 -- The word of the note is cleared.
-use Rattle.laws.specs.Kit.{needs}
+use Rattle.laws.specs.Kit.{rules}
 use Rattle.meshes.proofs.Notes.{forget_done}
 use Rattle.meshes.proofs.store.forget.Statement.{statement}
 use Rattle.meshes.proofs.store.forget.Tie as tie
@@ -11,4 +11,4 @@ returns c =
     forget_done a.w.now a.s a.p a.a c.notes_at.result c.notes_at.ensures t.requires.room.fits t.requires.node
 
 pub forget_spec : {M : Type 1} → statement M
-forget_spec = tie.close (tie.spec (λ c κs. search needs) (λ c. search needs) (λ c. search needs) (λ c. search needs) (λ c. search needs) returns)
+forget_spec = tie.close (tie.spec (λ c κs. search rules) (λ c. search rules) (λ c. search rules) (λ c. search rules) (λ c. search rules) returns)

@@ -1,5 +1,5 @@
 -- The note is forgotten, then the node is stored and its corner linked.
-use Rattle.laws.specs.Kit.{◌∙◌, arith, needs, length-set}
+use Rattle.laws.specs.Kit.{◌∙◌, arith, rules, length-set}
 use Rattle.laws.specs.Frames.{keeps_trans}
 use Rattle.cells.specs.Layout.{fronts_at}
 use Rattle.meshes.proofs.Puts.{forget_filling, place_can, place_done, place_keeps}
@@ -38,6 +38,6 @@ pub place_spec : {M : Type 1} → statement M
 place_spec =
     tie.close
     (tie.spec
-    (λ c κs. search needs) (λ c. search needs) (λ c. search needs) (λ c. search needs) (λ c. search needs) (λ c. search needs) (λ c. search needs)
-    (λ c. search needs) (λ c. search needs) (λ c. search needs) (λ c. search needs) (λ c. search needs) (λ c. search needs) (λ c. search needs)
+    (λ c κs. search rules) (λ c. search rules) (λ c. search rules) (λ c. search rules) (λ c. search rules) (λ c. search rules) (λ c. search rules)
+    (λ c. search rules) (λ c. search rules) (λ c. search rules) (λ c. search rules) (λ c. search rules) (λ c. search rules) (λ c. search rules)
     link_requires same_length returns)

@@ -1,5 +1,5 @@
 -- The kind is stored, then node after node is placed.
-use Rattle.laws.specs.Kit.{refl, ◌∙◌, arith, needs, [], ◌∷◌, set, length-set}
+use Rattle.laws.specs.Kit.{refl, ◌∙◌, arith, rules, [], ◌∷◌, set, length-set}
 use Rattle.definition.specs.Cells.{quad, nodes, quad_nodes, new_quad}
 use Rattle.laws.specs.Frames.{keeps_trans, keeps_more, keeps_set}
 use Rattle.cells.specs.Layout.{fronts_at, mesh_end}
@@ -93,4 +93,4 @@ pub put_quad_spec : {M : Type 1} → statement M
 put_quad_spec =
     tie.close
     (tie.spec
-    (λ c. search needs) (λ c. search needs) place_requires place_requires_2 place_requires_3 place_requires_4 same_length returns)
+    (λ c. search rules) (λ c. search rules) place_requires place_requires_2 place_requires_3 place_requires_4 same_length returns)

@@ -1,7 +1,7 @@
 -- The loop's invariant: the first k corners of the slot were taken out of their rings,
 -- and nothing is noted of their nodes.
 -- The measure is how many are left.
-use Rattle.laws.specs.Kit.{◌≡◌, ◌-◌, ◌≤◌, arith, needs, get_or, set, length-set}
+use Rattle.laws.specs.Kit.{◌≡◌, ◌-◌, ◌≤◌, arith, rules, get_or, set, length-set}
 use Rattle.definition.specs.Cells.{Mesh}
 use Rattle.laws.specs.Frames.{Keeps, keeps_refl, keeps_trans, keeps_more, keeps_set}
 use Rattle.cells.specs.Layout.{rings_at, codes, fronts_at, mesh_end}
@@ -157,6 +157,6 @@ pub take_out_spec : {M : Type 1} → statement M
 take_out_spec =
     tie.close
     (tie.spec
-    invariant_loop decreases_loop (λ c. search needs) (λ c. search needs) (λ c κs. search needs) loop_holds mul_wide_2 add_wide add_wide_2 mul_wide_3 slice_read_wide_2
-    (λ c κs. search needs) forget_requires mul_unlink mul_unlink_2 add_unlink mul_unlink_3 add_unlink_2 unlink_requires add_k loop_less loop_again
-    (λ c. search needs) slice_write_w same_length returns)
+    invariant_loop decreases_loop (λ c. search rules) (λ c. search rules) (λ c κs. search rules) loop_holds mul_wide_2 add_wide add_wide_2 mul_wide_3 slice_read_wide_2
+    (λ c κs. search rules) forget_requires mul_unlink mul_unlink_2 add_unlink mul_unlink_3 add_unlink_2 unlink_requires add_k loop_less loop_again
+    (λ c. search rules) slice_write_w same_length returns)

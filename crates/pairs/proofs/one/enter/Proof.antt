@@ -2,7 +2,7 @@
 use Rattle.definition.specs.Attempt.{replaced}
 use Rattle.pairs.specs.Steps.{grown}
 use Rattle.pairs.proofs.Entries.{ids, enters_sizes, enters_placing, enters_words}
-use Rattle.laws.specs.Kit.{needs}
+use Rattle.laws.specs.Kit.{rules}
 use Rattle.pairs.proofs.one.enter.Statement.{statement}
 use Rattle.pairs.proofs.one.enter.Tie as tie
 
@@ -34,4 +34,4 @@ returns c =
     (enters_placing h k.quad_grown.result k.quad_grown.ensures l.list_at.result l.list_at.ensures)
 
 pub enter_spec : {M : Type 1} → statement M
-enter_spec = tie.close (tie.spec (λ c κs. search needs) list_at_requires note_quad_requires (λ c. search needs) returns)
+enter_spec = tie.close (tie.spec (λ c κs. search rules) list_at_requires note_quad_requires (λ c. search rules) returns)

@@ -1,7 +1,7 @@
 use Rattle.definition.specs.Floats.{◌⊘◌, 2·0, f64}
 use Rattle.definition.specs.Plane.{quad_area}
 use Rattle.plane.proofs.Ground.{twice_area_ground}
-use Rattle.laws.specs.Kit.{needs}
+use Rattle.laws.specs.Kit.{rules}
 use Rattle.plane.proofs.area.quad_area.Statement.{statement}
 use Rattle.plane.proofs.area.quad_area.Tie as tie
 
@@ -15,4 +15,4 @@ pub quad_area_spec : {M : Type 1} → statement M
 quad_area_spec =
     tie.close
     (tie.spec
-    (λ c κs. search needs) (λ c κs. search needs) (λ c κs. search needs) (λ c κs. search needs) (λ c κs. search needs) returns)
+    (λ c κs. search rules) (λ c κs. search rules) (λ c κs. search rules) (λ c κs. search rules) (λ c κs. search rules) returns)

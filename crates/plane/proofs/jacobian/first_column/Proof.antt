@@ -1,4 +1,4 @@
-use Rattle.laws.specs.Kit.{ap₂, needs}
+use Rattle.laws.specs.Kit.{ap₂, rules}
 use Rattle.definition.specs.Plane.{flat}
 use Rattle.definition.specs.Metrics.{corner}
 use Rattle.plane.specs.Points.{node}
@@ -12,4 +12,4 @@ unfolding vec column corner node flat
 returns c = λ z. ap₂ corner (c.before.first_sum.ensures z) (c.first_sum2.ensures z)
 
 pub first_column_spec : {M : Type 1} → statement M
-first_column_spec = tie.close (tie.spec (λ c κs. search needs) (λ c κs. search needs) returns)
+first_column_spec = tie.close (tie.spec (λ c κs. search rules) (λ c κs. search rules) returns)

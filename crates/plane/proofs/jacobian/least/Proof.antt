@@ -1,5 +1,5 @@
 use Rattle.plane.proofs.Laws.{one_over_zero}
-use Rattle.laws.specs.Kit.{needs}
+use Rattle.laws.specs.Kit.{rules}
 use Rattle.plane.proofs.jacobian.least.Statement.{statement}
 use Rattle.plane.proofs.jacobian.least.Tie as tie
 
@@ -9,4 +9,4 @@ returns c =
     rw (c.lesser4.ensures, k.lesser3.ensures, k.before.lesser2.ensures, k.before.before.lesser.ensures, one_over_zero)
 
 pub least_spec : {M : Type 1} → statement M
-least_spec = tie.close (tie.spec (λ c κs. search needs) (λ c κs. search needs) (λ c κs. search needs) (λ c κs. search needs) returns)
+least_spec = tie.close (tie.spec (λ c κs. search rules) (λ c κs. search rules) (λ c κs. search rules) (λ c κs. search rules) returns)

@@ -1,4 +1,4 @@
-use Rattle.laws.specs.Kit.{ap₂, needs}
+use Rattle.laws.specs.Kit.{ap₂, rules}
 use Rattle.definition.specs.Plane.{flat}
 use Rattle.definition.specs.Metrics.{corner}
 use Rattle.plane.specs.Points.{node}
@@ -12,4 +12,4 @@ unfolding vec column corner node flat
 returns c = λ z. ap₂ corner (c.before.second_sum.ensures z) (c.second_sum2.ensures z)
 
 pub second_column_spec : {M : Type 1} → statement M
-second_column_spec = tie.close (tie.spec (λ c κs. search needs) (λ c κs. search needs) returns)
+second_column_spec = tie.close (tie.spec (λ c κs. search rules) (λ c κs. search rules) returns)

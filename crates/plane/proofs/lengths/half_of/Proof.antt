@@ -1,4 +1,4 @@
-use Rattle.laws.specs.Kit.{false≢true, needs}
+use Rattle.laws.specs.Kit.{false≢true, rules}
 use Rattle.definition.specs.Floats.{◌⊕◌, ◌≼◌, f64, 0·0}
 use Rattle.rounding.specs.Halves.{smallest, largest, half_zero, half_size}
 use Rattle.plane.proofs.lengths.half_of.Statement.{statement}
@@ -17,4 +17,4 @@ returns_2 c =
     half_size _ _ s.well_formed.0.1 k.before.before.if1.true (rw (← k.abs.ensures) c.if3.true) (rw (← k.abs.ensures) e)
 
 pub half_of_spec : {M : Type 1} → statement M
-half_of_spec = tie.close (tie.spec returns (λ c κs. search needs) returns_2 (λ c. λ e. absurd (false≢true e)) (λ c. λ e. absurd (false≢true e)))
+half_of_spec = tie.close (tie.spec returns (λ c κs. search rules) returns_2 (λ c. λ e. absurd (false≢true e)) (λ c. λ e. absurd (false≢true e)))

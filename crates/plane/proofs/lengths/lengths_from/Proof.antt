@@ -1,4 +1,4 @@
-use Rattle.laws.specs.Kit.{◌∙◌, needs}
+use Rattle.laws.specs.Kit.{◌∙◌, rules}
 use Rattle.plane.proofs.Mirror.{dist_mirror}
 use Rattle.plane.proofs.lengths.lengths_from.Statement.{statement}
 use Rattle.plane.proofs.lengths.lengths_from.Tie as tie
@@ -13,4 +13,4 @@ returns c =
     }
 
 pub lengths_from_spec : {M : Type 1} → statement M
-lengths_from_spec = tie.close (tie.spec (λ c κs. search needs) (λ c κs. search needs) returns)
+lengths_from_spec = tie.close (tie.spec (λ c κs. search rules) (λ c κs. search rules) returns)

@@ -1,4 +1,4 @@
-use Rattle.laws.specs.Kit.{◌∙◌, needs}
+use Rattle.laws.specs.Kit.{◌∙◌, rules}
 use Rattle.definition.specs.Lists.{any}
 use Rattle.definition.specs.Metrics.{corners}
 use Rattle.plane.proofs.metrics.bent.Statement.{statement}
@@ -20,4 +20,4 @@ pub bent_spec : {M : Type 1} → statement M
 bent_spec =
     tie.close
     (tie.spec
-    (λ c κs. search needs) (λ c κs. search needs) (λ c κs. search needs) (λ c κs. search needs) (λ c κs. search needs) returns)
+    (λ c κs. search rules) (λ c κs. search rules) (λ c κs. search rules) (λ c κs. search rules) (λ c κs. search rules) returns)

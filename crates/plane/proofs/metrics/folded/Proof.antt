@@ -1,4 +1,4 @@
-use Rattle.laws.specs.Kit.{◌≡◌, sym, needs}
+use Rattle.laws.specs.Kit.{◌≡◌, sym, rules}
 use Rattle.definition.specs.Floats.{◌≼◌}
 use Rattle.definition.specs.Numbers.{tiny_cross}
 use Rattle.definition.specs.Plane.{twice_area}
@@ -21,4 +21,4 @@ unfolding folded
 returns_2 c = let k = c.before in rw (area_of k.before, k.if1.false) c.bent.ensures
 
 pub folded_spec : {M : Type 1} → statement M
-folded_spec = tie.close (tie.spec (λ c κs. search needs) (λ c κs. search needs) returns (λ c κs. search needs) returns_2)
+folded_spec = tie.close (tie.spec (λ c κs. search rules) (λ c κs. search rules) returns (λ c κs. search rules) returns_2)

@@ -1,5 +1,5 @@
 use Rattle.definition.specs.Floats.{◌≺◌}
-use Rattle.laws.specs.Kit.{needs}
+use Rattle.laws.specs.Kit.{rules}
 use Rattle.plane.proofs.metrics.good.Statement.{statement}
 use Rattle.plane.proofs.metrics.good.Tie as tie
 
@@ -20,4 +20,4 @@ unfolding ◌≺◌
 returns_4 c = rw (← c.before.finite.ensures, c.if1.false)
 
 pub good_spec : {M : Type 1} → statement M
-good_spec = tie.close (tie.spec (λ c κs. search needs) (λ c κs. search needs) returns returns_2 returns_3 returns_4)
+good_spec = tie.close (tie.spec (λ c κs. search rules) (λ c κs. search rules) returns returns_2 returns_3 returns_4)

@@ -1,4 +1,4 @@
-use Rattle.laws.specs.Kit.{◌∙◌, needs}
+use Rattle.laws.specs.Kit.{◌∙◌, rules}
 use Rattle.plane.proofs.Measured.{largest_by}
 use Rattle.plane.proofs.metrics.largest_cosine.Statement.{statement}
 use Rattle.plane.proofs.metrics.largest_cosine.Tie as tie
@@ -15,4 +15,4 @@ pub largest_cosine_spec : {M : Type 1} → statement M
 largest_cosine_spec =
     tie.close
     (tie.spec
-    (λ c κs. search needs) (λ c κs. search needs) (λ c κs. search needs) (λ c κs. search needs) (λ c κs. search needs) returns)
+    (λ c κs. search rules) (λ c κs. search rules) (λ c κs. search rules) (λ c κs. search rules) (λ c κs. search rules) returns)

@@ -1,5 +1,5 @@
 -- The sides' test, and what passes it.
-use Rattle.laws.specs.Kit.{sym, ◌∙◌, true, false, needs}
+use Rattle.laws.specs.Kit.{sym, ◌∙◌, true, false, rules}
 use Rattle.plane.specs.Measures.{metrics_of_enum}
 use Rattle.plane.proofs.Measured.{flat_by, metrics_by}
 use Rattle.plane.proofs.metrics.measured.Statement.{statement}
@@ -23,4 +23,4 @@ returns_2 c =
     (sym (metrics_by _ _ _ _ false false e (sym (flat_by _ _ _ _ _ s) ∙ sym k.before.flat_side.ensures ∙ k.if1.false)))
 
 pub measured_spec : {M : Type 1} → statement M
-measured_spec = tie.close (tie.spec (λ c κs. search needs) (λ c κs. search needs) returns (λ c κs. search needs) (λ c κs. search needs) returns_2)
+measured_spec = tie.close (tie.spec (λ c κs. search rules) (λ c κs. search rules) returns (λ c κs. search rules) (λ c κs. search rules) returns_2)

@@ -1,5 +1,5 @@
 use Rattle.plane.proofs.Laws.{minus_one_over_zero}
-use Rattle.laws.specs.Kit.{needs}
+use Rattle.laws.specs.Kit.{rules}
 use Rattle.plane.proofs.metrics.most.Statement.{statement}
 use Rattle.plane.proofs.metrics.most.Tie as tie
 
@@ -9,4 +9,4 @@ returns c =
     rw (c.greater4.ensures, k.greater3.ensures, k.before.greater2.ensures, k.before.before.greater.ensures, minus_one_over_zero)
 
 pub most_spec : {M : Type 1} → statement M
-most_spec = tie.close (tie.spec (λ c κs. search needs) (λ c κs. search needs) (λ c κs. search needs) (λ c κs. search needs) returns)
+most_spec = tie.close (tie.spec (λ c κs. search rules) (λ c κs. search rules) (λ c κs. search rules) (λ c κs. search rules) returns)

@@ -1,4 +1,4 @@
-use Rattle.laws.specs.Kit.{sym, ◌∙◌, ap, needs}
+use Rattle.laws.specs.Kit.{sym, ◌∙◌, ap, rules}
 use Rattle.definition.specs.Metrics.{passes}
 use Rattle.plane.specs.declared.metrics.Metrics.{Metrics}
 use Rattle.plane.specs.Measures.{metrics_of_enum}
@@ -7,7 +7,7 @@ use Rattle.plane.proofs.metrics.passes.Statement.{statement}
 use Rattle.plane.proofs.metrics.passes.Tie as tie
 
 enum_told : tie.Need-enum-told
-enum_told c = search needs
+enum_told c = search rules
 
 returns : tie.Need-returns
 unfolding metrics_of_enum passes
@@ -20,4 +20,4 @@ returns_2 c =
     c.good2.ensures ∙ passes_by y _ _ e f ∙ sym (ap (λ (m : Metrics). passes y (metrics_of_enum m)) c.before.before.m.given.1)
 
 pub passes_spec : {M : Type 1} → statement M
-passes_spec = tie.close (tie.spec enum_told (λ c. search needs) (λ c κs. search needs) returns returns_2)
+passes_spec = tie.close (tie.spec enum_told (λ c. search rules) (λ c κs. search rules) returns returns_2)

@@ -1,4 +1,4 @@
-use Rattle.laws.specs.Kit.{◌∙◌, needs}
+use Rattle.laws.specs.Kit.{◌∙◌, rules}
 use Rattle.plane.proofs.Ground.{quad_metrics_ground}
 use Rattle.plane.proofs.metrics.quad_metrics.Statement.{statement}
 use Rattle.plane.proofs.metrics.quad_metrics.Tie as tie
@@ -12,4 +12,4 @@ pub quad_metrics_spec : {M : Type 1} → statement M
 quad_metrics_spec =
     tie.close
     (tie.spec
-    (λ c κs. search needs) (λ c κs. search needs) (λ c κs. search needs) (λ c κs. search needs) (λ c κs. search needs) returns)
+    (λ c κs. search rules) (λ c κs. search rules) (λ c κs. search rules) (λ c κs. search rules) (λ c κs. search rules) returns)

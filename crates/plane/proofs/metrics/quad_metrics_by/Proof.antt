@@ -1,4 +1,4 @@
-use Rattle.laws.specs.Kit.{sym, ◌∙◌, needs}
+use Rattle.laws.specs.Kit.{sym, ◌∙◌, rules}
 use Rattle.plane.proofs.Ground.{dist_ground, quad_metrics_ground}
 use Rattle.plane.proofs.metrics.quad_metrics_by.Statement.{statement}
 use Rattle.plane.proofs.metrics.quad_metrics_by.Tie as tie
@@ -17,4 +17,4 @@ pub quad_metrics_by_spec : {M : Type 1} → statement M
 quad_metrics_by_spec =
     tie.close
     (tie.spec
-    (λ c κs. search needs) (λ c κs. search needs) (λ c κs. search needs) (λ c κs. search needs) (λ c κs. search needs) returns)
+    (λ c κs. search rules) (λ c κs. search rules) (λ c κs. search rules) (λ c κs. search rules) (λ c κs. search rules) returns)

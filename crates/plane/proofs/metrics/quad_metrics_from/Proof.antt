@@ -1,4 +1,4 @@
-use Rattle.laws.specs.Kit.{refl, sym, ◌∙◌, true, needs}
+use Rattle.laws.specs.Kit.{refl, sym, ◌∙◌, true, rules}
 use Rattle.plane.specs.Measures.{metrics_of_enum}
 use Rattle.plane.proofs.Measured.{metrics_by}
 use Rattle.plane.proofs.metrics.quad_metrics_from.Statement.{statement}
@@ -15,4 +15,4 @@ returns_2 c =
     c.measured.ensures (c.before.lengths_from.ensures e f) (sym k.before.folded.ensures ∙ k.if1.false)
 
 pub quad_metrics_from_spec : {M : Type 1} → statement M
-quad_metrics_from_spec = tie.close (tie.spec (λ c κs. search needs) returns (λ c κs. search needs) (λ c κs. search needs) returns_2)
+quad_metrics_from_spec = tie.close (tie.spec (λ c κs. search rules) returns (λ c κs. search rules) (λ c κs. search rules) returns_2)

@@ -1,4 +1,4 @@
-use Rattle.laws.specs.Kit.{sym, ◌∙◌, ap, needs}
+use Rattle.laws.specs.Kit.{sym, ◌∙◌, ap, rules}
 use Rattle.definition.specs.Floats.{◌⊖◌, ◌⊗◌, lesser, 1·0, f64}
 use Rattle.definition.specs.Metrics.{score}
 use Rattle.plane.specs.declared.metrics.Metrics.{Metrics}
@@ -8,7 +8,7 @@ use Rattle.plane.proofs.metrics.score.Statement.{statement}
 use Rattle.plane.proofs.metrics.score.Tie as tie
 
 enum_told : tie.Need-enum-told
-enum_told c = search needs
+enum_told c = search rules
 
 returns : tie.Need-returns
 unfolding metrics_of_enum score
@@ -21,4 +21,4 @@ returns_2 c =
     c.lesser.ensures ∙ ap (lesser k.m.given.0.0) c.before.sqrt.ensures.0 ∙ sym (ap (λ (m : Metrics). score (metrics_of_enum m)) k.m.given.1)
 
 pub score_spec : {M : Type 1} → statement M
-score_spec = tie.close (tie.spec enum_told (λ c. search needs) (λ c κs. search needs) (λ c κs. search needs) returns returns_2)
+score_spec = tie.close (tie.spec enum_told (λ c. search rules) (λ c κs. search rules) (λ c κs. search rules) returns returns_2)

@@ -1,4 +1,4 @@
-use Rattle.laws.specs.Kit.{ap₂, ◌+◌, ◌*◌, arith, needs, nan}
+use Rattle.laws.specs.Kit.{ap₂, ◌+◌, ◌*◌, arith, rules, nan}
 use Rattle.definition.specs.Floats.{0·0}
 use Rattle.definition.specs.Plane.{flat}
 use Rattle.definition.specs.Call.{point_at}
@@ -19,4 +19,4 @@ pub at_spec : {M : Type 1} → statement M
 at_spec =
     tie.close
     (tie.spec
-    (λ c. search needs) (λ c. search needs) (λ c. search needs) (λ c. search needs) (λ c. search needs) (λ c. search needs) (λ c. search needs) returns)
+    (λ c. search rules) (λ c. search rules) (λ c. search rules) (λ c. search rules) (λ c. search rules) (λ c. search rules) (λ c. search rules) returns)

@@ -1,4 +1,4 @@
-use Rattle.laws.specs.Kit.{◌∙◌, needs}
+use Rattle.laws.specs.Kit.{◌∙◌, rules}
 use Rattle.definition.specs.Lists.{any}
 use Rattle.plane.proofs.sides.any_negative.Statement.{statement}
 use Rattle.plane.proofs.sides.any_negative.Tie as tie
@@ -18,4 +18,4 @@ pub any_negative_spec : {M : Type 1} → statement M
 any_negative_spec =
     tie.close
     (tie.spec
-    (λ c κs. search needs) (λ c κs. search needs) (λ c κs. search needs) (λ c κs. search needs) (λ c κs. search needs) returns)
+    (λ c κs. search rules) (λ c κs. search rules) (λ c κs. search rules) (λ c κs. search rules) (λ c κs. search rules) returns)

@@ -1,5 +1,5 @@
 use Rattle.definition.specs.Floats.{◌⊗◌, ◌≼◌, 0·0, f64}
-use Rattle.laws.specs.Kit.{needs}
+use Rattle.laws.specs.Kit.{rules}
 use Rattle.plane.proofs.sides.apart.Statement.{statement}
 use Rattle.plane.proofs.sides.apart.Tie as tie
 
@@ -8,4 +8,4 @@ unfolding ◌⊗◌ ◌≼◌ 0·0 f64
 returns c = rw (c.before.side.ensures, c.side2.ensures)
 
 pub apart_spec : {M : Type 1} → statement M
-apart_spec = tie.close (tie.spec (λ c κs. search needs) (λ c κs. search needs) returns)
+apart_spec = tie.close (tie.spec (λ c κs. search rules) (λ c κs. search rules) returns)

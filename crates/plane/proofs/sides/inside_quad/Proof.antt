@@ -1,5 +1,5 @@
 use Rattle.plane.proofs.Inside.{inside_by}
-use Rattle.laws.specs.Kit.{needs}
+use Rattle.laws.specs.Kit.{rules}
 use Rattle.plane.proofs.sides.inside_quad.Statement.{statement}
 use Rattle.plane.proofs.sides.inside_quad.Tie as tie
 
@@ -25,5 +25,5 @@ pub inside_quad_spec : {M : Type 1} → statement M
 inside_quad_spec =
     tie.close
     (tie.spec
-    (λ c κs. search needs) (λ c κs. search needs) (λ c κs. search needs) (λ c κs. search needs) (λ c κs. search needs) (λ c κs. search needs) returns
+    (λ c κs. search rules) (λ c κs. search rules) (λ c κs. search rules) (λ c κs. search rules) (λ c κs. search rules) (λ c κs. search rules) returns
     returns_2)

@@ -1,4 +1,4 @@
-use Rattle.laws.specs.Kit.{◌∙◌, needs}
+use Rattle.laws.specs.Kit.{◌∙◌, rules}
 use Rattle.definition.specs.Plane.{flat}
 use Rattle.plane.proofs.Ground.{spot_ground, cross_ground}
 use Rattle.plane.proofs.Inside.{strictly_by}
@@ -37,5 +37,5 @@ pub point_strictly_inside_spec : {M : Type 1} → statement M
 point_strictly_inside_spec =
     tie.close
     (tie.spec
-    (λ c κs. search needs) (λ c κs. search needs) (λ c κs. search needs) (λ c κs. search needs) (λ c κs. search needs) (λ c κs. search needs)
-    (λ c κs. search needs) returns (λ c κs. search needs) returns_2)
+    (λ c κs. search rules) (λ c κs. search rules) (λ c κs. search rules) (λ c κs. search rules) (λ c κs. search rules) (λ c κs. search rules)
+    (λ c κs. search rules) returns (λ c κs. search rules) returns_2)

@@ -1,4 +1,4 @@
-use Rattle.laws.specs.Kit.{◌∙◌, needs}
+use Rattle.laws.specs.Kit.{◌∙◌, rules}
 use Rattle.definition.specs.Plane.{segments_cross}
 use Rattle.plane.proofs.Ground.{parts_ground}
 use Rattle.plane.proofs.sides.segments_cross.Statement.{statement}
@@ -31,5 +31,5 @@ pub segments_cross_spec : {M : Type 1} → statement M
 segments_cross_spec =
     tie.close
     (tie.spec
-    (λ c κs. search needs) (λ c κs. search needs) (λ c κs. search needs) (λ c κs. search needs) (λ c κs. search needs) (λ c κs. search needs) returns
+    (λ c κs. search rules) (λ c κs. search rules) (λ c κs. search rules) (λ c κs. search rules) (λ c κs. search rules) (λ c κs. search rules) returns
     returns_2)

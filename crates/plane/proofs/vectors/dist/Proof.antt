@@ -1,4 +1,4 @@
-use Rattle.laws.specs.Kit.{◌∙◌, needs}
+use Rattle.laws.specs.Kit.{◌∙◌, rules}
 use Rattle.definition.specs.Plane.{flat}
 use Rattle.plane.proofs.Ground.{spot_ground, dist_ground}
 use Rattle.plane.proofs.vectors.dist.Statement.{statement}
@@ -13,4 +13,4 @@ returns c =
     (c.dist_of.ensures.0 ∙ dist_ground _ p h g, c.dist_of.ensures.1 ∙ dist_ground p _ g h)
 
 pub dist_spec : {M : Type 1} → statement M
-dist_spec = tie.close (tie.spec (λ c κs. search needs) (λ c κs. search needs) returns)
+dist_spec = tie.close (tie.spec (λ c κs. search rules) (λ c κs. search rules) returns)

@@ -1,4 +1,4 @@
-use Rattle.laws.specs.Kit.{◌∙◌, ap, needs}
+use Rattle.laws.specs.Kit.{◌∙◌, ap, rules}
 use Rattle.definition.specs.Plane.{norm, dist}
 use Rattle.plane.proofs.Mirror.{dist_mirror}
 use Rattle.plane.proofs.vectors.dist_of.Statement.{statement}
@@ -11,4 +11,4 @@ returns c =
     (h, h ∙ dist_mirror _ _)
 
 pub dist_of_spec : {M : Type 1} → statement M
-dist_of_spec = tie.close (tie.spec (λ c κs. search needs) (λ c κs. search needs) returns)
+dist_of_spec = tie.close (tie.spec (λ c κs. search rules) (λ c κs. search rules) returns)

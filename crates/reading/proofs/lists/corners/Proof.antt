@@ -1,5 +1,5 @@
 -- `lists::corners`: three values one after the other, each with its byte.
-use Rattle.laws.specs.Kit.{◌≡◌, needs, drop, now}
+use Rattle.laws.specs.Kit.{◌≡◌, rules, drop, now}
 use Rattle.reading.proofs.Chains.{found}
 use Rattle.reading.proofs.Threes.{three_off, three_one, three_two, three_all, node_is}
 use Rattle.reading.specs.Found.{taken, number_as, up_to, and_then}
@@ -23,7 +23,7 @@ third : (c : tie.After-known-told3)
 third c = found (number_as (now c.before.before.before.before.before.before.before.before.before.before.before.before.before.args.s)) c.before.before.before.decimal_then3.ensures c.before.c.given.1
 
 enum_told : tie.Need-enum-told
-enum_told c = search needs
+enum_told c = search rules
 
 returns : tie.Need-returns
 returns c = rw node_is (three_off (now c.before.before.before.before.args.s) (up_to 4294967295) _ (found (number_as (now c.before.before.before.before.args.s)) c.before.before.decimal_then.ensures c.enum_told.given.1))
@@ -43,5 +43,5 @@ pub corners_spec : {M : Type 1} → statement M
 corners_spec =
     tie.close
     (tie.spec
-    (λ c κs. search needs) (λ c. search needs) enum_told returns (λ c κs. search needs) (λ c. search needs) (λ c. search needs) returns_2
-    (λ c κs. search needs) (λ c. search needs) (λ c. search needs) returns_3 returns_4)
+    (λ c κs. search rules) (λ c. search rules) enum_told returns (λ c κs. search rules) (λ c. search rules) (λ c. search rules) returns_2
+    (λ c κs. search rules) (λ c. search rules) (λ c. search rules) returns_3 returns_4)

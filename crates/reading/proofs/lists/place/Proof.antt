@@ -1,5 +1,5 @@
 -- `lists::place`: three values one after the other, each with its byte.
-use Rattle.laws.specs.Kit.{◌≡◌, needs, drop, now}
+use Rattle.laws.specs.Kit.{◌≡◌, rules, drop, now}
 use Rattle.reading.proofs.Chains.{found}
 use Rattle.reading.proofs.Threes.{three_off, three_one, three_two, three_all}
 use Rattle.definition.specs.Text.{hex}
@@ -24,7 +24,7 @@ third : (c : tie.After-known-told3)
 third c = found (bits_as (now c.before.before.before.before.before.before.before.before.before.before.before.before.before.args.s)) c.before.before.before.bits_then3.ensures c.before.z.given.1
 
 enum_told : tie.Need-enum-told
-enum_told c = search needs
+enum_told c = search rules
 
 returns : tie.Need-returns
 returns c = (three_off (now c.before.before.before.before.args.s) hex _ (found (bits_as (now c.before.before.before.before.args.s)) c.before.before.bits_then.ensures c.enum_told.given.1))
@@ -44,5 +44,5 @@ pub place_spec : {M : Type 1} → statement M
 place_spec =
     tie.close
     (tie.spec
-    (λ c κs. search needs) (λ c. search needs) enum_told returns (λ c κs. search needs) (λ c. search needs) (λ c. search needs) returns_2
-    (λ c κs. search needs) (λ c. search needs) (λ c. search needs) returns_3 returns_4)
+    (λ c κs. search rules) (λ c. search rules) enum_told returns (λ c κs. search rules) (λ c. search rules) (λ c. search rules) returns_2
+    (λ c κs. search rules) (λ c. search rules) (λ c. search rules) returns_3 returns_4)

@@ -1,5 +1,5 @@
 -- `lists::point_list`: the line of names, then the rows.
-use Rattle.laws.specs.Kit.{refl, ◌∙◌, needs, drop, now}
+use Rattle.laws.specs.Kit.{refl, ◌∙◌, rules, drop, now}
 use Rattle.reading.proofs.Chains.{found}
 use Rattle.reading.proofs.Wholes.{names_off, names_on}
 use Rattle.definition.specs.Text.{bytes, lit, times, three, hex}
@@ -8,7 +8,7 @@ use Rattle.reading.proofs.lists.point_list.Statement.{statement}
 use Rattle.reading.proofs.lists.point_list.Tie as tie
 
 enum_told : tie.Need-enum-told
-enum_told c = search needs
+enum_told c = search rules
 
 returns : tie.Need-returns
 unfolding point_list lit bytes
@@ -33,4 +33,4 @@ pub point_list_spec : {M : Type 1} → statement M
 point_list_spec =
     tie.close
     (tie.spec
-    (λ c. search needs) (λ c κs. search needs) (λ c. search needs) enum_told returns (λ c κs. search needs) (λ c. search needs) returns_2)
+    (λ c. search rules) (λ c κs. search rules) (λ c. search rules) enum_told returns (λ c κs. search rules) (λ c. search rules) returns_2)

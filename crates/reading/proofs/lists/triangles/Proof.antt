@@ -1,6 +1,6 @@
 -- `lists::triangles`.
 -- Invariant: i rows stand at the front of the slice, and what is left of the list is to be read at p.
-use Rattle.laws.specs.Kit.{◌≡◌, refl, sym, ◌∙◌, ℕ, ◌-◌, ◌*◌, ◌≤◌, arith, needs, List, length, drop, length-set, now}
+use Rattle.laws.specs.Kit.{◌≡◌, refl, sym, ◌∙◌, ℕ, ◌-◌, ◌*◌, ◌≤◌, arith, rules, List, length, drop, length-set, now}
 use Rattle.reading.proofs.Chains.{found}
 use Rattle.reading.proofs.Rows.{prepend, rows_start, rows_off, rows_more, rows_done, rows_store, past_store}
 use Rattle.definition.specs.Lists.{rows}
@@ -26,7 +26,7 @@ loop_holds : tie.Need-loop-init invariant_loop decreases_loop
 loop_holds c = record { within = omega arith; long = refl; reads = rows_start (now c.before.before.args.tris) (three node) c.before.before.args.n _; past = refl }
 
 enum_told : tie.Need-enum-told invariant_loop decreases_loop
-enum_told c = search needs
+enum_told c = search rules
 
 same_length : tie.Need-same-length invariant_loop decreases_loop
 same_length c = c.before.before.before.before.loop.invariant.long
@@ -68,6 +68,6 @@ pub triangles_spec : {M : Type 1} → statement M
 triangles_spec =
     tie.close
     (tie.spec
-    invariant_loop decreases_loop loop_holds (λ c κs. search needs) (λ c. search needs) enum_told same_length returns (λ c. search needs) (λ c. omega arith)
-    (λ c. omega arith) (λ c. search needs) (λ c. omega arith) (λ c. simp length-set (omega arith)) (λ c. search needs) (λ c. omega arith)
-    (λ c. simp length-set (omega arith)) (λ c. search needs) (λ c. search needs) loop_again (λ c. search needs) returns_2)
+    invariant_loop decreases_loop loop_holds (λ c κs. search rules) (λ c. search rules) enum_told same_length returns (λ c. search rules) (λ c. omega arith)
+    (λ c. omega arith) (λ c. search rules) (λ c. omega arith) (λ c. simp length-set (omega arith)) (λ c. search rules) (λ c. omega arith)
+    (λ c. simp length-set (omega arith)) (λ c. search rules) (λ c. search rules) loop_again (λ c. search rules) returns_2)

@@ -1,6 +1,6 @@
 -- `values::bits` reads sixteen digits.
 -- Invariant: i are read, v is their number, of 4 i bits, and the definition's reading goes on from it.
-use Rattle.laws.specs.Kit.{◌≡◌, sym, ◌∙◌, ◌-◌, ◌*◌, ◌^◌, ◌<◌, ◌≤◌, arith, needs, drop, now}
+use Rattle.laws.specs.Kit.{◌≡◌, sym, ◌∙◌, ◌-◌, ◌*◌, ◌^◌, ◌<◌, ◌≤◌, arith, rules, drop, now}
 use Rattle.reading.proofs.Hexes.{hexes, hex_start, hexes_short, hexes_other, hexes_more, hexes_done, bits_more, bits_fit}
 use Rattle.definition.specs.Text.{hex}
 use Rattle.reading.proofs.values.bits.Statement.{statement}
@@ -52,5 +52,5 @@ pub bits_spec : {M : Type 1} → statement M
 bits_spec =
     tie.close
     (tie.spec
-    invariant_loop decreases_loop loop_holds returns (λ c. search needs) (λ c κs. search needs) returns_2 mul_v add_v (λ c. search needs) (λ c. search needs)
-    (λ c. search needs) loop_again returns_3)
+    invariant_loop decreases_loop loop_holds returns (λ c. search rules) (λ c κs. search rules) returns_2 mul_v add_v (λ c. search rules) (λ c. search rules)
+    (λ c. search rules) loop_again returns_3)

@@ -1,5 +1,5 @@
 -- `values::byte` reads one byte: the laws of fixed bytes at a text of one.
-use Rattle.laws.specs.Kit.{sym, ◌∙◌, ◌+◌, arith, needs, [], ◌∷◌, now}
+use Rattle.laws.specs.Kit.{sym, ◌∙◌, ◌+◌, arith, rules, [], ◌∷◌, now}
 use Rattle.reading.proofs.Bytes.{same_byte, other_byte, no_byte, all_bytes}
 use Rattle.reading.proofs.values.byte.Statement.{statement}
 use Rattle.reading.proofs.values.byte.Tie as tie
@@ -19,4 +19,4 @@ returns_3 c =
     other_byte (a.b ∷ []) (now a.s) 0 a.at (omega arith) c.before.before.if1.false c.if2.false
 
 pub byte_spec : {M : Type 1} → statement M
-byte_spec = tie.close (tie.spec returns (λ c. search needs) (λ c. search needs) returns_2 returns_3)
+byte_spec = tie.close (tie.spec returns (λ c. search rules) (λ c. search rules) returns_2 returns_3)

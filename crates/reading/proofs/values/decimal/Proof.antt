@@ -1,5 +1,5 @@
 -- `values::decimal`: the number of digits that are well formed.
-use Rattle.laws.specs.Kit.{sym, ◌∙◌, needs}
+use Rattle.laws.specs.Kit.{sym, ◌∙◌, rules}
 use Rattle.definition.specs.Text.{dec}
 use Rattle.reading.specs.Found.{limited, up_to}
 use Rattle.reading.proofs.values.decimal.Statement.{statement}
@@ -14,4 +14,4 @@ unfolding up_to dec limited
 returns_2 c = rw (sym c.before.well_formed_2.ensures ∙ c.if1.false)
 
 pub decimal_spec : {M : Type 1} → statement M
-decimal_spec = tie.close (tie.spec (λ c κs. search needs) (λ c κs. search needs) returns returns_2)
+decimal_spec = tie.close (tie.spec (λ c κs. search rules) (λ c κs. search rules) returns returns_2)

@@ -1,5 +1,5 @@
 -- `values::digit` reads one digit: a law for each way out.
-use Rattle.laws.specs.Kit.{◌≡◌, sym, ◌∙◌, true, arith, needs, get_or, now}
+use Rattle.laws.specs.Kit.{◌≡◌, sym, ◌∙◌, true, arith, rules, get_or, now}
 use Rattle.definition.specs.Text.{is_digit}
 use Rattle.reading.proofs.Digits.{digit_within, one_end, one_here, one_other}
 use Rattle.reading.proofs.values.digit.Statement.{statement}
@@ -22,5 +22,5 @@ pub digit_spec : {M : Type 1} → statement M
 digit_spec =
     tie.close
     (tie.spec
-    returns (λ c. search needs) (λ c κs. search needs) (λ c. (digit_within _ (digit_there c)).0) (λ c. omega (arith, digit_within _ (digit_there c)))
-    (λ c. search needs) returns_2 returns_3)
+    returns (λ c. search rules) (λ c κs. search rules) (λ c. (digit_within _ (digit_there c)).0) (λ c. omega (arith, digit_within _ (digit_there c)))
+    (λ c. search rules) returns_2 returns_3)

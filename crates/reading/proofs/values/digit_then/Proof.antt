@@ -1,5 +1,5 @@
 -- `values::digit_then`: a value, then a byte, by the laws of readings one after the other.
-use Rattle.laws.specs.Kit.{◌≡◌, needs, drop, now}
+use Rattle.laws.specs.Kit.{◌≡◌, rules, drop, now}
 use Rattle.reading.proofs.Chains.{found, then_off, then_other, then_both}
 use Rattle.definition.specs.Text.{one_digit}
 use Rattle.reading.specs.Found.{taken, step_as, number_as}
@@ -12,7 +12,7 @@ value : (c : tie.After-known-told)
 value c = found (number_as (now c.before.before.before.before.before.args.s)) c.before.before.before.digit.ensures c.before.v.given.1
 
 enum_told : tie.Need-enum-told
-enum_told c = search needs
+enum_told c = search rules
 
 returns : tie.Need-returns
 returns c =
@@ -37,4 +37,4 @@ pub digit_then_spec : {M : Type 1} → statement M
 digit_then_spec =
     tie.close
     (tie.spec
-    (λ c κs. search needs) (λ c. search needs) enum_told returns (λ c κs. search needs) (λ c. search needs) (λ c. search needs) returns_2 returns_3)
+    (λ c κs. search rules) (λ c. search rules) enum_told returns (λ c κs. search rules) (λ c. search rules) (λ c. search rules) returns_2 returns_3)

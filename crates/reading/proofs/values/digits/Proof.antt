@@ -1,6 +1,6 @@
 -- `values::digits`.
 -- Invariant: v is the number of the digits up to p, at most `most`, and the definition's number goes on from it.
-use Rattle.laws.specs.Kit.{◌≡◌, sym, ◌∙◌, ap, true, ◌+◌, ◌-◌, ◌≤◌, arith, needs, not-true, not-false, length, get_or, drop, now}
+use Rattle.laws.specs.Kit.{◌≡◌, sym, ◌∙◌, ap, true, ◌+◌, ◌-◌, ◌≤◌, arith, rules, not-true, not-false, length, get_or, drop, now}
 use Rattle.definition.specs.Text.{is_digit, decimal, run}
 use Rattle.reading.specs.Found.{limited}
 use Rattle.reading.proofs.Digits.{digit_within, decimal_on, decimal_start, turn_more, turn_other, turn_end, decimal_over}
@@ -59,6 +59,6 @@ pub digits_spec : {M : Type 1} → statement M
 digits_spec =
     tie.close
     (tie.spec
-    invariant_loop decreases_loop (λ c. (omega arith, decimal_start _)) (λ c. search needs) (λ c κs. search needs) cast_t12 returns mul_v
-    (λ c. (digit_within _ (digit_there c)).0) (λ c. omega (arith, digit_within _ (digit_there c))) add_v returns_2 (λ c. search needs) (λ c. search needs)
+    invariant_loop decreases_loop (λ c. (omega arith, decimal_start _)) (λ c. search rules) (λ c κs. search rules) cast_t12 returns mul_v
+    (λ c. (digit_within _ (digit_there c)).0) (λ c. omega (arith, digit_within _ (digit_there c))) add_v returns_2 (λ c. search rules) (λ c. search rules)
     loop_again cast_t15 returns_3)

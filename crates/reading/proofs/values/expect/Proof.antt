@@ -1,5 +1,5 @@
 -- `values::expect` compares byte by byte. Invariant: reading the whole text at `at` is reading the rest of it at p.
-use Rattle.laws.specs.Kit.{◌≡◌, refl, sym, ◌∙◌, ◌-◌, ◌≤◌, arith, needs, length, drop, now}
+use Rattle.laws.specs.Kit.{◌≡◌, refl, sym, ◌∙◌, ◌-◌, ◌≤◌, arith, rules, length, drop, now}
 use Rattle.reading.proofs.Bytes.{same_byte, other_byte, no_byte, all_bytes}
 use Rattle.definition.specs.Text.{exactly}
 use Rattle.reading.proofs.values.expect.Statement.{statement}
@@ -39,5 +39,5 @@ pub expect_spec : {M : Type 1} → statement M
 expect_spec =
     tie.close
     (tie.spec
-    invariant_loop decreases_loop (λ c. (omega arith, refl)) returns (λ c. search needs) (λ c. search needs) returns_2 (λ c. search needs) (λ c. search needs)
-    (λ c. search needs) loop_again returns_3)
+    invariant_loop decreases_loop (λ c. (omega arith, refl)) returns (λ c. search rules) (λ c. search rules) returns_2 (λ c. search rules) (λ c. search rules)
+    (λ c. search rules) loop_again returns_3)

@@ -1,5 +1,5 @@
 -- `values::hex_value` is a digit's value, 16 where the byte is none: a law for each way out.
-use Rattle.laws.specs.Kit.{sym, ◌∙◌, needs}
+use Rattle.laws.specs.Kit.{sym, ◌∙◌, rules}
 use Rattle.reading.proofs.Digits.{digit_within}
 use Rattle.reading.proofs.Hexes.{of_digit, of_low, of_high, of_letter}
 use Rattle.reading.proofs.values.hex_value.Statement.{statement}
@@ -24,4 +24,4 @@ pub hex_value_spec : {M : Type 1} → statement M
 hex_value_spec =
     tie.close
     (tie.spec
-    (λ c κs. search needs) sub_result (λ c. search needs) returns returns_2 returns_3 (λ c. search needs) (λ c. search needs) returns_4)
+    (λ c κs. search rules) sub_result (λ c. search rules) returns returns_2 returns_3 (λ c. search rules) (λ c. search rules) returns_4)

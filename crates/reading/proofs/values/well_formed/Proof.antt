@@ -1,5 +1,5 @@
 -- `values::well_formed`: a law for each way out.
-use Rattle.laws.specs.Kit.{◌≡◌, sym, ◌∙◌, ap, true, not, arith, needs, not-true, not-false, get_or, now}
+use Rattle.laws.specs.Kit.{◌≡◌, sym, ◌∙◌, ap, true, not, arith, rules, not-true, not-false, get_or, now}
 use Rattle.reading.proofs.Digits.{formed_end, formed_other, formed_nonzero, formed_zero, formed_more}
 use Rattle.definition.specs.Text.{is_digit}
 use Rattle.reading.proofs.values.well_formed.Statement.{statement}
@@ -37,5 +37,5 @@ pub well_formed_spec : {M : Type 1} → statement M
 well_formed_spec =
     tie.close
     (tie.spec
-    returns (λ c. search needs) (λ c κs. search needs) returns_2 (λ c. search needs) returns_3 (λ c. search needs) returns_4 (λ c. search needs)
-    (λ c κs. search needs) returns_5)
+    returns (λ c. search rules) (λ c κs. search rules) returns_2 (λ c. search rules) returns_3 (λ c. search rules) returns_4 (λ c. search rules)
+    (λ c κs. search rules) returns_5)

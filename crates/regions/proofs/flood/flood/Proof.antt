@@ -1,4 +1,4 @@
-use Rattle.laws.specs.Kit.{◌≡◌, refl, ◌∙◌, ◌-◌, ◌^◌, ◌≤◌, arith, needs, [], ◌∷◌, ◌++◌, length}
+use Rattle.laws.specs.Kit.{◌≡◌, refl, ◌∙◌, ◌-◌, ◌^◌, ◌≤◌, arith, rules, [], ◌∷◌, ◌++◌, length}
 use Rattle.definition.specs.Cells.{Mesh, new_quad, quad_edges}
 use Rattle.definition.specs.Region.{flood}
 use Rattle.laws.specs.Frames.{under_sym}
@@ -151,5 +151,5 @@ pub flood_spec : {M : Type 1} → statement M
 flood_spec =
     tie.close
     (tie.spec
-    invariant_loop decreases_loop start_requires loop_holds listed_requires visit_tri_requires same_length returns (λ c. search needs) (λ c. search needs) loop_again
+    invariant_loop decreases_loop start_requires loop_holds listed_requires visit_tri_requires same_length returns (λ c. search rules) (λ c. search rules) loop_again
     same_length_2 returns_2)

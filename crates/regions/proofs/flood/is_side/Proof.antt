@@ -1,5 +1,5 @@
 use Rattle.regions.proofs.Sides.{side_0, side_1, side_2, side_3}
-use Rattle.laws.specs.Kit.{needs}
+use Rattle.laws.specs.Kit.{rules}
 use Rattle.regions.proofs.flood.is_side.Statement.{statement}
 use Rattle.regions.proofs.flood.is_side.Tie as tie
 
@@ -23,4 +23,4 @@ pub is_side_spec : {M : Type 1} → statement M
 is_side_spec =
     tie.close
     (tie.spec
-    (λ c κs. search needs) returns (λ c κs. search needs) returns_2 (λ c κs. search needs) returns_3 (λ c κs. search needs) returns_4)
+    (λ c κs. search rules) returns (λ c κs. search rules) returns_2 (λ c κs. search rules) returns_3 (λ c κs. search rules) returns_4)

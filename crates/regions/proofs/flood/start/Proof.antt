@@ -1,4 +1,4 @@
-use Rattle.laws.specs.Kit.{sym, subst, ℕ, arith, needs, List}
+use Rattle.laws.specs.Kit.{sym, subst, ℕ, arith, rules, List}
 use Rattle.regions.specs.Flood.{Seeded}
 use Rattle.regions.proofs.Seeds.{seeded}
 use Rattle.regions.proofs.flood.start.Statement.{statement}
@@ -23,4 +23,4 @@ returns c =
     (seeded a.w.now k.clear_marks.new.0 a.s a.p a.used a.i t.requires.1 t.requires.0 k.clear_marks.ensures)
 
 pub start_spec : {M : Type 1} → statement M
-start_spec = tie.close (tie.spec (λ c κs. search needs) append_requires (λ c. search needs) returns)
+start_spec = tie.close (tie.spec (λ c κs. search rules) append_requires (λ c. search rules) returns)

@@ -1,4 +1,4 @@
-use Rattle.laws.specs.Kit.{◌≡◌, refl, ◌∙◌, ◌^◌, ◌≤◌, arith, needs, List, [], ◌++◌, length}
+use Rattle.laws.specs.Kit.{◌≡◌, refl, ◌∙◌, ◌^◌, ◌≤◌, arith, rules, List, [], ◌++◌, length}
 use Rattle.definition.specs.Cells.{Mesh, Live}
 use Rattle.cells.specs.Walk.{left}
 use Rattle.regions.specs.Listing.{State}
@@ -108,5 +108,5 @@ pub visit_edge_spec : {M : Type 1} → statement M
 visit_edge_spec =
     tie.close
     (tie.spec
-    invariant_loop decreases_loop first_owner_requires loop_holds (λ c. search needs) visit_one_requires same_length returns next_owner_requires loop_less loop_again
+    invariant_loop decreases_loop first_owner_requires loop_holds (λ c. search rules) visit_one_requires same_length returns next_owner_requires loop_less loop_again
     (λ c. c.before.loop.invariant.0) returns_2)

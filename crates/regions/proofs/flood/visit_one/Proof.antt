@@ -1,4 +1,4 @@
-use Rattle.laws.specs.Kit.{sym, ◌∙◌, subst, ℕ, ◌+◌, arith, needs, List}
+use Rattle.laws.specs.Kit.{sym, ◌∙◌, subst, ℕ, ◌+◌, arith, rules, List}
 use Rattle.definition.specs.Region.{reach}
 use Rattle.regions.specs.Listing.{Reached}
 use Rattle.regions.proofs.Reaches.{seen_can, seen_room, seen_see, more, seen_known, seen_other, seen_new}
@@ -61,4 +61,4 @@ pub visit_one_spec : {M : Type 1} → statement M
 visit_one_spec =
     tie.close
     (tie.spec
-    mark_requires (λ c. search needs) returns kind_requires (λ c. search needs) returns_2 append_requires add_result (λ c. search needs) returns_3)
+    mark_requires (λ c. search rules) returns kind_requires (λ c. search rules) returns_2 append_requires add_result (λ c. search rules) returns_3)

@@ -1,6 +1,6 @@
 use Rattle.definition.specs.Cells.{key, new_quad, quad_edges}
 use Rattle.regions.proofs.Visits.{side_skipped, side_crossed}
-use Rattle.laws.specs.Kit.{needs}
+use Rattle.laws.specs.Kit.{rules}
 use Rattle.regions.proofs.flood.visit_side.Statement.{statement}
 use Rattle.regions.proofs.flood.visit_side.Tie as tie
 
@@ -22,4 +22,4 @@ returns_2 c =
     k.visit_edge.new.0 k.visit_edge.result (k.visit_edge.ensures m done todo h)
 
 pub visit_side_spec : {M : Type 1} → statement M
-visit_side_spec = tie.close (tie.spec (λ c κs. search needs) returns (λ c κs. search needs) (λ c. search needs) returns_2)
+visit_side_spec = tie.close (tie.spec (λ c κs. search rules) returns (λ c κs. search rules) (λ c. search rules) returns_2)

@@ -1,5 +1,5 @@
 -- The three edges of the triangle one after the other, each by its nodes as they were read.
-use Rattle.laws.specs.Kit.{◌≡◌, ◌∙◌, ℕ, arith, needs, List, [], ◌++◌}
+use Rattle.laws.specs.Kit.{◌≡◌, ◌∙◌, ℕ, arith, rules, List, [], ◌++◌}
 use Rattle.definition.specs.Plane.{Edge}
 use Rattle.definition.specs.Cells.{Live, Mesh, key, new_quad, quad_edges}
 use Rattle.definition.specs.Region.{reach_all, across}
@@ -149,5 +149,5 @@ pub visit_tri_spec : {M : Type 1} → statement M
 visit_tri_spec =
     tie.close
     (tie.spec
-    node_requires node_requires_2 node_requires_3 visit_side_requires (λ c. search needs) returns visit_side_requires_2 (λ c. search needs) returns_2
-    visit_side_requires_3 (λ c. search needs) returns_3)
+    node_requires node_requires_2 node_requires_3 visit_side_requires (λ c. search rules) returns visit_side_requires_2 (λ c. search rules) returns_2
+    visit_side_requires_3 (λ c. search rules) returns_3)

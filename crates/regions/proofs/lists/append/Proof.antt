@@ -1,4 +1,4 @@
-use Rattle.laws.specs.Kit.{arith, needs, length-set}
+use Rattle.laws.specs.Kit.{arith, rules, length-set}
 use Rattle.cells.specs.Layout.{marks_at, list_at}
 use Rattle.regions.proofs.lists.append.Statement.{statement}
 use Rattle.regions.proofs.lists.append.Tie as tie
@@ -10,5 +10,5 @@ pub append_spec : {M : Type 1} → statement M
 append_spec =
     tie.close
     (tie.spec
-    (λ c κs. search needs) (λ c. search needs) (λ c. search needs) (λ c. search needs) (λ c. search needs) (λ c κs. search needs) (λ c. search needs)
-    (λ c. search needs) (λ c. simp length-set (omega arith)) (λ c. search needs) returns)
+    (λ c κs. search rules) (λ c. search rules) (λ c. search rules) (λ c. search rules) (λ c. search rules) (λ c κs. search rules) (λ c. search rules)
+    (λ c. search rules) (λ c. simp length-set (omega arith)) (λ c. search rules) returns)

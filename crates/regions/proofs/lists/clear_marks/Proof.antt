@@ -1,5 +1,5 @@
 use Rattle.regions.proofs.Seeds.{marks_cleared}
-use Rattle.laws.specs.Kit.{needs}
+use Rattle.laws.specs.Kit.{rules}
 use Rattle.regions.proofs.lists.clear_marks.Statement.{statement}
 use Rattle.regions.proofs.lists.clear_marks.Tie as tie
 
@@ -12,4 +12,4 @@ returns c =
     marks_cleared a.w.now k.clear_range.new.0 a.s a.p a.n m.marks_at.result m.marks_at.ensures t.requires k.clear_range.ensures.0 k.clear_range.ensures.1
 
 pub clear_marks_spec : {M : Type 1} → statement M
-clear_marks_spec = tie.close (tie.spec (λ c κs. search needs) (λ c κs. search needs) (λ c. search needs) returns)
+clear_marks_spec = tie.close (tie.spec (λ c κs. search rules) (λ c κs. search rules) (λ c. search rules) returns)

@@ -1,4 +1,4 @@
-use Rattle.laws.specs.Kit.{◌∙◌, ap, ℕ, ◌+◌, needs, get_or}
+use Rattle.laws.specs.Kit.{◌∙◌, ap, ℕ, ◌+◌, rules, get_or}
 use Rattle.cells.specs.Layout.{list_at}
 use Rattle.regions.proofs.lists.listed.Statement.{statement}
 use Rattle.regions.proofs.lists.listed.Tie as tie
@@ -9,4 +9,4 @@ returns c =
     c.wide.ensures ∙ ap (λ (k : ℕ). get_or t.args.w.now (k + t.args.i) 0) c.before.before.list_at.ensures
 
 pub listed_spec : {M : Type 1} → statement M
-listed_spec = tie.close (tie.spec (λ c κs. search needs) (λ c. search needs) (λ c. search needs) (λ c. search needs) (λ c κs. search needs) returns)
+listed_spec = tie.close (tie.spec (λ c κs. search rules) (λ c. search rules) (λ c. search rules) (λ c. search rules) (λ c κs. search rules) returns)

@@ -1,6 +1,6 @@
 use Rattle.definition.specs.Cells.{remove_cells}
 use Rattle.regions.proofs.Places.{replacing, can_push}
-use Rattle.laws.specs.Kit.{needs}
+use Rattle.laws.specs.Kit.{rules}
 use Rattle.regions.proofs.place.place_quad.Statement.{statement}
 use Rattle.regions.proofs.place.place_quad.Tie as tie
 
@@ -20,4 +20,4 @@ returns c =
     replacing a.w.now rl.remove_listed.new.0 pq.push_quad.new.0 a.s a.p a.used a.n a.a a.b a.c a.d rl.remove_listed.ensures pq.push_quad.ensures
 
 pub place_quad_spec : {M : Type 1} → statement M
-place_quad_spec = tie.close (tie.spec (λ c κs. search needs) push_quad_requires (λ c. search needs) returns)
+place_quad_spec = tie.close (tie.spec (λ c κs. search rules) push_quad_requires (λ c. search rules) returns)

@@ -1,4 +1,4 @@
-use Rattle.laws.specs.Kit.{◌≡◌, refl, ◌∙◌, ◌-◌, ◌^◌, ◌≤◌, arith, needs, List, length}
+use Rattle.laws.specs.Kit.{◌≡◌, refl, ◌∙◌, ◌-◌, ◌^◌, ◌≤◌, arith, rules, List, length}
 use Rattle.definition.specs.Cells.{Live, Mesh}
 use Rattle.laws.specs.Frames.{Keeps, keeps_refl, keeps_trans}
 use Rattle.cells.specs.Layout.{mesh_end}
@@ -66,5 +66,5 @@ pub remove_listed_spec : {M : Type 1} → statement M
 remove_listed_spec =
     tie.close
     (tie.spec
-    invariant_loop decreases_loop loop_holds listed_requires remove_cell_requires (λ c. search needs) (λ c. search needs) loop_again (λ c. c.before.loop.invariant.0)
+    invariant_loop decreases_loop loop_holds listed_requires remove_cell_requires (λ c. search rules) (λ c. search rules) loop_again (λ c. c.before.loop.invariant.0)
     returns)

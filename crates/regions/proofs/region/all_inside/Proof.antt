@@ -1,4 +1,4 @@
-use Rattle.laws.specs.Kit.{◌≡◌, refl, sym, ◌∙◌, ◌-◌, ◌^◌, ◌≤◌, arith, needs, not-true, not-false, List, drop}
+use Rattle.laws.specs.Kit.{◌≡◌, refl, sym, ◌∙◌, ◌-◌, ◌^◌, ◌≤◌, arith, rules, not-true, not-false, List, drop}
 use Rattle.definition.specs.Lists.{all}
 use Rattle.definition.specs.Cells.{Live, Mesh, new_quad}
 use Rattle.definition.specs.Region.{cell_inside}
@@ -76,4 +76,4 @@ pub all_inside_spec : {M : Type 1} → statement M
 all_inside_spec =
     tie.close
     (tie.spec
-    invariant_loop decreases_loop loop_holds listed_requires tri_inside_requires returns (λ c. search needs) (λ c. search needs) loop_again returns_2)
+    invariant_loop decreases_loop loop_holds listed_requires tri_inside_requires returns (λ c. search rules) (λ c. search rules) loop_again returns_2)

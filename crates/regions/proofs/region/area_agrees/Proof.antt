@@ -1,5 +1,5 @@
 use Rattle.regions.proofs.Fills.{four, agrees_is}
-use Rattle.laws.specs.Kit.{needs}
+use Rattle.laws.specs.Kit.{rules}
 use Rattle.regions.proofs.region.area_agrees.Statement.{statement}
 use Rattle.regions.proofs.region.area_agrees.Tie as tie
 
@@ -33,4 +33,4 @@ pub area_agrees_spec : {M : Type 1} → statement M
 area_agrees_spec =
     tie.close
     (tie.spec
-    quad_area_requires (λ c κs. search needs) region_area_requires (λ c κs. search needs) (λ c κs. search needs) returns)
+    quad_area_requires (λ c κs. search rules) region_area_requires (λ c κs. search rules) (λ c κs. search rules) returns)

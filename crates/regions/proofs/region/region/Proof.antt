@@ -1,5 +1,5 @@
 -- The flood, and the tests of what it reached, one after the other.
-use Rattle.laws.specs.Kit.{◌≡◌, ◌≢◌, needs, not-true, not-false}
+use Rattle.laws.specs.Kit.{◌≡◌, ◌≢◌, rules, not-true, not-false}
 use Rattle.definition.specs.Cells.{Mesh}
 use Rattle.regions.specs.Fill.{Shown, Drawn}
 use Rattle.regions.proofs.Fills.{Cells, cells, region_none, region_outside, region_off, region_locked, region_found}
@@ -108,5 +108,5 @@ pub region_spec : {M : Type 1} → statement M
 region_spec =
     tie.close
     (tie.spec
-    flood_requires (λ c. search needs) returns all_inside_requires (λ c. search needs) returns_2 area_agrees_requires (λ c. search needs) returns_3
-    spares_requires (λ c. search needs) returns_4 (λ c. search needs) returns_5)
+    flood_requires (λ c. search rules) returns all_inside_requires (λ c. search rules) returns_2 area_agrees_requires (λ c. search rules) returns_3
+    spares_requires (λ c. search rules) returns_4 (λ c. search rules) returns_5)

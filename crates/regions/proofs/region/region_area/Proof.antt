@@ -1,4 +1,4 @@
-use Rattle.laws.specs.Kit.{◌≡◌, refl, sym, ◌∙◌, ap, ◌-◌, ◌^◌, ◌≤◌, arith, needs, List, foldl, drop, Float}
+use Rattle.laws.specs.Kit.{◌≡◌, refl, sym, ◌∙◌, ap, ◌-◌, ◌^◌, ◌≤◌, arith, rules, List, foldl, drop, Float}
 use Rattle.definition.specs.Floats.{◌⊕◌, 0·0, f64}
 use Rattle.definition.specs.Cells.{Live, Mesh}
 use Rattle.definition.specs.Region.{area_of, region_area}
@@ -64,4 +64,4 @@ pub region_area_spec : {M : Type 1} → statement M
 region_area_spec =
     tie.close
     (tie.spec
-    invariant_loop decreases_loop loop_holds listed_requires area_in_requires (λ c. search needs) (λ c. search needs) loop_again returns)
+    invariant_loop decreases_loop loop_holds listed_requires area_in_requires (λ c. search rules) (λ c. search rules) loop_again returns)

@@ -1,5 +1,5 @@
 -- Every edge of the triangles passed may go; the rest of the list says what the whole says.
-use Rattle.laws.specs.Kit.{◌≡◌, refl, sym, ◌∙◌, ◌-◌, ◌^◌, ◌≤◌, arith, needs, not-true, not-false, List, drop}
+use Rattle.laws.specs.Kit.{◌≡◌, refl, sym, ◌∙◌, ◌-◌, ◌^◌, ◌≤◌, arith, rules, not-true, not-false, List, drop}
 use Rattle.definition.specs.Lists.{all}
 use Rattle.definition.specs.Cells.{Live, Mesh, new_quad}
 use Rattle.definition.specs.Region.{spares_locked}
@@ -79,4 +79,4 @@ pub spares_spec : {M : Type 1} → statement M
 spares_spec =
     tie.close
     (tie.spec
-    invariant_loop decreases_loop loop_holds listed_requires spares_tri_requires returns (λ c. search needs) (λ c. search needs) loop_again returns_2)
+    invariant_loop decreases_loop loop_holds listed_requires spares_tri_requires returns (λ c. search rules) (λ c. search rules) loop_again returns_2)

@@ -1,5 +1,5 @@
 -- Edge after edge.
-use Rattle.laws.specs.Kit.{◌∙◌, arith, needs, not-true, not-false}
+use Rattle.laws.specs.Kit.{◌∙◌, arith, rules, not-true, not-false}
 use Rattle.definition.specs.Cells.{new_quad}
 use Rattle.cells.proofs.Slots.{rep_see, tri_held}
 use Rattle.regions.proofs.Visits.{tri_inside}
@@ -73,4 +73,4 @@ pub spares_tri_spec : {M : Type 1} → statement M
 spares_tri_spec =
     tie.close
     (tie.spec
-    node_requires node_requires_2 node_requires_3 (λ c κs. search needs) returns (λ c κs. search needs) returns_2 (λ c κs. search needs) returns_3)
+    node_requires node_requires_2 node_requires_3 (λ c κs. search rules) returns (λ c κs. search rules) returns_2 (λ c κs. search rules) returns_3)

@@ -1,5 +1,5 @@
 -- The two lists by their writers, over the memory that stands for what is stored; the numbers by the state.
-use Rattle.laws.specs.Kit.{refl, sym, ◌∙◌, ap, needs, List, length}
+use Rattle.laws.specs.Kit.{refl, sym, ◌∙◌, ap, rules, List, length}
 use Rattle.definition.specs.Lists.{flat_map}
 use Rattle.definition.specs.Cells.{Tri, tri_nodes}
 use Rattle.definition.specs.Components.{component_sizes}
@@ -43,4 +43,4 @@ returns c =
     }
 
 pub finish_spec : {M : Type 1} → statement M
-finish_spec = tie.close (tie.spec write_triangles_requires component_sizes_requires (λ c. search needs) (λ c. search needs) (λ c. search needs) returns)
+finish_spec = tie.close (tie.spec write_triangles_requires component_sizes_requires (λ c. search rules) (λ c. search rules) (λ c. search rules) returns)

@@ -1,4 +1,4 @@
-use Rattle.laws.specs.Kit.{sym, ap, subst, arith, needs}
+use Rattle.laws.specs.Kit.{sym, ap, subst, arith, rules}
 use Rattle.joints.specs.Table.{Locks}
 use Rattle.retrace.proofs.Reading.{flip_cut, flip_done}
 use Rattle.retrace.proofs.entries.flip_entry.Statement.{statement}
@@ -34,5 +34,5 @@ pub flip_entry_spec : {M : Type 1} → statement M
 flip_entry_spec =
     tie.close
     (tie.spec
-    (λ c. search needs) (λ c κs. search needs) returns (λ c. search needs) (λ c. search needs) (λ c. search needs) (λ c κs. search needs)
-    (λ c. search needs) (λ c. search needs) (λ c. search needs) (λ c κs. search needs) flip_at_requires (λ c. search needs) returns_2)
+    (λ c. search rules) (λ c κs. search rules) returns (λ c. search rules) (λ c. search rules) (λ c. search rules) (λ c κs. search rules)
+    (λ c. search rules) (λ c. search rules) (λ c. search rules) (λ c κs. search rules) flip_at_requires (λ c. search rules) returns_2)

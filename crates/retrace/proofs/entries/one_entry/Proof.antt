@@ -1,4 +1,4 @@
-use Rattle.laws.specs.Kit.{refl, ap, needs}
+use Rattle.laws.specs.Kit.{refl, ap, rules}
 use Rattle.retrace.proofs.Reading.{other_cut}
 use Rattle.retrace.proofs.entries.one_entry.Statement.{statement}
 use Rattle.retrace.proofs.entries.one_entry.Tie as tie
@@ -32,5 +32,5 @@ pub one_entry_spec : {M : Type 1} → statement M
 one_entry_spec =
     tie.close
     (tie.spec
-    (λ c. search needs) (λ c. search needs) (λ c κs. search needs) (λ c. search needs) (λ c. search needs) returns (λ c κs. search needs) (λ c. search needs) (λ c. search needs) (λ c. search needs) returns_2
-    (λ c κs. search needs) (λ c. search needs) (λ c. search needs) returns_3 (λ c κs. search needs) returns_4)
+    (λ c. search rules) (λ c. search rules) (λ c κs. search rules) (λ c. search rules) (λ c. search rules) returns (λ c κs. search rules) (λ c. search rules) (λ c. search rules) (λ c. search rules) returns_2
+    (λ c κs. search rules) (λ c. search rules) (λ c. search rules) returns_3 (λ c κs. search rules) returns_4)

@@ -1,5 +1,5 @@
 -- After each entry the definition has the rest of the trace before it.
-use Rattle.laws.specs.Kit.{◌≡◌, refl, ◌∙◌, ℕ, ◌-◌, arith, needs, List, length, Float}
+use Rattle.laws.specs.Kit.{◌≡◌, refl, ◌∙◌, ℕ, ◌-◌, arith, rules, List, length, Float}
 use Rattle.definition.specs.Numbers.{Settings}
 use Rattle.definition.specs.Cells.{Mesh}
 use Rattle.rules.specs.Settings.{Suits}
@@ -96,4 +96,4 @@ pub play_spec : {M : Type 1} → statement M
 play_spec =
     tie.close
     (tie.spec
-    invariant_loop decreases_loop loop_holds one_entry_requires (λ c. search needs) (λ c. search needs) (λ c. search needs) returns loop_less loop_again (λ c. search needs) (λ c. search needs) (λ c. search needs) returns_2)
+    invariant_loop decreases_loop loop_holds one_entry_requires (λ c. search rules) (λ c. search rules) (λ c. search rules) returns loop_less loop_again (λ c. search rules) (λ c. search rules) (λ c. search rules) returns_2)

@@ -1,4 +1,4 @@
-use Rattle.laws.specs.Kit.{ap, arith, needs}
+use Rattle.laws.specs.Kit.{ap, arith, rules}
 use Rattle.retrace.proofs.Reading.{quad_cut, slots_cut, quad_done}
 use Rattle.retrace.proofs.entries.quad_entry.Statement.{statement}
 use Rattle.retrace.proofs.entries.quad_entry.Tie as tie
@@ -33,5 +33,5 @@ pub quad_entry_spec : {M : Type 1} → statement M
 quad_entry_spec =
     tie.close
     (tie.spec
-    (λ c. search needs) (λ c κs. search needs) returns (λ c. search needs) (λ c. search needs) (λ c. search needs) (λ c κs. search needs) (λ c κs. search needs) returns_2
-    (λ c κs. search needs) (λ c. search needs) (λ c. search needs) returns_3)
+    (λ c. search rules) (λ c κs. search rules) returns (λ c. search rules) (λ c. search rules) (λ c. search rules) (λ c κs. search rules) (λ c κs. search rules) returns_2
+    (λ c κs. search rules) (λ c. search rules) (λ c. search rules) returns_3)

@@ -1,4 +1,4 @@
-use Rattle.laws.specs.Kit.{ap, arith, needs}
+use Rattle.laws.specs.Kit.{ap, arith, rules}
 use Rattle.retrace.proofs.Reading.{split_cut, split_done}
 use Rattle.retrace.proofs.entries.split_entry.Statement.{statement}
 use Rattle.retrace.proofs.entries.split_entry.Tie as tie
@@ -26,7 +26,7 @@ pub split_entry_spec : {M : Type 1} → statement M
 split_entry_spec =
     tie.close
     (tie.spec
-    (λ c. search needs) (λ c κs. search needs) returns (λ c. search needs) (λ c. search needs) (λ c. search needs) (λ c κs. search needs)
-    (λ c. search needs) (λ c. search needs) (λ c. search needs) (λ c. search needs) (λ c. search needs) (λ c. search needs) (λ c κs. search needs)
-    (λ c. search needs) (λ c. search needs) (λ c. search needs) (λ c. search needs) (λ c. search needs) (λ c. search needs) (λ c κs. search needs)
-    (λ c κs. search needs) (λ c. search needs) (λ c. search needs) returns_2)
+    (λ c. search rules) (λ c κs. search rules) returns (λ c. search rules) (λ c. search rules) (λ c. search rules) (λ c κs. search rules)
+    (λ c. search rules) (λ c. search rules) (λ c. search rules) (λ c. search rules) (λ c. search rules) (λ c. search rules) (λ c κs. search rules)
+    (λ c. search rules) (λ c. search rules) (λ c. search rules) (λ c. search rules) (λ c. search rules) (λ c. search rules) (λ c κs. search rules)
+    (λ c κs. search rules) (λ c. search rules) (λ c. search rules) returns_2)

@@ -1,5 +1,5 @@
 -- The mesh is built, and the numbers are those of the definition's first.
-use Rattle.laws.specs.Kit.{refl, needs}
+use Rattle.laws.specs.Kit.{refl, rules}
 use Rattle.retrace.specs.Replaying.{told_of}
 use Rattle.retrace.proofs.Beginning.{begin_build, begin_begins}
 use Rattle.retrace.proofs.opening.begin.Statement.{statement}
@@ -17,4 +17,4 @@ returns c = λ l h.
     begin_begins s.args.work.now s.args.triangles.now (told_of s.args.told) l h b.build.new.0 _ b.build.ensures refl
 
 pub begin_spec : {M : Type 1} → statement M
-begin_spec = tie.close (tie.spec build_requires (λ c. search needs) returns)
+begin_spec = tie.close (tie.spec build_requires (λ c. search rules) returns)

@@ -1,5 +1,5 @@
 -- The number of the call, with the trace's words between 4 and 5.
-use Rattle.laws.specs.Kit.{◌≡◌, sym, ◌∙◌, ap, arith, needs, []}
+use Rattle.laws.specs.Kit.{◌≡◌, sym, ◌∙◌, ap, arith, rules, []}
 use Rattle.definition.specs.Floats.{0·0, f64}
 use Rattle.definition.specs.Call.{Asked, Lent}
 use Rattle.definition.specs.Replay.{as_asked}
@@ -36,4 +36,4 @@ returns_3 c = λ l h e.
     number_is r l h ∙ opens_same (told_of (start r).args.told) l (omega (arith, e, c.if2.false))
 
 pub opening_spec : {M : Type 1} → statement M
-opening_spec = tie.close (tie.spec (λ c κs. search needs) (λ c. search needs) (λ c κs. search needs) returns returns_2 (λ c. search needs) returns_3)
+opening_spec = tie.close (tie.spec (λ c κs. search rules) (λ c. search rules) (λ c κs. search rules) returns returns_2 (λ c. search rules) returns_3)

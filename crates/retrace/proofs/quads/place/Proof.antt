@@ -1,4 +1,4 @@
-use Rattle.laws.specs.Kit.{sym, ◌∙◌, needs}
+use Rattle.laws.specs.Kit.{sym, ◌∙◌, rules}
 use Rattle.retrace.specs.Stored.{stored}
 use Rattle.retrace.proofs.Placing.{placed_odd, can_push, placed_four}
 use Rattle.retrace.proofs.quads.place.Statement.{statement}
@@ -29,4 +29,4 @@ returns_2 c =
     placed_four a.work.now a.s a.p a.i a.a a.b a.c a.d (λ e r g. sym e1.if1.false ∙ v.twice.ensures e r g) d.push_quad.new.0 d.push_quad.ensures
 
 pub place_spec : {M : Type 1} → statement M
-place_spec = tie.close (tie.spec (λ c κs. search needs) returns push_quad_requires (λ c. search needs) returns_2)
+place_spec = tie.close (tie.spec (λ c κs. search rules) returns push_quad_requires (λ c. search rules) returns_2)

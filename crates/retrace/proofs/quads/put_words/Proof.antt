@@ -1,4 +1,4 @@
-use Rattle.laws.specs.Kit.{needs}
+use Rattle.laws.specs.Kit.{rules}
 use Rattle.retrace.proofs.Entered.{puts_words}
 use Rattle.retrace.proofs.quads.put_words.Statement.{statement}
 use Rattle.retrace.proofs.quads.put_words.Tie as tie
@@ -14,4 +14,4 @@ pub put_words_spec : {M : Type 1} → statement M
 put_words_spec =
     tie.close
     (tie.spec
-    (λ c. search needs) (λ c. search needs) (λ c. search needs) (λ c. search needs) (λ c. search needs) (λ c. search needs) (λ c κs. search needs) (λ c. search needs) returns)
+    (λ c. search rules) (λ c. search rules) (λ c. search rules) (λ c. search rules) (λ c. search rules) (λ c. search rules) (λ c κs. search rules) (λ c. search rules) returns)

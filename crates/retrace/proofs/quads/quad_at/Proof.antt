@@ -1,5 +1,5 @@
 -- The nodes, the slots, the slot of its own, then the quad.
-use Rattle.laws.specs.Kit.{◌≡◌, refl, sym, ◌∙◌, ap, subst, Bool, true, not, ◌||◌, ℕ, ◌+◌, ◌<◌, ◌≤◌, arith, needs, ltb, not-true, not-false, List, [], ◌∷◌, length, take, drop, Float}
+use Rattle.laws.specs.Kit.{◌≡◌, refl, sym, ◌∙◌, ap, subst, Bool, true, not, ◌||◌, ℕ, ◌+◌, ◌<◌, ◌≤◌, arith, rules, ltb, not-true, not-false, List, [], ◌∷◌, length, take, drop, Float}
 use lib.Seq.{drop-drop}
 use Rattle.definition.specs.Lists.{all}
 use Rattle.definition.specs.Cells.{Quad, quad, Mesh, quad_nodes, push_cell}
@@ -190,9 +190,9 @@ pub quad_at_spec : {M : Type 1} → statement M
 quad_at_spec =
     tie.close
     (tie.spec
-    (λ c. search needs) (λ c. search needs) (λ c. search needs) (λ c κs. search needs)
-    (λ c. search needs) (λ c. search needs) (λ c. search needs) (λ c κs. search needs)
-    (λ c. search needs) (λ c. search needs) (λ c. search needs) (λ c κs. search needs)
-    (λ c. search needs) (λ c. search needs) (λ c. search needs) (λ c κs. search needs)
-    (λ c κs. search needs) (λ c κs. search needs) returns (λ c. search needs) take_out_requires (λ c κs. search needs) (λ c. search needs) returns_2 (λ c κs. search needs) (λ c. search needs) returns_3
-    place_requires put_words_requires (λ c κs. search needs) add_t16 add_t15 add_t31 add_t32 (λ c. search needs) (λ c. search needs) returns_4)
+    (λ c. search rules) (λ c. search rules) (λ c. search rules) (λ c κs. search rules)
+    (λ c. search rules) (λ c. search rules) (λ c. search rules) (λ c κs. search rules)
+    (λ c. search rules) (λ c. search rules) (λ c. search rules) (λ c κs. search rules)
+    (λ c. search rules) (λ c. search rules) (λ c. search rules) (λ c κs. search rules)
+    (λ c κs. search rules) (λ c κs. search rules) returns (λ c. search rules) take_out_requires (λ c κs. search rules) (λ c. search rules) returns_2 (λ c κs. search rules) (λ c. search rules) returns_3
+    place_requires put_words_requires (λ c κs. search rules) add_t16 add_t15 add_t31 add_t32 (λ c. search rules) (λ c. search rules) returns_4)

@@ -1,5 +1,5 @@
 -- The slots of the trace one after the other, for each mesh that the memory stands for.
-use Rattle.laws.specs.Kit.{◌-◌, arith, needs}
+use Rattle.laws.specs.Kit.{◌-◌, arith, rules}
 use Rattle.retrace.proofs.Placing.{has_yes, has_no, has_beyond, Going, going_none, going_all, going_no, going_more}
 use Rattle.retrace.proofs.quads.take_out.Statement.{statement}
 use Rattle.retrace.proofs.quads.take_out.Tie as tie
@@ -92,5 +92,5 @@ pub take_out_spec : {M : Type 1} → statement M
 take_out_spec =
     tie.close
     (tie.spec
-    invariant_loop decreases_loop loop_holds (λ c. search needs) (λ c. search needs) shared_slice_read_wide (λ c κs. search needs) same_length returns (λ c. search needs) slice_read_if2 same_length_2 returns_2
-    remove_cell_requires (λ c. search needs) (λ c. search needs) loop_again same_length_3 returns_3)
+    invariant_loop decreases_loop loop_holds (λ c. search rules) (λ c. search rules) shared_slice_read_wide (λ c κs. search rules) same_length returns (λ c. search rules) slice_read_if2 same_length_2 returns_2
+    remove_cell_requires (λ c. search rules) (λ c. search rules) loop_again same_length_3 returns_3)

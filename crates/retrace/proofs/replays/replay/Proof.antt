@@ -1,5 +1,5 @@
 -- The opening tests, the mesh built, its entries; then the lists or the refusal, and both work slices cleared.
-use Rattle.laws.specs.Kit.{◌≡◌, refl, sym, ◌∙◌, arith, needs, length, take}
+use Rattle.laws.specs.Kit.{◌≡◌, refl, sym, ◌∙◌, arith, rules, length, take}
 use lib.ListN.{length-take}
 use Rattle.definition.specs.Call.{Lent, settings}
 use Rattle.definition.specs.Replay.{as_asked, replay_words}
@@ -145,6 +145,6 @@ pub replay_spec : {M : Type 1} → statement M
 replay_spec =
     tie.close
     (tie.spec
-    (λ c κs. search needs) (λ c κs. search needs) (λ c. search needs) returns begin_requires slice_aggregate_play (λ c. search needs) play_requires
-    (λ c κs. search needs) (λ c κs. search needs) (λ c κs. search needs) (λ c. search needs) (λ c. search needs) (λ c. search needs) (λ c. search needs) returns_2
-    finish_requires (λ c κs. search needs) (λ c κs. search needs) (λ c. search needs) (λ c. search needs) (λ c. search needs) (λ c. search needs) same_length_10 (λ c. search needs) returns_3)
+    (λ c κs. search rules) (λ c κs. search rules) (λ c. search rules) returns begin_requires slice_aggregate_play (λ c. search rules) play_requires
+    (λ c κs. search rules) (λ c κs. search rules) (λ c κs. search rules) (λ c. search rules) (λ c. search rules) (λ c. search rules) (λ c. search rules) returns_2
+    finish_requires (λ c κs. search rules) (λ c κs. search rules) (λ c. search rules) (λ c. search rules) (λ c. search rules) (λ c. search rules) same_length_10 (λ c. search rules) returns_3)

@@ -1,5 +1,5 @@
 -- The slot, the triangle that holds the point, the room, then the split.
-use Rattle.laws.specs.Kit.{◌≡◌, refl, ◌∙◌, ap, true, ℕ, ◌≤◌, arith, needs, not-true, not-false, List, Float}
+use Rattle.laws.specs.Kit.{◌≡◌, refl, ◌∙◌, ap, true, ℕ, ◌≤◌, arith, rules, not-true, not-false, List, Float}
 use Rattle.definition.specs.Plane.{flat}
 use Rattle.definition.specs.Cells.{Mesh, cell_of}
 use Rattle.insertion.specs.Hold.{slot_holds}
@@ -90,7 +90,7 @@ split_triangle_requires c κs =
     )
 
 add_t15 : tie.Need-overflow-add-t15
-add_t15 c = search needs
+add_t15 c = search rules
 
 add_t21 : tie.Need-overflow-add-t21
 add_t21 c = let d = c.before.before.before.before.before.before in let k = numbers (top (test d.before)) in omega (arith, k.0)
@@ -114,5 +114,5 @@ pub split_at_spec : {M : Type 1} → statement M
 split_at_spec =
     tie.close
     (tie.spec
-    (λ c κs. search needs) returns holds_requires (λ c κs. search needs) (λ c. search needs) (λ c. search needs) returns_2 (λ c κs. search needs) (λ c. search needs) (λ c. search needs) returns_3
-    add_if4 (λ c κs. search needs) (λ c. search needs) (λ c. search needs) returns_4 split_triangle_requires add_t15 add_t21 add_t22 (λ c. search needs) (λ c. search needs) returns_5)
+    (λ c κs. search rules) returns holds_requires (λ c κs. search rules) (λ c. search rules) (λ c. search rules) returns_2 (λ c κs. search rules) (λ c. search rules) (λ c. search rules) returns_3
+    add_if4 (λ c κs. search rules) (λ c. search rules) (λ c. search rules) returns_4 split_triangle_requires add_t15 add_t21 add_t22 (λ c. search rules) (λ c. search rules) returns_5)

@@ -1,5 +1,5 @@
 -- The order, the nodes, the quads that are not stored, then the flip of what is.
-use Rattle.laws.specs.Kit.{refl, sym, ◌∙◌, ap, arith, needs}
+use Rattle.laws.specs.Kit.{refl, sym, ◌∙◌, ap, arith, rules}
 use Rattle.retrace.specs.Stored.{stored}
 use Rattle.retrace.proofs.Flipping.{redo_order, redo_unknown, broken_entry, quads_fit, points_stored, locks_stored, entry_bars, entry_not, entry_made, not_made, short_made}
 use Rattle.retrace.proofs.turns.flip_at.Statement.{statement}
@@ -90,5 +90,5 @@ pub flip_at_spec : {M : Type 1} → statement M
 flip_at_spec =
     tie.close
     (tie.spec
-    (λ c κs. search needs) returns (λ c κs. search needs) returns_2 hides_requires (λ c κs. search needs) returns_3 flip_requires (λ c. search needs) (λ c κs. search needs)
-    (λ c. search needs) (λ c κs. search needs) (λ c. search needs) (λ c. search needs) (λ c. search needs) returns_4 (λ c. search needs) returns_5 (λ c. search needs) returns_6)
+    (λ c κs. search rules) returns (λ c κs. search rules) returns_2 hides_requires (λ c κs. search rules) returns_3 flip_requires (λ c. search rules) (λ c κs. search rules)
+    (λ c. search rules) (λ c κs. search rules) (λ c. search rules) (λ c. search rules) (λ c. search rules) returns_4 (λ c. search rules) returns_5 (λ c. search rules) returns_6)

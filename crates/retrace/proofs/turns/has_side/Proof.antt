@@ -1,5 +1,5 @@
 -- The four sides one after the other.
-use Rattle.laws.specs.Kit.{◌≡◌, sym, ◌∙◌, false, ◌||◌, ℕ, needs}
+use Rattle.laws.specs.Kit.{◌≡◌, sym, ◌∙◌, false, ◌||◌, ℕ, rules}
 use Rattle.definition.specs.Call.{quad_at}
 use Rattle.definition.specs.Cells.{key, same_edge, has_edge_in, quad_edges}
 use Rattle.retrace.proofs.Flipping.{quad_sides, side_one, side_two, side_three, side_four}
@@ -73,8 +73,8 @@ pub has_side_spec : {M : Type 1} → statement M
 has_side_spec =
     tie.close
     (tie.spec
-    (λ c. search needs) (λ c. search needs) (λ c. search needs) (λ c κs. search needs)
-    (λ c. search needs) (λ c. search needs) (λ c. search needs) (λ c κs. search needs)
-    (λ c. search needs) (λ c. search needs) (λ c. search needs) (λ c κs. search needs)
-    (λ c. search needs) (λ c. search needs) (λ c. search needs) (λ c κs. search needs)
-    (λ c κs. search needs) returns (λ c κs. search needs) returns_2 (λ c κs. search needs) returns_3 (λ c κs. search needs) returns_4)
+    (λ c. search rules) (λ c. search rules) (λ c. search rules) (λ c κs. search rules)
+    (λ c. search rules) (λ c. search rules) (λ c. search rules) (λ c κs. search rules)
+    (λ c. search rules) (λ c. search rules) (λ c. search rules) (λ c κs. search rules)
+    (λ c. search rules) (λ c. search rules) (λ c. search rules) (λ c κs. search rules)
+    (λ c κs. search rules) returns (λ c κs. search rules) returns_2 (λ c κs. search rules) returns_3 (λ c κs. search rules) returns_4)

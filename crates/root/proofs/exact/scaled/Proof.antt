@@ -1,5 +1,5 @@
 -- `root::exact::scaled` meets its contract, by `proofs/Radicands.antt`. Assumes nothing.
-use Rattle.laws.specs.Kit.{sym, subst, ℕ, ◌+◌, ◌-◌, ◌*◌, ◌/◌, ◌%◌, ◌^◌, needs}
+use Rattle.laws.specs.Kit.{sym, subst, ℕ, ◌+◌, ◌-◌, ◌*◌, ◌/◌, ◌%◌, ◌^◌, rules}
 use Rattle.root.specs.Exact.{Radicand}
 use Rattle.root.proofs.Radicands.{normal, subnormal}
 use Rattle.root.proofs.exact.scaled.Statement.{statement}
@@ -16,5 +16,5 @@ pub scaled_spec : {M : Type 1} → statement M
 scaled_spec =
     tie.close
     (tie.spec
-    (λ c. search needs) (λ c. search needs) (λ c. normal c.before.args.b c.if1.true) (λ c κs. search needs) (λ c. search needs)
-    (λ c κs. search needs) (λ c. search needs) (λ c. search needs) (λ c. search needs) returns_2)
+    (λ c. search rules) (λ c. search rules) (λ c. normal c.before.args.b c.if1.true) (λ c κs. search rules) (λ c. search rules)
+    (λ c κs. search rules) (λ c. search rules) (λ c. search rules) (λ c. search rules) returns_2)

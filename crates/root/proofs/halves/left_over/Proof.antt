@@ -1,7 +1,7 @@
 -- `root::halves::left_over` meets its contract.
 -- Nothing is known of the guess: what is left over is exact whatever it is.
 -- Assumes nothing.
-use Rattle.laws.specs.Kit.{arith, needs}
+use Rattle.laws.specs.Kit.{arith, rules}
 use Rattle.root.proofs.Squares.{whole}
 use Rattle.root.proofs.halves.left_over.Statement.{statement}
 use Rattle.root.proofs.halves.left_over.Tie as tie
@@ -24,5 +24,5 @@ pub left_over_spec : {M : Type 1} → statement M
 left_over_spec =
     tie.close
     (tie.spec
-    (λ c κs. search needs) (λ c κs. search needs) (λ c. search needs) (λ c κs. search needs) (λ c. search needs) (λ c κs. search needs)
-    (λ c. search needs) (λ c κs. search needs) (λ c κs. search needs) returns (λ c. search needs) (λ c. search needs))
+    (λ c κs. search rules) (λ c κs. search rules) (λ c. search rules) (λ c κs. search rules) (λ c. search rules) (λ c κs. search rules)
+    (λ c. search rules) (λ c κs. search rules) (λ c κs. search rules) returns (λ c. search rules) (λ c. search rules))

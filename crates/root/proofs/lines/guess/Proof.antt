@@ -1,6 +1,6 @@
 -- `root::lines::guess` meets its contract: its patterns are no NaN's, and what is above zero is no NaN.
 -- Assumes nothing.
-use Rattle.laws.specs.Kit.{◌+◌, ◌*◌, ◌^◌, arith, needs}
+use Rattle.laws.specs.Kit.{◌+◌, ◌*◌, ◌^◌, arith, rules}
 use Rattle.root.proofs.Special.{no_nan_left, above_zero}
 use Rattle.laws.specs.Numbers.{no_nan_bits}
 use Rattle.root.proofs.lines.guess.Statement.{statement}
@@ -19,5 +19,5 @@ pub guess_spec : {M : Type 1} → statement M
 guess_spec =
     tie.close
     (tie.spec
-    (λ c κs. search needs) (λ c. search needs) float_from_bits_v (λ c. search needs) (λ c. search needs) float_from_bits_near (λ c. search needs)
-    (λ c. search needs) (λ c κs. search needs) float_to_bits_wrapping_add_u64 (λ c κs. search needs) (λ c. search needs) (λ c. search needs))
+    (λ c κs. search rules) (λ c. search rules) float_from_bits_v (λ c. search rules) (λ c. search rules) float_from_bits_near (λ c. search rules)
+    (λ c. search rules) (λ c κs. search rules) float_to_bits_wrapping_add_u64 (λ c κs. search rules) (λ c. search rules) (λ c. search rules))

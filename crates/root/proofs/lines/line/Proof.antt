@@ -1,7 +1,7 @@
 -- `root::lines::line` meets its contract: the numbers of the table have 16 digits,
 -- and their product with a part of a row fits.
 -- Assumes nothing.
-use Rattle.laws.specs.Kit.{ℕ, ◌-◌, ◌*◌, ◌^◌, ◌<◌, ◌≤◌, arith, needs, mul-le-mul}
+use Rattle.laws.specs.Kit.{ℕ, ◌-◌, ◌*◌, ◌^◌, ◌<◌, ◌≤◌, arith, rules, mul-le-mul}
 use Rattle.root.proofs.lines.line.Statement.{statement}
 use Rattle.root.proofs.lines.line.Tie as tie
 
@@ -18,5 +18,5 @@ pub line_spec : {M : Type 1} → statement M
 line_spec =
     tie.close
     (tie.spec
-    (λ c. search needs) (λ c. search needs) (λ c κs. search needs) (λ c. search needs) (λ c. search needs) (λ c. search needs) (λ c κs. search needs)
-    (λ c. omega (arith, rise c)) (λ c. omega (arith, rise c)) (λ c. search needs))
+    (λ c. search rules) (λ c. search rules) (λ c κs. search rules) (λ c. search rules) (λ c. search rules) (λ c. search rules) (λ c κs. search rules)
+    (λ c. omega (arith, rise c)) (λ c. omega (arith, rise c)) (λ c. search rules))

@@ -1,4 +1,4 @@
-use Rattle.laws.specs.Kit.{◌≡◌, refl, sym, ◌∙◌, ap, subst, ℕ, suc, ◌+◌, ◌*◌, arith, needs, List, [], ◌∷◌, ◌++◌, length, length-append}
+use Rattle.laws.specs.Kit.{◌≡◌, refl, sym, ◌∙◌, ap, subst, ℕ, suc, ◌+◌, ◌*◌, arith, rules, List, [], ◌∷◌, ◌++◌, length, length-append}
 use Rattle.cells.specs.Layout.{refused_at}
 use Rattle.blocked_edges.specs.Blocks.{FreeTo, Blocks}
 use Rattle.definition.specs.Plane.{Edge}
@@ -14,7 +14,7 @@ write_quad_requires c κs =
     let h = t.requires.4 in
     let e = h.so_far.number in
     let below = edge_below t.args.p t.args.t.n0 t.args.t.n1 t.args.u t.args.v h.fits.edge h.fits.node0 h.fits.node1 in (
-      search needs,
+      search rules,
       record {
         node0 = omega (arith, h.fits.node0, h.small_points);
         node1 = omega (arith, h.fits.node1, h.small_points);
@@ -80,5 +80,5 @@ pub put_quad_spec : {M : Type 1} → statement M
 put_quad_spec =
     tie.close
     (tie.spec
-    (λ c. search needs) (λ c. search needs) (λ c. search needs) (λ c. search needs) (λ c. search needs) (λ c. search needs) write_quad_requires (λ c κs. search needs)
-    (λ c. search needs) free_requires (λ c κs. search needs) (λ c. search needs) (λ c. search needs) returns)
+    (λ c. search rules) (λ c. search rules) (λ c. search rules) (λ c. search rules) (λ c. search rules) (λ c. search rules) write_quad_requires (λ c κs. search rules)
+    (λ c. search rules) free_requires (λ c κs. search rules) (λ c. search rules) (λ c. search rules) returns)

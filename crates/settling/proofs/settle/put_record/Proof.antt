@@ -1,7 +1,7 @@
 use Rattle.cells.specs.Layout.{refused_at}
 use Rattle.blocked_edges.specs.Blocks.{CanBlock, BlockTo}
 use Rattle.settling.specs.Standings.{Recorded}
-use Rattle.laws.specs.Kit.{refl, sym, subst, ℕ, ◌*◌, needs}
+use Rattle.laws.specs.Kit.{refl, sym, subst, ℕ, ◌*◌, rules}
 use Rattle.settling.proofs.settle.put_record.Statement.{statement}
 use Rattle.settling.proofs.settle.put_record.Tie as tie
 
@@ -30,4 +30,4 @@ returns c =
     }
 
 pub put_record_spec : {M : Type 1} → statement M
-put_record_spec = tie.close (tie.spec (λ c κs. search needs) (λ c. search needs) block_requires (λ c κs. search needs) (λ c. search needs) returns)
+put_record_spec = tie.close (tie.spec (λ c κs. search rules) (λ c. search rules) block_requires (λ c κs. search rules) (λ c. search rules) returns)

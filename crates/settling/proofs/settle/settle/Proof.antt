@@ -1,4 +1,4 @@
-use Rattle.laws.specs.Kit.{refl, sym, ◌∙◌, needs}
+use Rattle.laws.specs.Kit.{refl, sym, ◌∙◌, rules}
 use Rattle.definition.specs.Counts.{of_points, of_slots, of_trace}
 use Rattle.settling.specs.Standings.{sort_of}
 use Rattle.settling.proofs.Settling.{can_put, put_settles, can_record, record_settles, end_settles, sort_last}
@@ -112,5 +112,5 @@ pub settle_spec : {M : Type 1} → statement M
 settle_spec =
     tie.close
     (tie.spec
-    (λ c κs. search needs) (λ c κs. search needs) put_quad_requires (λ c. search needs) (λ c. search needs) returns refused_requires put_record_requires
-    (λ c. search needs) returns_2 returns_3 returns_4 returns_5)
+    (λ c κs. search rules) (λ c κs. search rules) put_quad_requires (λ c. search rules) (λ c. search rules) returns refused_requires put_record_requires
+    (λ c. search rules) returns_2 returns_3 returns_4 returns_5)

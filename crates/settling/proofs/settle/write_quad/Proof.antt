@@ -1,4 +1,4 @@
-use Rattle.laws.specs.Kit.{arith, needs, [], ◌∷◌}
+use Rattle.laws.specs.Kit.{arith, rules, [], ◌∷◌}
 use lib.Seq.{lt-length-sets}
 use Rattle.settling.proofs.Texts.{written}
 use Rattle.settling.proofs.settle.write_quad.Statement.{statement}
@@ -56,6 +56,6 @@ pub write_quad_spec : {M : Type 1} → statement M
 write_quad_spec =
     tie.close
     (tie.spec
-    (λ c. search needs) (λ c. search needs) (λ c. search needs) slice_write_quads_2 (λ c. search needs) slice_write_quads_3 (λ c. search needs) slice_write_quads_4
-    (λ c. search needs) slice_write_quads_5 (λ c. search needs) slice_write_quads_6 (λ c. search needs) slice_write_quads_7 (λ c. search needs) slice_write_quads_8
-    (λ c. search needs) returns)
+    (λ c. search rules) (λ c. search rules) (λ c. search rules) slice_write_quads_2 (λ c. search rules) slice_write_quads_3 (λ c. search rules) slice_write_quads_4
+    (λ c. search rules) slice_write_quads_5 (λ c. search rules) slice_write_quads_6 (λ c. search rules) slice_write_quads_7 (λ c. search rules) slice_write_quads_8
+    (λ c. search rules) returns)

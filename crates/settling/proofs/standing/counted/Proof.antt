@@ -1,4 +1,4 @@
-use Rattle.laws.specs.Kit.{refl, needs}
+use Rattle.laws.specs.Kit.{refl, rules}
 use Rattle.definition.specs.Counts.{tally}
 use Rattle.settling.proofs.Tallies.{attempted_counts}
 use Rattle.settling.proofs.standing.counted.Statement.{statement}
@@ -12,4 +12,4 @@ returns c =
     record { counters = r; counts = attempted_counts a.g.tally a.g.counters.attempts c.attempted.result.attempts r.attempts; quads = refl; records = refl; words = refl }
 
 pub counted_spec : {M : Type 1} → statement M
-counted_spec = tie.close (tie.spec (λ c κs. search needs) returns)
+counted_spec = tie.close (tie.spec (λ c κs. search rules) returns)

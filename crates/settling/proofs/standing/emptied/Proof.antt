@@ -1,4 +1,4 @@
-use Rattle.laws.specs.Kit.{refl, needs}
+use Rattle.laws.specs.Kit.{refl, rules}
 use Rattle.definition.specs.Counts.{tally}
 use Rattle.settling.proofs.Tallies.{emptied_counts}
 use Rattle.settling.proofs.standing.emptied.Statement.{statement}
@@ -11,4 +11,4 @@ returns c =
     record { counters = refl; counts = emptied_counts a.g.tally a.g.counters.attempts; quads = refl; records = refl; words = refl }
 
 pub emptied_spec : {M : Type 1} → statement M
-emptied_spec = tie.close (tie.spec (λ c. search needs) returns)
+emptied_spec = tie.close (tie.spec (λ c. search rules) returns)

@@ -1,4 +1,4 @@
-use Rattle.laws.specs.Kit.{refl, needs}
+use Rattle.laws.specs.Kit.{refl, rules}
 use Rattle.definition.specs.Counts.{tally}
 use Rattle.settling.proofs.Tallies.{tried_counts}
 use Rattle.settling.proofs.standing.tried.Statement.{statement}
@@ -13,4 +13,4 @@ returns c =
     record { counters = refl; counts = λ e f. tried_counts a.g.tally a.g.counters.attempts a.c.attempts a.n a.k f e; few = record { front = few.front; placement = few.placement; invalid = few.invalid; recovery = few.recovery; region = few.region; odd = few.odd; insertions = t.requires.1.0; limit = few.limit; trials = t.requires.1.1 }; quads = refl; records = refl; words = refl }
 
 pub tried_spec : {M : Type 1} → statement M
-tried_spec = tie.close (tie.spec (λ c. search needs) (λ c. search needs) returns)
+tried_spec = tie.close (tie.spec (λ c. search rules) (λ c. search rules) returns)

@@ -1,5 +1,5 @@
 -- One refusal after the other, in the definition's order.
-use Rattle.laws.specs.Kit.{◌≡◌, refl, sym, ◌∙◌, ap, false, needs, lt-ltb, le-ltb, []}
+use Rattle.laws.specs.Kit.{◌≡◌, refl, sym, ◌∙◌, ap, false, rules, lt-ltb, le-ltb, []}
 use Rattle.definition.specs.Call as defined
 use Rattle.definition.specs.Call.{most_slots, most_capacity, given_points}
 use Rattle.definition.specs.Sheet.{Listed, listed_points, over_limit, too_short, unknown_corner, far_point}
@@ -82,15 +82,15 @@ refusal_spec =
     (tie.spec
     returns
     returns_2
-    (λ c. search needs)
+    (λ c. search rules)
     returns_3
-    (λ c. search needs)
+    (λ c. search rules)
     returns_4
-    (λ c. search needs)
+    (λ c. search rules)
     returns_5
-    (λ c κs. search needs)
+    (λ c κs. search rules)
     returns_6
-    (λ c κs. search needs)
+    (λ c κs. search rules)
     far_point_requires
     returns_7
     returns_8)

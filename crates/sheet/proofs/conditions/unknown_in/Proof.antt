@@ -1,4 +1,4 @@
-use Rattle.laws.specs.Kit.{◌∙◌, ap, arith, needs, leb}
+use Rattle.laws.specs.Kit.{◌∙◌, ap, arith, rules, leb}
 use Rattle.sheet.proofs.Corners.{at_first, at_second, at_third, at_fourth}
 use Rattle.sheet.proofs.conditions.unknown_in.Statement.{statement}
 use Rattle.sheet.proofs.conditions.unknown_in.Tie as tie
@@ -19,26 +19,26 @@ pub unknown_in_spec : {M : Type 1} → statement M
 unknown_in_spec =
     tie.close
     (tie.spec
-    (λ c. search needs)
-    (λ c. search needs)
-    (λ c. search needs)
-    (λ c κs. search needs)
+    (λ c. search rules)
+    (λ c. search rules)
+    (λ c. search rules)
+    (λ c κs. search rules)
     returns
-    (λ c. search needs)
-    (λ c. search needs)
-    (λ c. search needs)
-    (λ c. search needs)
-    (λ c κs. search needs)
+    (λ c. search rules)
+    (λ c. search rules)
+    (λ c. search rules)
+    (λ c. search rules)
+    (λ c κs. search rules)
     returns_2
-    (λ c. search needs)
-    (λ c. search needs)
-    (λ c. search needs)
-    (λ c. search needs)
-    (λ c κs. search needs)
+    (λ c. search rules)
+    (λ c. search rules)
+    (λ c. search rules)
+    (λ c. search rules)
+    (λ c κs. search rules)
     returns_3
-    (λ c. search needs)
-    (λ c. search needs)
-    (λ c. search needs)
-    (λ c. search needs)
-    (λ c κs. search needs)
+    (λ c. search rules)
+    (λ c. search rules)
+    (λ c. search rules)
+    (λ c. search rules)
+    (λ c κs. search rules)
     returns_4)

@@ -1,5 +1,5 @@
 use Rattle.sheet.proofs.Numbers.{put_short, put_refused, put_numbers}
-use Rattle.laws.specs.Kit.{needs}
+use Rattle.laws.specs.Kit.{rules}
 use Rattle.sheet.proofs.lent.put_sheet.Statement.{statement}
 use Rattle.sheet.proofs.lent.put_sheet.Tie as tie
 
@@ -22,12 +22,12 @@ pub put_sheet_spec : {M : Type 1} → statement M
 put_sheet_spec =
     tie.close
     (tie.spec
-    (λ c κs. search needs)
+    (λ c κs. search rules)
     returns
-    (λ c κs. search needs)
-    (λ c. search needs)
+    (λ c κs. search rules)
+    (λ c. search rules)
     returns_2
-    (λ c κs. search needs)
-    (λ c. search needs)
-    (λ c. search needs)
+    (λ c κs. search rules)
+    (λ c. search rules)
+    (λ c. search rules)
     returns_3)

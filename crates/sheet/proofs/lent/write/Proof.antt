@@ -1,6 +1,6 @@
 use Rattle.sheet.specs.Lent.{numbers}
 use Rattle.sheet.proofs.Numbers.{written}
-use Rattle.laws.specs.Kit.{arith, needs, length-set}
+use Rattle.laws.specs.Kit.{arith, rules, length-set}
 use Rattle.sheet.proofs.lent.write.Statement.{statement}
 use Rattle.sheet.proofs.lent.write.Tie as tie
 
@@ -53,31 +53,31 @@ pub write_spec : {M : Type 1} → statement M
 write_spec =
     tie.close
     (tie.spec
-    (λ c. search needs)
-    (λ c. search needs)
-    (λ c. search needs)
+    (λ c. search rules)
+    (λ c. search rules)
+    (λ c. search rules)
     slice_write_answer_2
-    (λ c. search needs)
+    (λ c. search rules)
     slice_write_answer_3
-    (λ c. search needs)
+    (λ c. search rules)
     slice_write_answer_4
-    (λ c. search needs)
+    (λ c. search rules)
     slice_write_answer_5
-    (λ c. search needs)
+    (λ c. search rules)
     slice_write_answer_6
-    (λ c. search needs)
+    (λ c. search rules)
     slice_write_answer_7
-    (λ c. search needs)
+    (λ c. search rules)
     slice_write_answer_8
-    (λ c. search needs)
+    (λ c. search rules)
     slice_write_answer_9
-    (λ c. search needs)
+    (λ c. search rules)
     slice_write_answer_10
-    (λ c. search needs)
+    (λ c. search rules)
     slice_write_answer_11
-    (λ c κs. search needs)
+    (λ c κs. search rules)
     slice_write_answer_12
-    (λ c κs. search needs)
+    (λ c κs. search rules)
     slice_write_answer_13
     same_length
     returns)

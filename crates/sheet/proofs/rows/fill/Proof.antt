@@ -1,5 +1,5 @@
 -- The sheet of the quads passed.
-use Rattle.laws.specs.Kit.{ap, ◌+◌, ◌-◌, arith, needs, get_or, set}
+use Rattle.laws.specs.Kit.{ap, ◌+◌, ◌-◌, arith, rules, get_or, set}
 use Rattle.definition.specs.Sheet.{listed_points}
 use Rattle.sheet.specs.Promise.{listed}
 use Rattle.sheet.proofs.Filling.{Filling, filling_none, filling_few, filling_size, filling_more, filling_end}
@@ -62,13 +62,13 @@ fill_spec =
     loop_holds
     metrics_at_requires
     put_line_requires
-    (λ c κs. search needs)
+    (λ c κs. search rules)
     (λ c. omega arith)
     (λ c. omega arith)
     add_counts
     (λ c. omega arith)
-    (λ c κs. search needs)
-    (λ c κs. search needs)
+    (λ c κs. search rules)
+    (λ c κs. search rules)
     (λ c. omega arith)
     (λ c. omega arith)
     loop_again

@@ -2,7 +2,7 @@ use native.Mathlib.Numerals.{add-one}
 use Rattle.definition.specs.Floats.{0·0, f64}
 use Rattle.definition.specs.Sheet.{line}
 use Rattle.plane.specs.Measures.{metrics_of_enum}
-use Rattle.laws.specs.Kit.{needs}
+use Rattle.laws.specs.Kit.{rules}
 use Rattle.sheet.proofs.rows.put_line.Statement.{statement}
 use Rattle.sheet.proofs.rows.put_line.Tie as tie
 
@@ -18,11 +18,11 @@ pub put_line_spec : {M : Type 1} → statement M
 put_line_spec =
     tie.close
     (tie.spec
-    (λ c. search needs)
-    (λ c κs. search needs)
-    (λ c. search needs)
-    (λ c κs. search needs)
-    (λ c. search needs)
+    (λ c. search rules)
+    (λ c κs. search rules)
+    (λ c. search rules)
+    (λ c κs. search rules)
+    (λ c. search rules)
     returns
-    (λ c. search needs)
+    (λ c. search rules)
     returns_2)

@@ -1,4 +1,4 @@
-use Rattle.laws.specs.Kit.{sym, ◌∙◌, ap, arith, needs}
+use Rattle.laws.specs.Kit.{sym, ◌∙◌, ap, arith, rules}
 use Rattle.definition.specs.Sheet.{place}
 use Rattle.plane.specs.declared.metrics.Metrics.{Metrics}
 use Rattle.plane.specs.Measures.{metrics_of_enum}
@@ -16,4 +16,4 @@ returns_2 c =
     (c.step.ensures.0 k.m.given.0.1.0 ∙ sym (ap (λ (m : Metrics). place (metrics_of_enum m)) k.m.given.1), omega arith)
 
 pub place_spec : {M : Type 1} → statement M
-place_spec = tie.close (tie.spec (λ c. search needs) (λ c. search needs) (λ c κs. search needs) returns returns_2)
+place_spec = tie.close (tie.spec (λ c. search rules) (λ c. search rules) (λ c κs. search rules) returns returns_2)

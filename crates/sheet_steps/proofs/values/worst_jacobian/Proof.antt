@@ -1,6 +1,6 @@
 use Rattle.definition.specs.Sheet.{values}
 use Rattle.plane.specs.Measures.{metrics_of_enum}
-use Rattle.laws.specs.Kit.{needs}
+use Rattle.laws.specs.Kit.{rules}
 use Rattle.sheet_steps.proofs.values.worst_jacobian.Statement.{statement}
 use Rattle.sheet_steps.proofs.values.worst_jacobian.Tie as tie
 
@@ -13,4 +13,4 @@ unfolding metrics_of_enum values
 returns_2 c = rw c.before.before.m.given.1 c.lesser.ensures
 
 pub worst_jacobian_spec : {M : Type 1} → statement M
-worst_jacobian_spec = tie.close (tie.spec (λ c. search needs) (λ c. search needs) (λ c κs. search needs) returns returns_2)
+worst_jacobian_spec = tie.close (tie.spec (λ c. search rules) (λ c. search rules) (λ c κs. search rules) returns returns_2)

@@ -1,5 +1,5 @@
 -- By the insertion's answer: nothing changed, or the new node is the only side node.
-use Rattle.laws.specs.Kit.{refl, sym, subst, ◌+◌, needs, set}
+use Rattle.laws.specs.Kit.{refl, sym, subst, ◌+◌, rules, set}
 use Rattle.definition.specs.Cells.{node_at}
 use Rattle.definition.specs.Insertion.{insert_along}
 use Rattle.definition.specs.Attempt.{sides_by}
@@ -22,7 +22,7 @@ insert_along_requires c κs =
     (t.requires.0, t.requires.1, can_insert a.w.now a.q.now a.rules a.c a.seat.near a.seat.end a.seat.other a.stance.seed a.inserted t.requires.1 h, t.requires.3)
 
 enum_told : tie.Need-enum-told
-enum_told c = search needs
+enum_told c = search rules
 
 returns : tie.Need-returns
 unfolding sides_by
@@ -118,7 +118,7 @@ pub by_insertion_spec : {M : Type 1} → statement M
 by_insertion_spec =
     tie.close
     (tie.spec
-    insert_along_requires enum_told (λ c κs. search needs) (λ c. search needs) (λ c κs. search needs) (λ c. search needs) (λ c κs. search needs)
-    (λ c. search needs) (λ c κs. search needs) (λ c. search needs) (λ c. search needs) (λ c. search needs) (λ c. search needs) (λ c. search needs) (λ c κs. search needs) (λ c. search needs)
-    (λ c. search needs) (λ c. search needs) returns (λ c. search needs) (λ c. search needs) (λ c. search needs) returns_2 (λ c. search needs) (λ c. search needs) (λ c. search needs) returns_3
-    (λ c. search needs) (λ c. search needs) (λ c. search needs) returns_4 (λ c. search needs) (λ c. search needs) (λ c. search needs) returns_5)
+    insert_along_requires enum_told (λ c κs. search rules) (λ c. search rules) (λ c κs. search rules) (λ c. search rules) (λ c κs. search rules)
+    (λ c. search rules) (λ c κs. search rules) (λ c. search rules) (λ c. search rules) (λ c. search rules) (λ c. search rules) (λ c. search rules) (λ c κs. search rules) (λ c. search rules)
+    (λ c. search rules) (λ c. search rules) returns (λ c. search rules) (λ c. search rules) (λ c. search rules) returns_2 (λ c. search rules) (λ c. search rules) (λ c. search rules) returns_3
+    (λ c. search rules) (λ c. search rules) (λ c. search rules) returns_4 (λ c. search rules) (λ c. search rules) (λ c. search rules) returns_5)

@@ -1,5 +1,5 @@
 -- By the candidates: found, or none and then missing or by insertion.
-use Rattle.laws.specs.Kit.{refl, sym, ◌∙◌, ap, subst, arith, needs, not-true, not-false}
+use Rattle.laws.specs.Kit.{refl, sym, ◌∙◌, ap, subst, arith, rules, not-true, not-false}
 use Rattle.definition.specs.Candidates.{candidates}
 use Rattle.definition.specs.Attempt.{sides_by}
 use Rattle.rules.specs.Settings.{quality_of, settings_of}
@@ -81,5 +81,5 @@ pub side_nodes_spec : {M : Type 1} → statement M
 side_nodes_spec =
     tie.close
     (tie.spec
-    candidates_requires (λ c. search needs) (λ c. search needs) returns (λ c κs. search needs) (λ c. search needs) (λ c. search needs) returns_2
-    by_insertion_requires (λ c. search needs) (λ c. search needs) (λ c. search needs) returns_3)
+    candidates_requires (λ c. search rules) (λ c. search rules) returns (λ c κs. search rules) (λ c. search rules) (λ c. search rules) returns_2
+    by_insertion_requires (λ c. search rules) (λ c. search rules) (λ c. search rules) returns_3)

@@ -1,5 +1,5 @@
 -- `lent::write`: the stores of each kind of list, within the slice.
-use Rattle.laws.specs.Kit.{ap, arith, needs, lit≤, [], ◌∷◌, length-set}
+use Rattle.laws.specs.Kit.{ap, arith, rules, lit≤, [], ◌∷◌, length-set}
 use Rattle.definition.specs.Lists.{concat, flat_map}
 use Rattle.small.specs.Small.{nodes, said}
 use Rattle.small.specs.Lent.{numbers}
@@ -41,19 +41,19 @@ pub write_spec : {M : Type 1} → statement M
 write_spec =
     tie.close
     (tie.spec
-    (λ c. search needs) (λ c. search needs)
+    (λ c. search rules) (λ c. search rules)
     (λ c. simp length-set (omega arith)) (λ c. simp length-set (omega arith)) (λ c. simp length-set (omega arith))
-    (λ c. search needs)
+    (λ c. search rules)
     returns
-    (λ c. search needs) (λ c. search needs)
+    (λ c. search rules) (λ c. search rules)
     (λ c. simp length-set (omega arith)) (λ c. simp length-set (omega arith)) (λ c. simp length-set (omega arith)) (λ c. simp length-set (omega arith)) (λ c. simp length-set (omega arith)) (λ c. simp length-set (omega arith))
-    (λ c. search needs)
+    (λ c. search rules)
     returns_2
-    (λ c. search needs) (λ c. search needs)
+    (λ c. search rules) (λ c. search rules)
     (λ c. simp length-set (omega arith)) (λ c. simp length-set (omega arith)) (λ c. simp length-set (omega arith)) (λ c. simp length-set (omega arith)) (λ c. simp length-set (omega arith)) (λ c. simp length-set (omega arith)) (λ c. simp length-set (omega arith)) (λ c. simp length-set (omega arith)) (λ c. simp length-set (omega arith))
-    (λ c. search needs)
+    (λ c. search rules)
     returns_3
-    (λ c. search needs) (λ c. search needs) (λ c. search needs)
+    (λ c. search rules) (λ c. search rules) (λ c. search rules)
     returns_4
-    (λ c. search needs) (λ c. search needs)
+    (λ c. search rules) (λ c. search rules)
     returns_5)

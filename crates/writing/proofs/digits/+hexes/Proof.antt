@@ -1,5 +1,5 @@
 -- `digits::hexes` calls itself for the digits before the last; the measure is their number.
-use Rattle.laws.specs.Kit.{sym, ℕ, ◌-◌, ◌/◌, ◌<◌, arith, needs, length-set}
+use Rattle.laws.specs.Kit.{sym, ℕ, ◌-◌, ◌/◌, ◌<◌, arith, rules, length-set}
 use Rattle.writing.proofs.Puts.{and_on, one_byte, no_text, same_text}
 use Rattle.writing.proofs.Shows.{hex_none, hex_more, hex_long}
 use borrow.Fn.Kinds.{In}
@@ -50,7 +50,7 @@ hexes_hex_digit_requires : (t : ℕ) → hexes_lts.NeedHexDigitRequires (
   hex_digit_reads.Asked,
   hex_digit_reads.Learnt,
 ) (hexes_at t) hexes.Post
-hexes_hex_digit_requires t c κs = search needs
+hexes_hex_digit_requires t c κs = search rules
 
 hexes_slice_write_out : (t : ℕ) → hexes_lts.NeedSliceWriteOut (
   hexes_below t,

@@ -1,5 +1,5 @@
 -- `digits::number` calls itself for a tenth of the number; the measure is the number.
-use Rattle.laws.specs.Kit.{sym, ap, ℕ, ◌+◌, ◌%◌, ◌<◌, arith, needs, length, length-set}
+use Rattle.laws.specs.Kit.{sym, ap, ℕ, ◌+◌, ◌%◌, ◌<◌, arith, rules, length, length-set}
 use Rattle.writing.proofs.Puts.{and_on, one_byte, same_text}
 use Rattle.writing.proofs.Shows.{show_one, show_more, show_longer}
 use borrow.Fn.Kinds.{In}
@@ -21,11 +21,11 @@ number_below t = and 1 number_kinds.ps (falls 1 number_kinds.ps ◌<◌ μ-numbe
 
 number_cast_out :
     (t : ℕ) → number_lts.NeedOverflowCastOut (number_below t, number.Post) (number_at t) number.Post
-number_cast_out t c = search needs
+number_cast_out t c = search rules
 
 number_add_out :
     (t : ℕ) → number_lts.NeedOverflowAddOut (number_below t, number.Post) (number_at t) number.Post
-number_add_out t c = search needs
+number_add_out t c = search rules
 
 number_slice_write_out :
     (t : ℕ) →
@@ -38,7 +38,7 @@ number_add_result t c = omega (arith, ap length (show_one c.before.before.args.n
 
 number_same_length :
     (t : ℕ) → number_lts.NeedSameLength (number_below t, number.Post) (number_at t) number.Post
-number_same_length t c = search needs
+number_same_length t c = search rules
 
 number_returns :
     (t : ℕ) → number_lts.NeedReturns (number_below t, number.Post) (number_at t) number.Post
@@ -51,11 +51,11 @@ number_number_requires t c κs = omega (arith, show_longer c.before.before.befor
 
 number_cast_out_2 :
     (t : ℕ) → number_lts.NeedOverflowCastOut2 (number_below t, number.Post) (number_at t) number.Post
-number_cast_out_2 t c = search needs
+number_cast_out_2 t c = search rules
 
 number_add_out_2 :
     (t : ℕ) → number_lts.NeedOverflowAddOut2 (number_below t, number.Post) (number_at t) number.Post
-number_add_out_2 t c = search needs
+number_add_out_2 t c = search rules
 
 number_slice_write_out_2 : (t : ℕ) → number_lts.NeedSliceWriteOut2 (
   number_below t,

@@ -1,5 +1,5 @@
 -- `digits::bits_then`: sixteen digits, then the byte.
-use Rattle.laws.specs.Kit.{arith, needs}
+use Rattle.laws.specs.Kit.{arith, rules}
 use Rattle.writing.proofs.Puts.{and_next, one_byte}
 use Rattle.writing.proofs.Shows.{hex_long}
 use Rattle.definition.specs.Text.{show_bits}
@@ -24,4 +24,4 @@ returns c =
     }
 
 pub bits_then_spec : {M : Type 1} → statement M
-bits_then_spec = tie.close (tie.spec (λ c κs. search needs) slice_write_out add_result (λ c. search needs) returns)
+bits_then_spec = tie.close (tie.spec (λ c κs. search rules) slice_write_out add_result (λ c. search rules) returns)

@@ -1,5 +1,5 @@
 -- `digits::fixed`. Invariant: i bytes of the text are written, and the next goes to p.
-use Rattle.laws.specs.Kit.{◌≡◌, refl, sym, ◌+◌, ◌-◌, ◌≤◌, arith, needs, length, get_or, take, length-set, now}
+use Rattle.laws.specs.Kit.{◌≡◌, refl, sym, ◌+◌, ◌-◌, ◌≤◌, arith, rules, length, get_or, take, length-set, now}
 use Rattle.writing.proofs.Puts.{and_next, one_byte, no_text, same_text}
 use native.Mathlib.Numerals.{add-one}
 use lib.Seq.{take-suc, take_all}
@@ -31,5 +31,5 @@ pub fixed_spec : {M : Type 1} → statement M
 fixed_spec =
     tie.close
     (tie.spec
-    invariant_loop decreases_loop (λ c. (omega arith, omega arith, refl, no_text _ _)) (λ c. search needs) (λ c. omega arith) (λ c. search needs) (λ c. search needs)
-    (λ c. search needs) loop_again (λ c. c.before.loop.invariant.2) returns)
+    invariant_loop decreases_loop (λ c. (omega arith, omega arith, refl, no_text _ _)) (λ c. search rules) (λ c. omega arith) (λ c. search rules) (λ c. search rules)
+    (λ c. search rules) loop_again (λ c. c.before.loop.invariant.2) returns)

@@ -1,5 +1,5 @@
 -- `digits::number_then`: at most ten digits, then the byte.
-use Rattle.laws.specs.Kit.{arith, needs}
+use Rattle.laws.specs.Kit.{arith, rules}
 use Rattle.writing.proofs.Puts.{and_next, one_byte}
 use Rattle.writing.proofs.Shows.{show_short}
 use Rattle.writing.proofs.digits.number_then.Statement.{statement}
@@ -25,4 +25,4 @@ returns c =
     }
 
 pub number_then_spec : {M : Type 1} → statement M
-number_then_spec = tie.close (tie.spec number_requires slice_write_out add_result (λ c. search needs) returns)
+number_then_spec = tie.close (tie.spec number_requires slice_write_out add_result (λ c. search rules) returns)

@@ -1,5 +1,5 @@
 -- `lines::added`. Invariant: the points from k up to i are written, a line each.
-use Rattle.laws.specs.Kit.{◌≡◌, refl, ◌∙◌, ap, ℕ, ◌+◌, ◌-◌, ◌*◌, ◌≤◌, arith, needs, map, length, drop, now, binary64, nan, to_bits}
+use Rattle.laws.specs.Kit.{◌≡◌, refl, ◌∙◌, ap, ℕ, ◌+◌, ◌-◌, ◌*◌, ◌≤◌, arith, rules, map, length, drop, now, binary64, nan, to_bits}
 use Rattle.writing.proofs.Puts.{and_next, no_text, same_text}
 use Rattle.writing.proofs.Rows.{point_more, no_lines}
 use Rattle.definition.specs.Lists.{rows}
@@ -49,6 +49,6 @@ pub added_spec : {M : Type 1} → statement M
 added_spec =
     tie.close
     (tie.spec
-    invariant_loop decreases_loop loop_holds (λ c. search needs) (λ c. search needs) (λ c. search needs) (λ c κs. search needs) (λ c. search needs) (λ c. search needs)
-    (λ c. search needs) (λ c κs. search needs) (λ c. search needs) (λ c. search needs) (λ c. search needs) (λ c κs. search needs) place_requires
-    (λ c. search needs) (λ c. search needs) loop_again (λ c. c.before.loop.invariant.3) returns)
+    invariant_loop decreases_loop loop_holds (λ c. search rules) (λ c. search rules) (λ c. search rules) (λ c κs. search rules) (λ c. search rules) (λ c. search rules)
+    (λ c. search rules) (λ c κs. search rules) (λ c. search rules) (λ c. search rules) (λ c. search rules) (λ c κs. search rules) place_requires
+    (λ c. search rules) (λ c. search rules) loop_again (λ c. c.before.loop.invariant.3) returns)

@@ -1,5 +1,5 @@
 -- `lines::given`. Invariant: i points are written, a line each.
-use Rattle.laws.specs.Kit.{◌≡◌, refl, ◌∙◌, ap, ℕ, ◌+◌, ◌-◌, ◌*◌, ◌≤◌, arith, needs, length, now}
+use Rattle.laws.specs.Kit.{◌≡◌, refl, ◌∙◌, ap, ℕ, ◌+◌, ◌-◌, ◌*◌, ◌≤◌, arith, rules, length, now}
 use Rattle.writing.proofs.Puts.{and_next, no_text, same_text}
 use Rattle.writing.proofs.Rows.{place_more, no_lines}
 use Rattle.definition.specs.Lists.{rows}
@@ -40,6 +40,6 @@ pub given_spec : {M : Type 1} → statement M
 given_spec =
     tie.close
     (tie.spec
-    invariant_loop decreases_loop loop_holds (λ c. search needs) (λ c. search needs) (λ c. search needs) (λ c. search needs) (λ c. search needs) (λ c. search needs)
-    (λ c. search needs) (λ c. search needs) (λ c. search needs) (λ c κs. search needs) (λ c. search needs) (λ c. search needs) loop_again
+    invariant_loop decreases_loop loop_holds (λ c. search rules) (λ c. search rules) (λ c. search rules) (λ c. search rules) (λ c. search rules) (λ c. search rules)
+    (λ c. search rules) (λ c. search rules) (λ c. search rules) (λ c κs. search rules) (λ c. search rules) (λ c. search rules) loop_again
     (λ c. c.before.loop.invariant.2) returns)

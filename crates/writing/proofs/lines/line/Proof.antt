@@ -1,6 +1,6 @@
 -- `lines::line`.
 -- Invariant: j numbers are written, a space after each; the last one is written after the loop, with the newline.
-use Rattle.laws.specs.Kit.{◌≡◌, refl, ◌∙◌, ◌+◌, ◌-◌, ◌*◌, ◌≤◌, arith, needs, length, take, drop, now}
+use Rattle.laws.specs.Kit.{◌≡◌, refl, ◌∙◌, ◌+◌, ◌-◌, ◌*◌, ◌≤◌, arith, rules, length, take, drop, now}
 use Rattle.writing.proofs.Puts.{and_next, no_text, same_text}
 use Rattle.writing.proofs.Rows.{spaced, spaced_next, line_next}
 use Rattle.definition.specs.Text.{show}
@@ -48,5 +48,5 @@ pub line_spec : {M : Type 1} → statement M
 line_spec =
     tie.close
     (tie.spec
-    invariant_loop decreases_loop loop_holds (λ c. search needs) (λ c. search needs) (λ c. search needs) (λ c. search needs) (λ c κs. search needs) (λ c. search needs)
-    (λ c. search needs) loop_again (λ c. search needs) (λ c. search needs) (λ c. search needs) (λ c κs. search needs) same_length returns)
+    invariant_loop decreases_loop loop_holds (λ c. search rules) (λ c. search rules) (λ c. search rules) (λ c. search rules) (λ c κs. search rules) (λ c. search rules)
+    (λ c. search rules) loop_again (λ c. search rules) (λ c. search rules) (λ c. search rules) (λ c κs. search rules) same_length returns)

@@ -1,5 +1,5 @@
 -- `lines::place`: three values, each with its byte.
-use Rattle.laws.specs.Kit.{arith, needs, append_assoc}
+use Rattle.laws.specs.Kit.{arith, rules, append_assoc}
 use Rattle.writing.proofs.Puts.{and_next, same_text}
 use Rattle.definition.specs.Text.{line_of}
 use Rattle.writing.proofs.lines.place.Statement.{statement}
@@ -20,4 +20,4 @@ returns c =
     }
 
 pub place_spec : {M : Type 1} → statement M
-place_spec = tie.close (tie.spec (λ c κs. search needs) (λ c κs. search needs) (λ c κs. search needs) (λ c. search needs) returns)
+place_spec = tie.close (tie.spec (λ c κs. search rules) (λ c κs. search rules) (λ c κs. search rules) (λ c. search rules) returns)

@@ -1,5 +1,5 @@
 -- `lines::table`. Invariant: i rows are written, a line each; the next begins at `from`.
-use Rattle.laws.specs.Kit.{◌≡◌, refl, ◌∙◌, ap, ℕ, ◌+◌, ◌-◌, ◌*◌, ◌≤◌, arith, needs, mul-le-mul_left, length, now}
+use Rattle.laws.specs.Kit.{◌≡◌, refl, ◌∙◌, ap, ℕ, ◌+◌, ◌-◌, ◌*◌, ◌≤◌, arith, rules, mul-le-mul_left, length, now}
 use Rattle.writing.proofs.Puts.{and_next, no_text, same_text}
 use Rattle.writing.proofs.Rows.{lines_more, no_lines}
 use Rattle.definition.specs.Lists.{rows}
@@ -51,5 +51,5 @@ pub table_spec : {M : Type 1} → statement M
 table_spec =
     tie.close
     (tie.spec
-    invariant_loop decreases_loop loop_holds (λ c κs. omega (arith, fits_next c.before)) add_from (λ c. search needs) (λ c. search needs) loop_again
+    invariant_loop decreases_loop loop_holds (λ c κs. omega (arith, fits_next c.before)) add_from (λ c. search rules) (λ c. search rules) loop_again
     (λ c. c.before.loop.invariant.3) returns)

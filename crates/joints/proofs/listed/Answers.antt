@@ -1,0 +1,35 @@
+-- No joint passed is u-v; the first that is answers.
+use Rattle.laws.specs.Kit.{◌≡◌, sym, ◌∙◌, false, ℕ, ◌-◌, ◌<◌, ◌≤◌, arith, rules, not-suc-le-zero}
+use borrow.Author.Count.{below_more}
+use Rattle.definition.specs.Cells.{same_edge}
+use Rattle.joints.specs.Table.{edge_in}
+use Rattle.joints.proofs.Searches.{unlisted, found}
+use Rattle.joints.proofs.listed.Goals as goal
+
+pub bounds-j-1024 : goal.bounds-j-1024
+bounds-j-1024 c = omega (arith, c.requires.1.long)
+
+pub loop-i-init : goal.loop-i-init
+loop-i-init c = (omega arith, λ k h. absurd (not-suc-le-zero h))
+
+pub is_joint-requires : goal.is_joint-requires
+is_joint-requires c =
+    let k = c.requires.1 in
+    omega (arith, k.long, k.few, c.wide-n.ensures)
+
+pub returns-then-is_joint : goal.returns-then-is_joint
+returns-then-is_joint c = λ es h.
+    let g = c in
+    let a = g.args in
+    sym (found a.j.now es h (a.u, a.v) g.loop-i.i (omega (arith, g.wide-n.ensures)) (sym c.is_joint.ensures ∙ c.if-is_joint.true))
+
+pub loop-i-preserved : goal.loop-i-preserved
+loop-i-preserved c =
+    let g = c in
+    (omega arith, below_more _ _ g.loop-i.invariant.1 (sym c.is_joint.ensures ∙ c.if-is_joint.false))
+
+pub returns : goal.returns
+returns c = λ es h.
+    let l = c.loop-i in
+    let a = c.args in
+    sym (unlisted a.j.now es h (a.u, a.v) (λ k b. l.invariant.1 k (omega (arith, c.wide-n.ensures))))
