@@ -35,6 +35,7 @@ has_step f x y l k (there h) e r = let z = r h in (there z.0, z.1)
 
 pub has_filter : (f : Live → Bool) {x : Live} (l : List Live) → Has x (filter f l) → Has x l × (f x ≡ true)
 unfolding filter
+has_filter f {x = x} [] h = elim h [ ]
 has_filter f {x} (y ∷ l) h = go (f y) refl (has_filter f l)
   where
     go : (b : Bool) → f y ≡ b → (Has x (filter f l) → Has x l × (f x ≡ true)) → Has x (y ∷ l) × (f x ≡ true)
@@ -260,5 +261,6 @@ slots_without c (e ∷ l) = go (decide e.slot c) (slots_without c l)
 
 -- two words for a member
 pub in_has : (x : Live) (l : List Live) → In x l → Has x l
+in_has x [] x'' = elim x'' [ ]
 in_has x (y ∷ l) (inl e) = subst (λ (z : Live). Has x (z ∷ l)) e here
 in_has x (y ∷ l) (inr i) = there (in_has x l i)

@@ -164,6 +164,8 @@ floor_test (fin t n g) s N D R h (p, q) =
 
 pub tested_so : (x : Float) → Ok binary64 x → Within (whole binary64 x) (8 * 2 ^ 1074) → is_whole_part x ≡ on_grid x
 unfolding is_whole_part on_grid whole
+tested_so (inf _) o w = elim o [ ]
+tested_so nan o w = elim o [ ]
 tested_so (fin s m e) o w =
     let g = mag binary64 (fin s m e) in
     let h = size s g (8 * 2 ^ 1074) w in

@@ -65,6 +65,7 @@ unfolding insert_shares 0·3 0·4 0·5 0·6 0·7 0·8 0·9 1·0 f64 of_bits
 shares_small = ((tt, lit≤ tt), ((tt, lit≤ tt), ((tt, lit≤ tt), ((tt, lit≤ tt), ((tt, lit≤ tt), ((tt, lit≤ tt), ((tt, lit≤ tt), ((tt, lit≤ tt), tt))))))))
 
 pub from_all : {A : Type 0} (P : A → Type 0) (xs : List A) (x : A) → All P xs → x ∈ xs → P x
+from_all {A = A} P mathlib.Core.List.[] x _ x5 = elim x5 [ ]
 from_all P (y ∷ ys) x (p, ps) (inl e) = subst P (sym e) p
 from_all P (y ∷ ys) x (p, ps) (inr m) = from_all P ys x ps m
 
@@ -75,6 +76,8 @@ share_small x m = from_all (Size 1) insert_shares x shares_small m
 
 neg_ok : (x : Float) → Ok binary64 x → Ok binary64 (neg x)
 unfolding neg
+neg_ok (inf _) o = elim o [ ]
+neg_ok nan o = elim o [ ]
 neg_ok (fin s m e) o = neg-fits binary64 (fin s m e) o
 
 abbrev Component : Float → Whole → Type 0

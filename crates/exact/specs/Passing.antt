@@ -84,6 +84,8 @@ greater_ok x y o u = go (lt x y) (lt_whole binary64 x y o u) (not_lt binary64 x 
 
 first_greater : (y : Float) → Ok binary64 y → greater (inf true) y ≡ y
 unfolding greater ◌≺◌ lt
+first_greater (inf _) o = elim o [ ]
+first_greater lib.Ieee.nan o = elim o [ ]
 first_greater (fin s m e) o = refl
 
 -- the largest of four doubles is one, and each is at most that

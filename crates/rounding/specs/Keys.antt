@@ -82,6 +82,13 @@ cut_mono false n d true k g D G h =
 -- by cases: an infinity is its own floor, and what is cut is rounded
 floor_le : (x y : Float) → T (le x y) → T (le (floor x) (floor y))
 unfolding le floor
+floor_le (fin s m e) (inf true) h = elim h [ ]
+floor_le (fin s m e) nan h = elim h [ ]
+floor_le (inf true) nan h = elim h [ ]
+floor_le (inf false) (fin t n d) h = elim h [ ]
+floor_le (inf false) (inf true) h = elim h [ ]
+floor_le (inf false) nan h = elim h [ ]
+floor_le nan y h = elim h [ ]
 floor_le (inf true) (inf true) h = tt
 floor_le (inf true) (inf false) h = tt
 floor_le (inf true) (fin t n d) h = lowest (floor (fin t n d)) (round_real binary64 t (cut t (n * up d) (down d)) 1)
@@ -139,6 +146,13 @@ num_pos (suc n) d h = zero-lt-suc n
 -- two doubles in order, each over a finite number
 over_finite : (x y : Float) (p : ℕ) (g : ℤ) → 0 < p → T (le x y) → T (le (x ⊘ fin false p g) (y ⊘ fin false p g))
 unfolding le div ◌⊘◌
+over_finite (fin s m e) (inf true) p g P h = elim h [ ]
+over_finite (fin s m e) nan p g P h = elim h [ ]
+over_finite (inf true) nan p g P h = elim h [ ]
+over_finite (inf false) (fin t n d) p g P h = elim h [ ]
+over_finite (inf false) (inf true) p g P h = elim h [ ]
+over_finite (inf false) nan p g P h = elim h [ ]
+over_finite nan y p g P h = elim h [ ]
 over_finite (inf true) (inf true) p g P h = tt
 over_finite (inf true) (inf false) p g P h = tt
 over_finite (inf true) (fin t n d) p g P h = rw (div_is t n d p g P) (lowest (round binary64 t (n * up d * down g) (p * up g * down d)) (round_real binary64 t (n * up d * down g) (p * up g * down d)))
@@ -153,6 +167,13 @@ over_finite (fin s m e) (fin t n d) p g P h =
 -- two finite numbers in order, each over a number that may be infinite
 over_le : (b x y : Float) → T (lt 0·0 b) → T (finite x) → T (finite y) → T (le x y) → T (le (x ⊘ b) (y ⊘ b))
 unfolding lt finite div ◌⊘◌ 0·0 f64 of_bits
+over_le (fin true p g) x y B X Y h = elim B [ ]
+over_le (inf true) x y B X Y h = elim B [ ]
+over_le (inf false) (fin s m e) (inf _) B X Y h = elim Y [ ]
+over_le (inf false) (fin s m e) nan B X Y h = elim Y [ ]
+over_le (inf false) (inf _) y B X Y h = elim X [ ]
+over_le (inf false) nan y B X Y h = elim X [ ]
+over_le nan x y B X Y h = elim B [ ]
 over_le (inf false) (fin s m e) (fin t n d) B X Y h = zero_le_zero (unlike s false) (unlike t false)
 over_le (fin false p g) x y B X Y h = over_finite x y p g (num_pos p g B) h
 
@@ -170,6 +191,11 @@ order_clash x y h l = lt_le_clash (floor y) (floor x) l (floor_le x y h)
 -- keys are not in the other order
 key_clash : (b x y : Float) → T (lt 0·0 b) → T (le x y) → T (lt (floor (y ⊘ b)) (floor (x ⊘ b))) → ⊥
 unfolding lt le div floor ◌⊘◌ 0·0 f64 of_bits
+key_clash (fin true p g) x y B h l = elim B [ ]
+key_clash (inf true) x y B h l = elim B [ ]
+key_clash (inf false) (fin s m e) nan B h l = elim h [ ]
+key_clash (inf false) nan y B h l = elim h [ ]
+key_clash nan x y B h l = elim B [ ]
 key_clash (inf false) (inf s) y B h l = not_below_nan (floor (y ⊘ inf false)) l
 key_clash (inf false) (fin s m e) (inf t) B h l = l
 key_clash (inf false) (fin s m e) (fin t n d) B h l = order_clash (fin s m e ⊘ inf false) (fin t n d ⊘ inf false) (zero_le_zero (unlike s false) (unlike t false)) l

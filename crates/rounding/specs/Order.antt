@@ -112,6 +112,20 @@ through s a p t b q u c r Q h k =
 -- `le` is transitive
 pub through_le : (x y z : Float) → T (le x y) → T (le y z) → T (le x z)
 unfolding le
+through_le (fin s m e) (fin t n d) (inf true) h k = elim k [ ]
+through_le (fin s m e) (fin t n d) nan h k = elim k [ ]
+through_le (fin s m e) (inf true) z h k = elim h [ ]
+through_le (fin s m e) (inf false) (fin u i g) h k = elim k [ ]
+through_le (fin s m e) (inf false) (inf true) h k = elim k [ ]
+through_le (fin s m e) (inf false) nan h k = elim k [ ]
+through_le (fin s m e) nan z h k = elim h [ ]
+through_le (inf true) (fin t n d) nan h k = elim k [ ]
+through_le (inf true) (inf t) nan h k = elim k [ ]
+through_le (inf true) nan z h k = elim h [ ]
+through_le (inf false) (fin t n d) z h k = elim h [ ]
+through_le (inf false) (inf true) z h k = elim h [ ]
+through_le (inf false) nan z h k = elim h [ ]
+through_le nan y z h k = elim h [ ]
 through_le (inf true) (inf t) (inf true) h k = tt
 through_le (inf true) (inf t) (inf false) h k = tt
 through_le (inf true) (inf t) (fin u i g) h k = tt
@@ -129,6 +143,13 @@ through_le (fin s m e) (fin t n d) (fin u i g) h k =
 -- x below y, and y at most x: not both
 pub lt_le_clash : (x y : Float) → T (lt x y) → T (le y x) → ⊥
 unfolding lt le
+lt_le_clash (fin s m e) (inf true) h k = elim h [ ]
+lt_le_clash (fin s m e) nan h k = elim h [ ]
+lt_le_clash (inf true) (inf true) h k = elim h [ ]
+lt_le_clash (inf true) nan h k = elim h [ ]
+lt_le_clash (inf false) (fin t n d) h k = elim h [ ]
+lt_le_clash (inf false) nan h k = elim h [ ]
+lt_le_clash nan y h k = elim h [ ]
 lt_le_clash (inf true) (inf false) h k = k
 lt_le_clash (inf true) (fin t n d) h k = k
 lt_le_clash (inf false) (inf t) h k = h
@@ -139,6 +160,10 @@ lt_le_clash (fin s m e) (fin t n d) h k =
 -- y at most x, or x below y, unless one is a NaN
 pub le_or_lt : (x y : Float) → T (not (is_nan x)) → T (not (is_nan y)) → T (le y x) ⊎ T (lt x y)
 unfolding le is_nan
+le_or_lt (fin s m e) nan h k = elim k [ ]
+le_or_lt (inf true) nan h k = elim k [ ]
+le_or_lt (inf false) nan h k = elim k [ ]
+le_or_lt nan y h k = elim h [ ]
 le_or_lt (inf true) (inf true) h k = inl tt
 le_or_lt (inf true) (inf false) h k = inr tt
 le_or_lt (inf true) (fin t n d) h k = inr tt
@@ -160,12 +185,16 @@ le_or_lt (fin s m e) (fin t n d) h k =
 -- the first of two that pass `le` is no NaN
 pub real_left : (x y : Float) → T (le x y) → T (not (is_nan x))
 unfolding le is_nan
+real_left nan y h = elim h [ ]
 real_left (inf s) y h = tt
 real_left (fin s m e) y h = tt
 
 -- the second of two that pass `le` is no NaN
 pub real_right : (x y : Float) → T (le x y) → T (not (is_nan y))
 unfolding le is_nan
+real_right (fin s m e) nan h = elim h [ ]
+real_right (inf s) nan h = elim h [ ]
+real_right nan y h = elim h [ ]
 real_right (inf s) (inf t) h = tt
 real_right (inf s) (fin t n d) h = tt
 real_right (fin s m e) (inf t) h = tt
@@ -174,6 +203,7 @@ real_right (fin s m e) (fin t n d) h = tt
 -- what is no NaN lies between the infinities
 pub lowest : (x : Float) → T (not (is_nan x)) → T (le (inf true) x)
 unfolding le is_nan
+lowest nan h = elim h [ ]
 lowest (inf true) h = tt
 lowest (inf false) h = tt
 lowest (fin s m e) h = tt
@@ -181,6 +211,7 @@ lowest (fin s m e) h = tt
 -- what is no NaN is not above plus infinity
 pub highest : (x : Float) → T (not (is_nan x)) → T (le x (inf false))
 unfolding le is_nan
+highest nan h = elim h [ ]
 highest (inf true) h = tt
 highest (inf false) h = tt
 highest (fin s m e) h = tt
@@ -220,6 +251,13 @@ turned true a true b h = omega arith
 -- with both signs turned, the order of doubles turns
 le_neg : (x y : Float) → T (le x y) → T (le (neg y) (neg x))
 unfolding le neg
+le_neg (fin s m e) (inf true) h = elim h [ ]
+le_neg (fin s m e) nan h = elim h [ ]
+le_neg (inf true) nan h = elim h [ ]
+le_neg (inf false) (fin t n d) h = elim h [ ]
+le_neg (inf false) (inf true) h = elim h [ ]
+le_neg (inf false) nan h = elim h [ ]
+le_neg nan y h = elim h [ ]
 le_neg (inf true) (inf true) h = tt
 le_neg (inf true) (inf false) h = tt
 le_neg (inf true) (fin t n d) h = tt

@@ -1,5 +1,5 @@
 -- `header`: the line of names, then four values, each with its byte.
-use Rattle.laws.specs.Kit.{◌≡◌, rules, drop, now}
+use Rattle.laws.specs.Kit.{◌≡◌, rules, drop}
 use Rattle.reading.proofs.Chains.{found}
 use Rattle.reading.proofs.Heads.{no_names, no_triangles, no_points, no_size, no_rule, all_read, within}
 use Rattle.definition.specs.Text.{exactly, bytes, hex, one_digit}
@@ -8,53 +8,50 @@ use Rattle.reading.proofs.header.Statement.{statement}
 use Rattle.reading.proofs.header.Tie as tie
 
 -- the values that were read
-
-read_a : (c : tie.After-known-told) → taken (now c.before.before.before.before.before.before.args.s) tt c.before.a.given.0.0 ≡ exactly (bytes "triangles points size stop\n") (now c.before.before.before.before.before.before.args.s)
+read_a : (c : tie.In-To) → taken c.args.s.now tt c.in-To.a ≡ exactly (bytes "triangles points size stop\n") c.args.s.now
 unfolding bytes
-read_a c = found (step_as (now c.before.before.before.before.before.before.args.s)) c.before.before.before.expect.ensures c.before.a.given.1
+read_a c = found (step_as c.args.s.now) c.expect.ensures c.in-To.is
 
-read_triangles : (c : tie.After-known-told2) → taken (now c.before.before.before.before.before.before.before.before.before.before.args.s) c.before.triangles.given.0.0 c.before.triangles.given.0.1.0 ≡ and_then 32 (up_to 64) (drop c.before.before.before.before.before.a.given.0.0 (now c.before.before.before.before.before.before.before.before.before.before.args.s))
-read_triangles c = found (number_as (now c.before.before.before.before.before.before.before.before.before.before.args.s)) c.before.before.before.decimal_then.ensures c.before.triangles.given.1
+read_triangles : (c : tie.In-Is) → taken c.args.s.now c.in-Is.triangles c.in-Is.b ≡ and_then 32 (up_to 64) (drop c.in-To.a c.args.s.now)
+read_triangles c = found (number_as c.args.s.now) c.decimal_then.ensures c.in-Is.is
 
-read_points : (c : tie.After-known-told3) → taken (now c.before.before.before.before.before.before.before.before.before.before.before.before.before.before.args.s) c.before.points.given.0.0 c.before.points.given.0.1.0 ≡ and_then 32 (up_to 64) (drop c.before.before.before.before.before.triangles.given.0.1.0 (now c.before.before.before.before.before.before.before.before.before.before.before.before.before.before.args.s))
-read_points c = found (number_as (now c.before.before.before.before.before.before.before.before.before.before.before.before.before.before.args.s)) c.before.before.before.decimal_then2.ensures c.before.points.given.1
+read_points : (c : tie.In-Is-decimal_then) → taken c.args.s.now c.in-Is-decimal_then.points c.in-Is-decimal_then.c ≡ and_then 32 (up_to 64) (drop c.in-Is.b c.args.s.now)
+read_points c = found (number_as c.args.s.now) c.decimal_then-2.ensures c.in-Is-decimal_then.is
 
-read_size : (c : tie.After-known-told4) → taken (now c.before.before.before.before.before.before.before.before.before.before.before.before.before.before.before.before.before.before.args.s) c.before.size.given.0.0 c.before.size.given.0.1.0 ≡ and_then 32 hex (drop c.before.before.before.before.before.points.given.0.1.0 (now c.before.before.before.before.before.before.before.before.before.before.before.before.before.before.before.before.before.before.args.s))
-read_size c = found (bits_as (now c.before.before.before.before.before.before.before.before.before.before.before.before.before.before.before.before.before.before.args.s)) c.before.before.before.bits_then.ensures c.before.size.given.1
+read_size : (c : tie.In-Are) → taken c.args.s.now c.in-Are.size c.in-Are.d ≡ and_then 32 hex (drop c.in-Is-decimal_then.c c.args.s.now)
+read_size c = found (bits_as c.args.s.now) c.bits_then.ensures c.in-Are.is
 
-read_stop : (c : tie.After-known-told5) → taken (now c.before.before.before.before.before.before.before.before.before.before.before.before.before.before.before.before.before.before.before.before.before.before.args.s) c.before.stop.given.0.0 c.before.stop.given.0.1.0 ≡ and_then 10 one_digit (drop c.before.before.before.before.before.size.given.0.1.0 (now c.before.before.before.before.before.before.before.before.before.before.before.before.before.before.before.before.before.before.before.before.before.before.args.s))
-read_stop c = found (number_as (now c.before.before.before.before.before.before.before.before.before.before.before.before.before.before.before.before.before.before.before.before.before.before.args.s)) c.before.before.before.digit_then.ensures c.before.stop.given.1
+read_stop : (c : tie.In-Is-digit_then) → taken c.args.s.now c.in-Is-digit_then.stop c.in-Is-digit_then.next ≡ and_then 10 one_digit (drop c.in-Are.d c.args.s.now)
+read_stop c = found (number_as c.args.s.now) c.digit_then.ensures c.in-Is-digit_then.is
 
-enum_told : tie.Need-enum-told
+enum_told : tie.Need-enum_told-1
 enum_told c = search rules
 
-returns : tie.Need-returns
+returns : tie.Need-returns-in_default
 unfolding bytes
-returns c = record { reads = no_names (now c.before.before.before.before.before.args.s) (now c.before.before.before.before.before.args.s) (found (step_as (now c.before.before.before.before.before.args.s)) c.before.before.expect.ensures c.enum_told.given.1); few = tt }
+returns c = record { reads = no_names c.args.s.now c.args.s.now (found (step_as c.args.s.now) c.expect.ensures c.in_default.is); few = tt }
 
-returns_2 : tie.Need-returns-2
-returns_2 c = record { reads = no_triangles (now c.before.before.before.before.before.before.before.before.before.args.s) (now c.before.before.before.before.before.before.before.before.before.args.s) c.before.before.before.before.a.given.0.0 (read_a c.before.before.before) (found (number_as (now c.before.before.before.before.before.before.before.before.before.args.s)) c.before.before.decimal_then.ensures c.enum_told2.given.1); few = tt }
+returns_2 : tie.Need-returns-in_default-decimal_then
+returns_2 c = record { reads = no_triangles c.args.s.now c.args.s.now c.in-To.a (read_a c.before.before.before) (found (number_as c.args.s.now) c.decimal_then.ensures c.in_default-decimal_then.is); few = tt }
 
-returns_3 : tie.Need-returns-3
-returns_3 c = record { reads = no_points (now c.before.before.before.before.before.before.before.before.before.before.before.before.before.args.s) (now c.before.before.before.before.before.before.before.before.before.before.before.before.before.args.s) c.before.before.before.before.before.before.before.before.a.given.0.0 (read_a c.before.before.before.before.before.before.before) c.before.before.before.before.triangles.given.0.0 c.before.before.before.before.triangles.given.0.1.0 (read_triangles c.before.before.before) (found (number_as (now c.before.before.before.before.before.before.before.before.before.before.before.before.before.args.s)) c.before.before.decimal_then2.ensures c.enum_told3.given.1); few = tt }
+returns_3 : tie.Need-returns-in_default-decimal_then-2
+returns_3 c = record { reads = no_points c.args.s.now c.args.s.now c.in-To.a (read_a c.before.before.before.before.before.before.before.before.before.before) c.in-Is.triangles c.in-Is.b (read_triangles c.before.before.before) (found (number_as c.args.s.now) c.decimal_then-2.ensures c.in_default-decimal_then-2.is); few = tt }
 
-returns_4 : tie.Need-returns-4
-returns_4 c = record { reads = no_size (now c.before.before.before.before.before.before.before.before.before.before.before.before.before.before.before.before.before.args.s) (now c.before.before.before.before.before.before.before.before.before.before.before.before.before.before.before.before.before.args.s) c.before.before.before.before.before.before.before.before.before.before.before.before.a.given.0.0 (read_a c.before.before.before.before.before.before.before.before.before.before.before) c.before.before.before.before.before.before.before.before.triangles.given.0.0 c.before.before.before.before.before.before.before.before.triangles.given.0.1.0 (read_triangles c.before.before.before.before.before.before.before) c.before.before.before.before.points.given.0.0 c.before.before.before.before.points.given.0.1.0 (read_points c.before.before.before) (found (bits_as (now c.before.before.before.before.before.before.before.before.before.before.before.before.before.before.before.before.before.args.s)) c.before.before.bits_then.ensures c.enum_told4.given.1); few = tt }
+returns_4 : tie.Need-returns-in_default-bits_then
+returns_4 c = record { reads = no_size c.args.s.now c.args.s.now c.in-To.a (read_a c.before.before.before.before.before.before.before.before.before.before.before.before) c.in-Is.triangles c.in-Is.b (read_triangles c.before.before.before.before.before.before.before) c.in-Is-decimal_then.points c.in-Is-decimal_then.c (read_points c.before.before.before) (found (bits_as c.args.s.now) c.bits_then.ensures c.in_default-bits_then.is); few = tt }
 
-returns_5 : tie.Need-returns-5
-returns_5 c = record { reads = no_rule (now c.before.before.before.before.before.before.before.before.before.before.before.before.before.before.before.before.before.before.before.before.before.args.s) (now c.before.before.before.before.before.before.before.before.before.before.before.before.before.before.before.before.before.before.before.before.before.args.s) c.before.before.before.before.before.before.before.before.before.before.before.before.before.before.before.before.a.given.0.0 (read_a c.before.before.before.before.before.before.before.before.before.before.before.before.before.before.before) c.before.before.before.before.before.before.before.before.before.before.before.before.triangles.given.0.0 c.before.before.before.before.before.before.before.before.before.before.before.before.triangles.given.0.1.0 (read_triangles c.before.before.before.before.before.before.before.before.before.before.before) c.before.before.before.before.before.before.before.before.points.given.0.0 c.before.before.before.before.before.before.before.before.points.given.0.1.0 (read_points c.before.before.before.before.before.before.before) c.before.before.before.before.size.given.0.0 c.before.before.before.before.size.given.0.1.0 (read_size c.before.before.before) (found (number_as (now c.before.before.before.before.before.before.before.before.before.before.before.before.before.before.before.before.before.before.before.before.before.args.s)) c.before.before.digit_then.ensures c.enum_told5.given.1); few = tt }
+returns_5 : tie.Need-returns-in_default-digit_then
+returns_5 c = record { reads = no_rule c.args.s.now c.args.s.now c.in-To.a (read_a c.before.before.before.before.before.before.before.before.before.before.before.before.before.before.before) c.in-Is.triangles c.in-Is.b (read_triangles c.before.before.before.before.before.before.before.before.before.before.before) c.in-Is-decimal_then.points c.in-Is-decimal_then.c (read_points c.before.before.before.before.before.before.before) c.in-Are.size c.in-Are.d (read_size c.before.before.before) (found (number_as c.args.s.now) c.digit_then.ensures c.in_default-digit_then.is); few = tt }
 
-returns_6 : tie.Need-returns-6
+returns_6 : tie.Need-returns
 returns_6 c =
     record {
-      reads = all_read (now c.before.before.before.before.before.before.before.before.before.before.before.before.before.before.before.before.before.before.before.before.before.before.args.s) (now c.before.before.before.before.before.before.before.before.before.before.before.before.before.before.before.before.before.before.before.before.before.before.args.s) c.before.before.before.before.before.before.before.before.before.before.before.before.before.before.before.before.before.a.given.0.0 (read_a c.before.before.before.before.before.before.before.before.before.before.before.before.before.before.before.before) c.before.before.before.before.before.before.before.before.before.before.before.before.before.triangles.given.0.0 c.before.before.before.before.before.before.before.before.before.before.before.before.before.triangles.given.0.1.0 (read_triangles c.before.before.before.before.before.before.before.before.before.before.before.before) c.before.before.before.before.before.before.before.before.before.points.given.0.0 c.before.before.before.before.before.before.before.before.before.points.given.0.1.0 (read_points c.before.before.before.before.before.before.before.before) c.before.before.before.before.before.size.given.0.0 c.before.before.before.before.before.size.given.0.1.0 (read_size c.before.before.before.before) c.before.stop.given.0.0 c.before.stop.given.0.1.0 (read_stop c);
-      few = (within (now c.before.before.before.before.before.before.before.before.before.before.before.before.before.before.before.before.before.before.before.before.before.before.args.s) 64 32 c.before.before.before.before.before.before.before.before.before.before.before.before.before.triangles.given.0.0 c.before.before.before.before.before.before.before.before.before.before.before.before.before.triangles.given.0.1.0 _ (read_triangles c.before.before.before.before.before.before.before.before.before.before.before.before), within (now c.before.before.before.before.before.before.before.before.before.before.before.before.before.before.before.before.before.before.before.before.before.before.args.s) 64 32 c.before.before.before.before.before.before.before.before.before.points.given.0.0 c.before.before.before.before.before.before.before.before.before.points.given.0.1.0 _ (read_points c.before.before.before.before.before.before.before.before));
+      reads = all_read c.args.s.now c.args.s.now c.in-To.a (read_a c.before.before.before.before.before.before.before.before.before.before.before.before.before.before.before.before) c.in-Is.triangles c.in-Is.b (read_triangles c.before.before.before.before.before.before.before.before.before.before.before.before) c.in-Is-decimal_then.points c.in-Is-decimal_then.c (read_points c.before.before.before.before.before.before.before.before) c.in-Are.size c.in-Are.d (read_size c.before.before.before.before) c.in-Is-digit_then.stop c.in-Is-digit_then.next (read_stop c);
+      few = (within c.args.s.now 64 32 c.in-Is.triangles c.in-Is.b _ (read_triangles c.before.before.before.before.before.before.before.before.before.before.before.before), within c.args.s.now 64 32 c.in-Is-decimal_then.points c.in-Is-decimal_then.c _ (read_points c.before.before.before.before.before.before.before.before));
     }
 
 pub header_spec : {M : Type 1} → statement M
 header_spec =
     tie.close
     (tie.spec
-    (λ c. search rules) (λ c κs. search rules) (λ c. search rules) enum_told returns (λ c κs. search rules) (λ c. search rules) (λ c. search rules)
-    returns_2 (λ c κs. search rules) (λ c. search rules) (λ c. search rules) returns_3 (λ c κs. search rules) (λ c. search rules) (λ c. search rules)
-    returns_4 (λ c κs. search rules) (λ c. search rules) (λ c. search rules) returns_5 (λ c. search rules) (λ c. search rules) returns_6)
+    (λ c. search rules) (λ c. search rules) enum_told returns (λ c κs. search rules) (λ c. search rules) (λ c. search rules) returns_2 (λ c κs. search rules) (λ c. search rules) (λ c. search rules) returns_3 (λ c κs. search rules) (λ c. search rules) (λ c. search rules) returns_4 (λ c κs. search rules) (λ c. search rules) (λ c. search rules) returns_5 (λ c. search rules) (λ c. search rules) returns_6)

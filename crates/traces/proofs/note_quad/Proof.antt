@@ -14,93 +14,92 @@ within t h =
     let p = t.requires.0 in
     placed_within p.0 a.t.now a.w.now a.at a.from a.n a.g p.3 p.4 p.1 p.2 h p.5 p.6
 
-returns : tie.Need-returns
-returns c =
-    let a = c.before.before.before.args in
-    λ base m m' q ids h k. log_none base a.t.now a.at m m' (was_placed q ids) c.if1.true h k.enters
-
-mul_write_quad : tie.Need-overflow-mul-write-quad
-mul_write_quad c =
-    let h = within c.before.before.before c.if1.false in
-    search rules
-
-sub_write_quad : tie.Need-overflow-sub-write-quad
-sub_write_quad c =
-    omega (arith, within c.before.before.before c.if1.false)
-
-part_write_quad_start : tie.Need-slice-bounds-write-quad-start
-part_write_quad_start c =
-    omega (arith, within c.before.before.before c.if1.false)
-
-write_quad_requires : tie.Need-write-quad-requires
-write_quad_requires c κs =
-    let t = c.before.before.before.before in
-    let a = t.args in
-    (middle_length a.t.now a.at 9 (omega (arith, within t c.before.if1.false)), t.requires.1)
-
-abbrev top : tie.After-slice-known2 → tie.Start
+abbrev top : tie.After-slice_known-2-1 → tie.Start
 top c = c.before.before.before.before.before.before.before
 
 -- the slice with the words before the slots
-abbrev first : tie.After-slice-known2 → List ℕ
+abbrev first : tie.After-slice_known-2-1 → List ℕ
 first c =
     let a = (top c).args in
-    put_mid a.at (length a.t.now - a.at) a.t.now c.before.before.write_quad.new.0
+    put_mid a.at (length a.t.now - a.at) a.t.now c.write_quad.new.t
 
-first_length : (c : tie.After-slice-known2) → length (first c) ≡ length (top c).args.t.now
+first_length : (c : tie.After-slice_known-2-1) → length (first c) ≡ length (top c).args.t.now
 first_length c =
     let t = top c in
     let a = t.args in
-    put_length (heads a.g a.n) a.t.now c.before.before.write_quad.new.0 a.at (omega (arith, within t c.before.before.before.before.if1.false))
-    c.before.before.write_quad.ensures
+    put_length (heads a.g a.n) a.t.now c.write_quad.new.t a.at (omega (arith, within t c.if-t-eq0.false))
+    c.write_quad.ensures
 
-add_slots : tie.Need-overflow-add-slots
+returns : tie.Need-returns-then-t-eq0
+returns c =
+    let a = c.args in
+    λ base m m' q ids h k. log_none base a.t.now a.at m m' (was_placed q ids) c.if-t-eq0.true h k.enters
+
+mul_write_quad : tie.Need-offset_bounds-t-at
+mul_write_quad c =
+    let h = within c.before.before.before c.if-t-eq0.false in
+    search rules
+
+sub_write_quad : tie.Need-slice_bounds-write_quad-count
+sub_write_quad c =
+    omega (arith, within c.before.before.before c.if-t-eq0.false)
+
+part_write_quad_start : tie.Need-slice_bounds-write_quad-start
+part_write_quad_start c =
+    omega (arith, within c.before.before.before c.if-t-eq0.false)
+
+write_quad_requires : tie.Need-write_quad-requires
+write_quad_requires c κs =
+    let t = c in
+    let a = t.args in
+    (middle_length a.t.now a.at 9 (omega (arith, within t.before.before.before.before c.if-t-eq0.false)), t.requires.1)
+
+add_slots : tie.Need-overflow_add-slots
 add_slots c =
-    let h = within (top c) c.before.before.before.before.if1.false in
+    let h = within (top c) c.if-t-eq0.false in
     search rules
 
-mul_copy_words : tie.Need-overflow-mul-copy-words
+mul_copy_words : tie.Need-offset_bounds-t-slots
 mul_copy_words c =
-    let h = within (top c) c.before.before.before.before.if1.false in
+    let h = within (top c) c.if-t-eq0.false in
     search rules
 
-sub_copy_words : tie.Need-overflow-sub-copy-words
+sub_copy_words : tie.Need-slice_bounds-copy_words-count
 sub_copy_words c =
     let k = first_length c in
-    omega (arith, k, within (top c) c.before.before.before.before.if1.false)
+    omega (arith, k, within (top c) c.if-t-eq0.false)
 
-part_copy_words_start : tie.Need-slice-bounds-copy-words-start
+part_copy_words_start : tie.Need-slice_bounds-copy_words-start
 part_copy_words_start c =
     let k = first_length c in
-    omega (arith, k, within (top c) c.before.before.before.before.if1.false)
+    omega (arith, k, within (top c) c.if-t-eq0.false)
 
-copy_words_requires : tie.Need-copy-words-requires
+copy_words_requires : tie.Need-copy_words-requires
 copy_words_requires c κs =
-    let s = c.before in
-    let t = top s in
-    let k = first_length s in
-    let h = within t s.before.before.before.before.if1.false in
-    (middle_length (first s) (t.args.at + 9) t.args.n (omega (arith, k, h)), t.pre.0.6.slots.fits)
+    let s = c in
+    let t = top s.before in
+    let k = first_length s.before in
+    let h = within t s.if-t-eq0.false in
+    (middle_length (first s.before) (t.args.at + 9) t.args.n (omega (arith, k, h)), t.well_formed.6.slots.fits)
 
-add_result : tie.Need-overflow-add-result
+add_result : tie.Need-overflow_add-result
 add_result c =
-    let s = c.before.before.before.before in
-    let h = within (top s) s.before.before.before.before.if1.false in
+    let s = c in
+    let h = within (top s.before.before.before.before) s.if-t-eq0.false in
     search rules
 
-returns_2 : tie.Need-returns-2
+returns_2 : tie.Need-returns
 returns_2 c =
-    let e = c.before.before in
-    let s = e.before.before in
-    let t = top s in
+    let e = c in
+    let s = e in
+    let t = top s.before.before.before.before in
     let a = t.args in
     λ base m m' q ids h k.
-    log_quad base a.t.now s.before.before.write_quad.new.0 e.copy_words.new.0 a.w.now a.at a.from a.n a.g q ids m m'
-    s.before.before.before.before.if1.false h k s.before.before.write_quad.ensures (first s) refl e.copy_words.ensures
+    log_quad base a.t.now s.write_quad.new.t e.copy_words.new.t a.w.now a.at a.from a.n a.g q ids m m'
+    s.if-t-eq0.false h k s.write_quad.ensures (first s.before.before.before.before) refl e.copy_words.ensures
 
 pub note_quad_spec : {M : Type 1} → statement M
 note_quad_spec =
     tie.close
     (tie.spec
-    returns mul_write_quad sub_write_quad part_write_quad_start (λ c. search rules) write_quad_requires add_slots mul_copy_words sub_copy_words part_copy_words_start
-    (λ c. search rules) copy_words_requires add_result (λ c. search rules) returns_2)
+    returns mul_write_quad sub_write_quad part_write_quad_start (λ c. search rules) write_quad_requires add_slots mul_copy_words sub_copy_words part_copy_words_start (λ c. search rules) copy_words_requires add_result (λ c. search rules) returns_2)

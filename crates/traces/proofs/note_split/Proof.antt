@@ -15,43 +15,43 @@ within t h =
     let p = t.requires.0 in
     enters_within p.0 a.t.now a.at p.1 p.2 (was_split a.i (flat a.x a.y)) h p.3 p.4
 
-returns : tie.Need-returns
+returns : tie.Need-returns-then-t-eq0
 returns c =
-    let a = c.before.before.args in
-    λ base m m' h k. log_none base a.t.now a.at m m' (was_split a.i (flat a.x a.y)) c.if1.true h k
+    let a = c.args in
+    λ base m m' h k. log_none base a.t.now a.at m m' (was_split a.i (flat a.x a.y)) c.if-t-eq0.true h k
 
-mul_write_split : tie.Need-overflow-mul-write-split
+mul_write_split : tie.Need-offset_bounds-t-at
 mul_write_split c =
-    let h = within c.before.before c.if1.false in
+    let h = within c.before.before c.if-t-eq0.false in
     search rules
 
-sub_write_split : tie.Need-overflow-sub-write-split
+sub_write_split : tie.Need-slice_bounds-write_split-count
 sub_write_split c =
-    omega (arith, within c.before.before c.if1.false)
+    omega (arith, within c.before.before c.if-t-eq0.false)
 
-part_write_split_start : tie.Need-slice-bounds-write-split-start
+part_write_split_start : tie.Need-slice_bounds-write_split-start
 part_write_split_start c =
-    omega (arith, within c.before.before c.if1.false)
+    omega (arith, within c.before.before c.if-t-eq0.false)
 
-write_split_requires : tie.Need-write-split-requires
+write_split_requires : tie.Need-write_split-requires
 write_split_requires c κs =
-    let t = c.before.before.before in
+    let t = c in
     let a = t.args in
-    (middle_length a.t.now a.at 6 (within t c.before.if1.false), t.requires.1)
+    (middle_length a.t.now a.at 6 (within t.before.before.before c.if-t-eq0.false), t.requires.1)
 
-add_result : tie.Need-overflow-add-result
+add_result : tie.Need-overflow_add-result
 add_result c =
-    let s = c.before.before in
-    let h = within s.before.before.before.before s.before.before.if1.false in
+    let s = c in
+    let h = within s.before.before.before.before.before.before s.if-t-eq0.false in
     search rules
 
-returns_2 : tie.Need-returns-2
+returns_2 : tie.Need-returns
 unfolding entry two_words
 returns_2 c =
-    let s = c.before.before in
-    let t = s.before.before.before.before in
+    let s = c in
+    let t = s in
     let a = t.args in
-    λ base m m' h k. log_put base a.t.now s.write_split.new.0 a.at (a.at + 6) m m' (was_split a.i (flat a.x a.y)) s.before.before.if1.false h k refl s.write_split.ensures
+    λ base m m' h k. log_put base a.t.now s.write_split.new.t a.at (a.at + 6) m m' (was_split a.i (flat a.x a.y)) s.if-t-eq0.false h k refl s.write_split.ensures
 
 pub note_split_spec : {M : Type 1} → statement M
 note_split_spec =

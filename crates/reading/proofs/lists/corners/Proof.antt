@@ -1,5 +1,5 @@
 -- `lists::corners`: three values one after the other, each with its byte.
-use Rattle.laws.specs.Kit.{◌≡◌, rules, drop, now}
+use Rattle.laws.specs.Kit.{◌≡◌, rules, drop}
 use Rattle.reading.proofs.Chains.{found}
 use Rattle.reading.proofs.Threes.{three_off, three_one, three_two, three_all, node_is}
 use Rattle.reading.specs.Found.{taken, number_as, up_to, and_then}
@@ -7,41 +7,40 @@ use Rattle.reading.proofs.lists.corners.Statement.{statement}
 use Rattle.reading.proofs.lists.corners.Tie as tie
 
 -- the values that were read
-first : (c : tie.After-known-told)
-    → taken (now c.before.before.before.before.before.args.s) c.before.a.given.0.0 c.before.a.given.0.1.0
-    ≡ and_then 32 (up_to 4294967295) (drop c.before.before.before.before.before.args.at (now c.before.before.before.before.before.args.s))
-first c = found (number_as (now c.before.before.before.before.before.args.s)) c.before.before.before.decimal_then.ensures c.before.a.given.1
+first : (c : tie.In-Is)
+    → taken c.args.s.now c.in-Is.a c.in-Is.p
+    ≡ and_then 32 (up_to 4294967295) (drop c.args.at c.args.s.now)
+first c = found (number_as c.args.s.now) c.decimal_then.ensures c.in-Is.is
 
-second : (c : tie.After-known-told2)
-    → taken (now c.before.before.before.before.before.before.before.before.before.args.s) c.before.b.given.0.0 c.before.b.given.0.1.0
-    ≡ and_then 32 (up_to 4294967295) (drop c.before.before.before.before.before.a.given.0.1.0 (now c.before.before.before.before.before.before.before.before.before.args.s))
-second c = found (number_as (now c.before.before.before.before.before.before.before.before.before.args.s)) c.before.before.before.decimal_then2.ensures c.before.b.given.1
+second : (c : tie.In-Is-decimal_then)
+    → taken c.args.s.now c.in-Is-decimal_then.b c.in-Is-decimal_then.q
+    ≡ and_then 32 (up_to 4294967295) (drop c.in-Is.p c.args.s.now)
+second c = found (number_as c.args.s.now) c.decimal_then-2.ensures c.in-Is-decimal_then.is
 
-third : (c : tie.After-known-told3)
-    → taken (now c.before.before.before.before.before.before.before.before.before.before.before.before.before.args.s) c.before.c.given.0.0 c.before.c.given.0.1.0
-    ≡ and_then 10 (up_to 4294967295) (drop c.before.before.before.before.before.b.given.0.1.0 (now c.before.before.before.before.before.before.before.before.before.before.before.before.before.args.s))
-third c = found (number_as (now c.before.before.before.before.before.before.before.before.before.before.before.before.before.args.s)) c.before.before.before.decimal_then3.ensures c.before.c.given.1
+third : (c : tie.In-Is-decimal_then-2)
+    → taken c.args.s.now c.in-Is-decimal_then-2.c c.in-Is-decimal_then-2.next
+    ≡ and_then 10 (up_to 4294967295) (drop c.in-Is-decimal_then.q c.args.s.now)
+third c = found (number_as c.args.s.now) c.decimal_then-3.ensures c.in-Is-decimal_then-2.is
 
-enum_told : tie.Need-enum-told
+enum_told : tie.Need-enum_told-1
 enum_told c = search rules
 
-returns : tie.Need-returns
-returns c = rw node_is (three_off (now c.before.before.before.before.args.s) (up_to 4294967295) _ (found (number_as (now c.before.before.before.before.args.s)) c.before.before.decimal_then.ensures c.enum_told.given.1))
+returns : tie.Need-returns-in_default
+returns c = rw node_is (three_off c.args.s.now (up_to 4294967295) _ (found (number_as c.args.s.now) c.decimal_then.ensures c.in_default.is))
 
-returns_2 : tie.Need-returns-2
-returns_2 c = rw node_is (three_one (now c.before.before.before.before.before.before.before.before.args.s) (up_to 4294967295) _ c.before.before.before.before.a.given.0.0 c.before.before.before.before.a.given.0.1.0 (first c.before.before.before)
-    (found (number_as (now c.before.before.before.before.before.before.before.before.args.s)) c.before.before.decimal_then2.ensures c.enum_told2.given.1))
+returns_2 : tie.Need-returns-in_default-decimal_then
+returns_2 c = rw node_is (three_one c.args.s.now (up_to 4294967295) _ c.in-Is.a c.in-Is.p (first c.before.before.before.before.before.before)
+    (found (number_as c.args.s.now) c.decimal_then-2.ensures c.in_default-decimal_then.is))
 
-returns_3 : tie.Need-returns-3
-returns_3 c = rw node_is (three_two (now c.before.before.before.before.before.before.before.before.before.before.before.before.args.s) (up_to 4294967295) _ c.before.before.before.before.before.before.before.before.a.given.0.0 c.before.before.before.before.before.before.before.before.a.given.0.1.0 (first c.before.before.before.before.before.before.before) c.before.before.before.before.b.given.0.0 c.before.before.before.before.b.given.0.1.0 (second c.before.before.before)
-    (found (number_as (now c.before.before.before.before.before.before.before.before.before.before.before.before.args.s)) c.before.before.decimal_then3.ensures c.enum_told3.given.1))
+returns_3 : tie.Need-returns-in_default-decimal_then-2
+returns_3 c = rw node_is (three_two c.args.s.now (up_to 4294967295) _ c.in-Is.a c.in-Is.p (first c.before.before.before.before.before.before.before.before.before.before) c.in-Is-decimal_then.b c.in-Is-decimal_then.q (second c.before.before.before)
+    (found (number_as c.args.s.now) c.decimal_then-3.ensures c.in_default-decimal_then-2.is))
 
-returns_4 : tie.Need-returns-4
-returns_4 c = rw node_is (three_all (now c.before.before.before.before.before.before.before.before.before.before.before.before.before.args.s) (up_to 4294967295) _ c.before.before.before.before.before.before.before.before.before.a.given.0.0 c.before.before.before.before.before.before.before.before.before.a.given.0.1.0 (first c.before.before.before.before.before.before.before.before) c.before.before.before.before.before.b.given.0.0 c.before.before.before.before.before.b.given.0.1.0 (second c.before.before.before.before) c.before.c.given.0.0 c.before.c.given.0.1.0 (third c))
+returns_4 : tie.Need-returns
+returns_4 c = rw node_is (three_all c.args.s.now (up_to 4294967295) _ c.in-Is.a c.in-Is.p (first c.before.before.before.before.before.before.before.before) c.in-Is-decimal_then.b c.in-Is-decimal_then.q (second c.before.before.before.before) c.in-Is-decimal_then-2.c c.in-Is-decimal_then-2.next (third c))
 
 pub corners_spec : {M : Type 1} → statement M
 corners_spec =
     tie.close
     (tie.spec
-    (λ c κs. search rules) (λ c. search rules) enum_told returns (λ c κs. search rules) (λ c. search rules) (λ c. search rules) returns_2
-    (λ c κs. search rules) (λ c. search rules) (λ c. search rules) returns_3 returns_4)
+    (λ c κs. search rules) (λ c. search rules) enum_told returns (λ c κs. search rules) (λ c. search rules) (λ c. search rules) returns_2 (λ c κs. search rules) (λ c. search rules) (λ c. search rules) returns_3 returns_4)

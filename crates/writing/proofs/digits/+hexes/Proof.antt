@@ -6,7 +6,7 @@ use borrow.Fn.Kinds.{In}
 use borrow.Fn.PlainCycle.{Measures, is, falls, and}
 use Rattle.writing.proofs.digits.hexes.Reads as hexes
 use Rattle.writing.proofs.digits.hexes.Kinds as hexes_kinds
-use Rattle.writing.proofs.digits.+hexes.LtsHexes as hexes_lts
+use Rattle.writing.proofs.digits.+hexes.Lts-hexes as hexes_lts
 use Rattle.writing.proofs.digits.hex_digit.Reads as hex_digit_reads
 use Rattle.writing.proofs.digits.+hexes.{statement}
 use Rattle.writing.proofs.digits.+hexes.Tie.{close}

@@ -6,7 +6,7 @@ use borrow.Fn.Kinds.{In}
 use borrow.Fn.PlainCycle.{Measures, is, falls, and}
 use Rattle.writing.proofs.digits.number.Reads as number
 use Rattle.writing.proofs.digits.number.Kinds as number_kinds
-use Rattle.writing.proofs.digits.+number.LtsNumber as number_lts
+use Rattle.writing.proofs.digits.+number.Lts-number as number_lts
 use Rattle.writing.proofs.digits.+number.{statement}
 use Rattle.writing.proofs.digits.+number.Tie.{close}
 

@@ -1,0 +1,11 @@
+use Rattle.laws.specs.Kit.{sym, ◌∙◌, ap, ℕ, arith, rules, List}
+use Rattle.definition.specs.Plane.{Edge}
+use Rattle.blocked_edges.specs.Records.{head, Lists}
+use Rattle.blocked_edges.proofs.Walks.{Rest, turns, rest_start, rest_hit, rest_more, rest_falls, rest_end}
+use Rattle.blocked_edges.proofs.seek.Given as goal
+
+abbrev pub invariant-loop-i : goal.invariant-loop-i
+invariant-loop-i l = (ever : List Edge) → Lists l.w l.b l.n l.p ever → Rest l.w l.b l.n l.p l.u l.v l.i ever
+
+abbrev pub decreases-loop-i : goal.decreases-loop-i
+decreases-loop-i l = turns l.n l.i

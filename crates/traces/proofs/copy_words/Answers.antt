@@ -1,0 +1,36 @@
+-- The loop's invariant: the first k words are those of w.
+use Rattle.laws.specs.Kit.{◌≡◌, refl, subst, ℕ, ◌-◌, arith, rules, ◌++◌, take, drop}
+use Rattle.traces.proofs.Parts.{Copied, copied_more}
+use Rattle.traces.proofs.copy_words.Goals as goal
+
+pub loop-k-init : goal.loop-k-init
+loop-k-init c =
+    record { within = omega arith; len = refl; are = refl }
+
+pub bounds-w-from : goal.bounds-w-from
+bounds-w-from c =
+    let t = c in
+    omega (arith, t.requires.n_in_bounds_2, c.loop-k-test.true)
+
+pub bounds-t-k : goal.bounds-t-k
+bounds-t-k c =
+    let t = c in
+    omega (arith, t.requires.n_in_bounds, c.loop-k-test.true, c.loop-k.invariant.len)
+
+pub loop-k-preserved : goal.loop-k-preserved
+loop-k-preserved c =
+    let t = c in
+    let a = t.args in
+    let x = c.loop-k in
+    copied_more a.w.now a.t.now x.t a.from a.n x.k t.requires.n_in_bounds t.requires.n_in_bounds_2 c.loop-k-test.true x.invariant
+
+pub shape_of-t : goal.shape_of-t
+shape_of-t c = c.loop-k.invariant.len
+
+pub returns : goal.returns
+returns c =
+    let t = c in
+    let a = t.args in
+    let x = c.loop-k in
+    let e : x.k ≡ a.n = omega (arith, x.invariant.within) in
+    subst (λ (z : ℕ). x.t ≡ take z (drop a.from a.w.now) ++ drop z a.t.now) e x.invariant.are

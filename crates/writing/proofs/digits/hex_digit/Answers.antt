@@ -1,0 +1,9 @@
+-- `digits::hex_digit`: by the test.
+use Rattle.laws.specs.Kit.{rules, lt-ltb, le-ltb}
+use Rattle.writing.proofs.digits.hex_digit.Goals as goal
+
+pub returns-then-d-lt10 : goal.returns-then-d-lt10
+returns-then-d-lt10 c = rw (lt-ltb c.args.d 10 c.if-d-lt10.true)
+
+pub returns : goal.returns
+returns c = rw (le-ltb c.args.d 10 c.if-d-lt10.false)

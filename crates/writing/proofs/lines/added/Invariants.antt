@@ -1,0 +1,13 @@
+use Rattle.laws.specs.Kit.{◌≡◌, refl, ◌∙◌, ap, ℕ, ◌+◌, ◌-◌, ◌*◌, ◌≤◌, arith, rules, map, length, drop, binary64, nan, to_bits}
+use Rattle.writing.proofs.Puts.{and_next, no_text, same_text}
+use Rattle.writing.proofs.Rows.{point_more, no_lines}
+use Rattle.definition.specs.Lists.{rows}
+use Rattle.definition.specs.Text.{show_bits, lines_of, points_between}
+use Rattle.writing.specs.Put.{Written}
+use Rattle.writing.proofs.lines.added.Given as goal
+
+abbrev pub invariant-loop-i : goal.invariant-loop-i
+invariant-loop-i l = (l.k ≤ l.i) × (l.i ≤ l.n) × (l.p ≤ l.at + 51 * (l.i - l.k)) × (length l.out ≡ length l.initial.out) × Written l.initial.out l.out l.at (lines_of show_bits (rows 3 (l.i - l.k) (map (to_bits binary64) (drop (3 * l.k) l.points)))) l.p
+
+abbrev pub decreases-loop-i : goal.decreases-loop-i
+decreases-loop-i l = l.n - l.i

@@ -1,0 +1,13 @@
+use Rattle.laws.specs.Kit.{◌≡◌, refl, ◌∙◌, ap, ℕ, ◌+◌, ◌-◌, ◌*◌, ◌≤◌, arith, rules, length}
+use Rattle.writing.proofs.Puts.{and_next, no_text, same_text}
+use Rattle.writing.proofs.Rows.{place_more, no_lines}
+use Rattle.definition.specs.Lists.{rows}
+use Rattle.definition.specs.Text.{show_bits, lines_of}
+use Rattle.writing.specs.Put.{Written}
+use Rattle.writing.proofs.lines.given.Given as goal
+
+abbrev pub invariant-loop-i : goal.invariant-loop-i
+invariant-loop-i l = (l.i ≤ l.n) × (l.p ≤ l.at + 51 * l.i) × (length l.out ≡ length l.initial.out) × Written l.initial.out l.out l.at (lines_of show_bits (rows 3 l.i l.bits)) l.p
+
+abbrev pub decreases-loop-i : goal.decreases-loop-i
+decreases-loop-i l = l.n - l.i

@@ -1,0 +1,14 @@
+-- `refusal`: the word and the number, each with a newline.
+use Rattle.laws.specs.Kit.{arith, rules}
+use Rattle.writing.proofs.Puts.{and_next}
+use Rattle.writing.proofs.Parts.{at_front}
+use Rattle.definition.specs.Text.{bytes, line_of, show_refusal}
+use Rattle.writing.proofs.refusal.Goals as goal
+
+pub returns : goal.returns
+unfolding bytes show_refusal line_of
+returns c =
+    let a = c in
+    let f = c.fixed-p in
+    let g = c.number_then in
+    at_front (and_next f.ensures (omega (arith, f.ensures.next, a.requires)) g.ensures.written) (omega (arith, f.ensures.next, g.ensures.short, a.requires))
