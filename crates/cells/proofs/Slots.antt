@@ -62,6 +62,7 @@ unfolding cell_of find in_slot
 cell_is m {x} d h = go m.live d h
   where
     go : (l : List Live) → Distinct (slots l) → Has x l → find (in_slot x.slot) l ≡ some x
+    go [] d x3 = elim x3 [ ]
     go (y ∷ l) d here = rw (eq-eqb x.slot x.slot refl)
     go (y ∷ l) d (there k) = rw (ne_eqb x.slot y.slot (out_has y.slot d.0 k)) (go l d.1 k)
 
