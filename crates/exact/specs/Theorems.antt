@@ -132,6 +132,10 @@ unfolding finite
 within_finite p h = let a = within_8 p h in both p.x p.y a.0.0 a.1.0
   where
     both : (x y : Float) → Number x → Number y → (finite x && finite y) ≡ true
+    both (fin s m e) (lib.Ieee.inf _) u v = elim v [ ]
+    both (fin s m e) lib.Ieee.nan u v = elim v [ ]
+    both (lib.Ieee.inf _) y u v = elim u [ ]
+    both lib.Ieee.nan y u v = elim u [ ]
     both (fin s m e) (fin t n d) u v = refl
 
 -- ---- finite numbers

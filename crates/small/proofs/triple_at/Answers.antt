@@ -17,7 +17,10 @@ pub overflow_sub-after-in-loop-block : goal.overflow_sub-after-in-loop-block
 overflow_sub-after-in-loop-block c = (passed c.loop-block.invariant.0 c.loop-block.block c.loop-block.invariant.1 (omega arith)).0
 
 pub loop-block-smaller : goal.loop-block-smaller
-loop-block-smaller c = let h = overflow_sub-after-in-loop-block c in omega arith
+loop-block-smaller c =
+    let l = c.loop-block in
+    let h = (passed l.invariant.0 l.block l.invariant.1 (omega arith)).0 in
+    omega arith
 
 pub loop-block-preserved : goal.loop-block-preserved
 loop-block-preserved c =

@@ -80,7 +80,7 @@ copy_words_requires c κs =
     let t = top s.before in
     let k = first_length s.before in
     let h = within t s.if-t-eq0.false in
-    (middle_length (first s.before) (t.args.at + 9) t.args.n (omega (arith, k, h)), t.well_formed.6.slots.fits)
+    (middle_length (first s.before) (t.args.at + 9) t.args.n (omega (arith, k, h)), t.requires.0.6.slots.fits)
 
 add_result : tie.Need-overflow_add-result
 add_result c =
