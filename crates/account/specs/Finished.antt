@@ -14,6 +14,7 @@ use Rattle.account.specs.Start.{Proper}
 
 none_found : {A : Type 0} (p : A → Bool) (xs : List A) → find p xs ≡ none → (x : A) → In x xs → p x ≡ false
 unfolding find
+none_found {A = A} p mathlib.Core.List.[] e x i = elim i [ ]
 none_found p (y ∷ ys) e x i = elim (which (p y)) [
   | inl f ↦ absurd (let g : some y ≡ none = rw (f, find) at e in let z : ◌≡◌ {A = ℕ} 0 1 = cc in omega arith)
   | inr f ↦ elim i [ inl g ↦ ap p g ∙ f | inr j ↦ none_found p ys (rw (f, find) at e) x j ]

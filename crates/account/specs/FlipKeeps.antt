@@ -26,7 +26,7 @@ module _ (m : Mesh) (e : Edge) (m' : Mesh) (ok : Valid m) (at : In e (all_edges 
   -- no other cell owns the edge
   pub owner : (z : Live) → In z m.live → owns e z ≡ true → (z ≡ w.x) ⊎ (z ≡ w.y)
   unfolding owners
-  owner z i h = elim (subst (λ l. In z l) w.owned (filter_in (owns e) m.live i h)) [ inl f ↦ inl f | inr (inl f) ↦ inr f ]
+  owner z i h = elim (subst (λ l. In z l) w.owned (filter_in (owns e) m.live i h)) [ inl f ↦ inl f | inr (inl f) ↦ inr f | inr (inr x'') ↦ elim x'' [ ] ]
 
   -- they have two slots
   pub two_slots : w.x.slot ≢ w.y.slot
@@ -116,7 +116,7 @@ module _ (m : Mesh) (e : Edge) (m' : Mesh) (ok : Valid m) (at : In e (all_edges 
       let i = w.x.slot in
       let j = w.y.slot in
       let a : without j (without i m.live ++ (x' ∷ [])) ≡ without j (without i m.live) ++ without j (x' ∷ []) = without_append j (without i m.live) (x' ∷ []) in
-      let b : without j (x' ∷ []) ≡ x' ∷ [] = without_none j (x' ∷ []) (λ z k f. elim k [ inl g ↦ two_slots (sym (ap (λ l. l.slot) g) ∙ f) ]) in
+      let b : without j (x' ∷ []) ≡ x' ∷ [] = without_none j (x' ∷ []) (λ z k f. elim k [ inl g ↦ two_slots (sym (ap (λ l. l.slot) g) ∙ f) | inr x'' ↦ elim x'' [ ] ]) in
       ap (λ n. n.live) w.after ∙ ap (λ l. l ++ (y' ∷ [])) (a ∙ ap (λ l. others ++ l) b)
 
   -- the triangles after
@@ -152,6 +152,7 @@ module _ (m : Mesh) (e : Edge) (m' : Mesh) (ok : Valid m) (at : In e (all_edges 
         | inl j ↦ let z = in_tris others t j in ok.tris t (tris_in m.live z.0 t (in_others z.0 z.1).0 z.2)
         | inr (inl f) ↦ good_as _ t w.s' f (record { distinct = w.distinct_s third_s.not_u third_t.not_u; below = within w.s' _ _ _ w.corners_s p u q })
         | inr (inr (inl f)) ↦ good_as _ t w.t' f (record { distinct = w.distinct_t third_s.not_v third_t.not_v; below = within w.t' _ _ _ w.corners_t q v p })
+        | inr (inr (inr x4)) ↦ elim x4 [ ]
       ]
 
   -- a cell of the new mesh was there before, or is one of the two new triangles
@@ -166,8 +167,10 @@ module _ (m : Mesh) (e : Edge) (m' : Mesh) (ok : Valid m) (at : In e (all_edges 
     | inl j ↦ elim (in_either z others (x' ∷ []) j) [
       | inl k ↦ kept (in_others z k).0
       | inr (inl f) ↦ turned_x (ap (λ l. l.cell) f)
+      | inr (inr x4) ↦ elim x4 [ ]
     ]
     | inr (inl f) ↦ turned_y (ap (λ l. l.cell) f)
+    | inr (inr x3) ↦ elim x3 [ ]
   ]
 
   -- a quad of the new mesh was there before
@@ -185,14 +188,16 @@ module _ (m : Mesh) (e : Edge) (m' : Mesh) (ok : Valid m) (at : In e (all_edges 
       let used : m'.used ≡ m.used = ap (λ n. n.used) w.after in
       let points : m'.points ≡ m.points = ap (λ n. n.points) w.after in
       let after : (z : Live) → In z (others ++ (x' ∷ [])) → z.slot ≢ w.y.slot =
-      λ z i. elim (in_either z others (x' ∷ []) i) [ inl j ↦ (in_others z j).2 | inr (inl f) ↦ λ g. two_slots (sym (ap (λ l. l.slot) f) ∙ g) ] in
+      λ z i. elim (in_either z others (x' ∷ []) i) [ inl j ↦ (in_others z j).2 | inr (inl f) ↦ λ g. two_slots (sym (ap (λ l. l.slot) f) ∙ g) | inr (inr x3) ↦ elim x3 [ ] ] in
       let below : (z : Live) → In z ((others ++ (x' ∷ [])) ++ (y' ∷ [])) → z.slot < m.used =
       λ z i. elim (in_either z (others ++ (x' ∷ [])) (y' ∷ []) i) [
         | inl j ↦ elim (in_either z others (x' ∷ []) j) [
           | inl k ↦ ok.given z (in_others z k).0
           | inr (inl f) ↦ subst (λ n. n < m.used) (sym (ap (λ l. l.slot) f)) (ok.given w.x own_x.0)
+          | inr (inr x4) ↦ elim x4 [ ]
         ]
         | inr (inl f) ↦ subst (λ n. n < m.used) (sym (ap (λ l. l.slot) f)) (ok.given w.y own_y.0)
+        | inr (inr x3) ↦ elim x3 [ ]
       ] in
       record {
         slots = subst (λ l. Slots l) (sym new_live_list)

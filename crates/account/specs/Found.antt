@@ -54,7 +54,7 @@ region_from_live (suc n) m o r out seen (x ∷ stack) h k =
     let rest : AllTris m stack = λ y i. k y (inr i) in
     elim (which (in_reach m o r x.cell)) [
       | inl e ↦ rw (e, live_region_from) (region_from_live n m o r (out ++ (x ∷ [])) (x ∷ seen) (foldl (on_top (x ∷ seen)) stack (neighbours m x))
-          (λ y i. elim (in_either y out (x ∷ []) i) [ inl j ↦ h y j | inr (inl f) ↦ k y (inl f) ]) (all_on_top m (x ∷ seen) stack (neighbours m x) rest (neighbours_live m x)))
+          (λ y i. elim (in_either y out (x ∷ []) i) [ inl j ↦ h y j | inr (inl f) ↦ k y (inl f) | inr (inr x6) ↦ elim x6 [ ] ]) (all_on_top m (x ∷ seen) stack (neighbours m x) rest (neighbours_live m x)))
       | inr e ↦ rw (e, live_region_from) (region_from_live n m o r out (x ∷ seen) stack h rest)
     ]
 
@@ -127,7 +127,7 @@ reach_tris m done todo y todo' e h k = elim (reach_adds done todo y todo' e) [
   | inl f ↦ subst (λ l. AllTris m l) (sym f) h
   | inr f ↦
       subst (λ l. AllTris m l) (sym f.0)
-      (λ z i. elim (in_either z todo (y ∷ []) i) [ inl j ↦ h z j | inr (inl g) ↦ subst (λ x. In x m.live × (live_tri x ≡ true)) (sym g) (k, f.1) ])
+      (λ z i. elim (in_either z todo (y ∷ []) i) [ inl j ↦ h z j | inr (inl g) ↦ subst (λ x. In x m.live × (live_tri x ≡ true)) (sym g) (k, f.1) | inr (inr x3) ↦ elim x3 [ ] ])
 ]
 
 reach_all_tris : (m : Mesh) (done todo ys todo' : List Live) → reach_all done todo ys ≡ some todo' → AllTris m todo → AllLive m ys → AllTris m todo'
@@ -146,7 +146,7 @@ flood_tris (suc n) m sides done [] cells h k e = let f : done ≡ cells = cc in 
 flood_tris (suc n) m sides done (x ∷ todo) cells h k e = elim (known (reach_all (done ++ (x ∷ [])) todo (across m sides x))) [
   | inl f ↦ no_some cells (rw (f, flood) at e)
   | inr f ↦ flood_tris n m sides (done ++ (x ∷ [])) f.0 cells
-      (λ y i. elim (in_either y done (x ∷ []) i) [ inl j ↦ h y j | inr (inl g) ↦ k y (inl g) ])
+      (λ y i. elim (in_either y done (x ∷ []) i) [ inl j ↦ h y j | inr (inl g) ↦ k y (inl g) | inr (inr x7) ↦ elim x7 [ ] ])
       (reach_all_tris m (done ++ (x ∷ [])) todo (across m sides x) f.0 f.1 (λ y i. k y (inr i)) (across_live m sides x))
       (rw (f.1, flood) at e)
 ]
@@ -181,7 +181,7 @@ unfolding region_from
 from_seed_tris m q none cells h e = no_some cells e
 from_seed_tris m q (some x) cells h e =
     flood_tris m.used m (quad_edges q) [] (x ∷ []) cells (λ y i. absurd i)
-    (λ y i. elim i [ inl f ↦ subst (λ z. In z m.live × (live_tri z ≡ true)) (sym f) (h x refl) ]) (filled_is m q _ cells e)
+    (λ y i. elim i [ inl f ↦ subst (λ z. In z m.live × (live_tri z ≡ true)) (sym f) (h x refl) | inr x4 ↦ elim x4 [ ] ]) (filled_is m q _ cells e)
 
 -- a region from a triangle's slot has live triangles alone
 pub region_tris : (m : Mesh) (seed : ℕ) (q : Quad) (cells : List Live) → Valid m → TriAt m seed → region m seed q ≡ some cells → AllTris m cells

@@ -80,6 +80,7 @@ module _ (geometry : Geometry) (s : Settings) (asked : Asked) (same : s.size ≡
       subst (λ ps. AllWithin ps) (sym (split_grows m x.slot t p)) (λ q i. elim (in_either q m.points (p ∷ []) i) [
         | inl j ↦ h.1 q j
         | inr (inl e) ↦ subst (λ z. Within z) (sym e) (split_within st.mesh m p t h.0 h.1 w.normal w.held)
+        | inr (inr x3) ↦ elim x3 [ ]
       ]),
     );
     refuses = λ st e es why n m h ok w. w.1;

@@ -78,7 +78,7 @@ rated_from : (y : Quality) (m : Mesh) (a b c d : ℕ) → From (key a b) (rated 
 unfolding rated new_quad
 rated_from y m a b c d t i = elim (which (passes y (metrics_of m (new_quad a b d c)))) [
   | inr e ↦ absurd (rw e at i)
-  | inl e ↦ elim (rw e at i) [ inl f ↦ ap (λ z. z.nodes.edge) f ]
+  | inl e ↦ elim (rw e at i) [ inl f ↦ ap (λ z. z.nodes.edge) f | inr x'' ↦ elim x'' [ ] ]
 ]
 
 trial_from : (y : Quality) (m : Mesh) (a b c d : ℕ) → From (key a b) (trial y m a b c d)

@@ -195,10 +195,13 @@ module _ (s : Settings) (lk : Edge → Bool) (e : Edge) (order : e.0 < e.1) (loc
             | inl k' ↦ elim (in_either z (left m x t p ok at cell) (l1 m x t p ok at cell ∷ []) k') [
               | inl k'' ↦ j.placed z q (in_without x.slot z m.live k'').0 c
               | inr (inl f) ↦ not_both q (t1 m x t p ok at cell) (sym c ∙ ap (λ l. l.cell) f)
+              | inr (inr x5) ↦ elim x5 [ ]
             ]
             | inr (inl f) ↦ not_both q (t2 m x t p ok at cell) (sym c ∙ ap (λ l. l.cell) f)
+            | inr (inr x4) ↦ elim x4 [ ]
           ]
           | inr (inl f) ↦ not_both q (t3 m x t p ok at cell) (sym c ∙ ap (λ l. l.cell) f)
+          | inr (inr x3) ↦ elim x3 [ ]
         ];
       }
 
@@ -211,6 +214,7 @@ module _ (s : Settings) (lk : Edge → Bool) (e : Edge) (order : e.0 < e.1) (loc
     placed = λ x p i c. elim (in_either x (remaining m q cells) (new_live m.used (quad q) ∷ []) (subst (λ l. In x l) (replaced_live m q cells) i)) [
       | inl k ↦ in_left p quads (q ∷ []) (j.placed x p (in_filter (λ x. not (among cells x)) m.live k).0 c)
       | inr (inl f) ↦ let g : quad p ≡ quad q = sym c ∙ ap (λ l. l.cell) f in let k : p ≡ q = cc in in_right p quads (q ∷ []) (inl k)
+      | inr (inr x3) ↦ elim x3 [ ]
     ];
   }
 

@@ -83,6 +83,7 @@ split_fronted m x t p f ok at cell h =
 
 first_some : {A : Type 0} (x : A) (xs : List A) → In x xs → (y : A) × (first xs ≡ some y)
 unfolding first
+first_some {A = A} x [] i = elim i [ ]
 first_some x (y ∷ ys) i = (y, refl)
 
 -- a triangle owns the edge

@@ -65,6 +65,7 @@ unfolding set_cell with_live
 set_no_quad m i j t h x k e = elim (in_either x (without i m.live) (new_live i (tri t) ∷ []) k) [
   | inl f ↦ h x (in_without i x m.live f).0 e
   | inr (inl f) ↦ tri_cell x t (ap (λ z. z.cell) f ∙ new_cell i t)
+  | inr (inr x3) ↦ elim x3 [ ]
 ]
 
 -- ---- a flip, a split, a quad

@@ -47,10 +47,11 @@ module _ (m : Mesh) (q : Quad) (cells : List Live) where
       let below : (z : Live) → In z remaining → z.slot < m.used = λ z i. ok.given z (in_remaining z i) in
       record {
         slots = slots_last remaining new (slots_filter _ m.live ok.slots) (λ z i e. let l = below z i in omega arith);
-        given = λ z i. elim (in_either z remaining (new ∷ []) i) [ inl j ↦ let l = below z j in omega arith | inr (inl f) ↦ let g : z.slot ≡ m.used = ap (λ l. l.slot) f in omega arith ];
+        given = λ z i. elim (in_either z remaining (new ∷ []) i) [ inl j ↦ let l = below z j in omega arith | inr (inl f) ↦ let g : z.slot ≡ m.used = ap (λ l. l.slot) f in omega arith | inr (inr x'') ↦ elim x'' [ ] ];
         tris = λ t i. remaining_good ok t (subst (λ l. In t l) quad_tris i);
         quads = λ z p i c. elim (in_either z remaining (new ∷ []) i) [
           | inl j ↦ ok.quads z p (in_remaining z j) c
           | inr (inl f) ↦ let e : quad p ≡ quad q = sym c ∙ ap (λ l. l.cell) f in let g : p ≡ q = cc in subst (λ r. GoodQuad (length m.points) r) (sym g) good
+          | inr (inr x'') ↦ elim x'' [ ]
         ];
       }

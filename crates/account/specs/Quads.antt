@@ -30,7 +30,7 @@ rated_rule s = record {
   places = λ st e es n m q h w.
       let same : m.points ≡ w.mesh.points = ap (λ k. k.points) w.after ∙ replaced_points w.mesh q w.cells in
       subst (λ ps. AllRated s.quality ps (st.quads ++ (q ∷ []))) (sym same)
-      (λ r i. elim (in_either r st.quads (q ∷ []) i) [ inl j ↦ w.before.1 r j | inr (inl e) ↦ subst (λ z. Rated s.quality w.mesh.points z) (sym e) w.trial ]);
+      (λ r i. elim (in_either r st.quads (q ∷ []) i) [ inl j ↦ w.before.1 r j | inr (inl e) ↦ subst (λ z. Rated s.quality w.mesh.points z) (sym e) w.trial | inr (inr x'') ↦ elim x'' [ ] ]);
   ends = λ st e es n m h ok w. w;
   limits = λ st es h. h;
   empties = λ st h. h;

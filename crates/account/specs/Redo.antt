@@ -83,6 +83,7 @@ module _ (b : Float) where
 
 find_slot : (xs : List Live) (x : Live) → Slots xs → In x xs → find (in_slot x.slot) xs ≡ some x
 unfolding find in_slot
+find_slot [] x h x4 = elim x4 [ ]
 find_slot (y ∷ ys) x h (inl e) = rw (eq-eqb x.slot y.slot (ap (λ z. z.slot) e)) (ap some (sym e))
 find_slot (y ∷ ys) x h (inr i) = rw (ne_eqb x.slot y.slot (λ f. h.0 x i (sym f))) (find_slot ys x h.1 i)
 
@@ -228,7 +229,7 @@ module _ (s s₀ : Settings) (b : Float) (first : Mesh) (points : s.capacity ≤
       → redo s₀ (bare b m) v ≡ redone (bare b m') → Enterable v → quads ++ quads_placed (v ∷ []) ≡ more → Redoable s₀ b first m' more
   further m m' v quads more h e o f g k = record {
     again = subst (λ l. redo_all s₀ (bare b first) l ≡ redone (bare b m')) (sym e) (redo_last s₀ (bare b first) (bare b m) (bare b m') v m.history h.again f);
-    enterable = λ u i. elim (in_either u m.history (v ∷ []) (subst (λ l. In u l) e i)) [ inl j ↦ h.enterable u j | inr (inl j) ↦ subst (λ z. Enterable z) (sym j) g ];
+    enterable = λ u i. elim (in_either u m.history (v ∷ []) (subst (λ l. In u l) e i)) [ inl j ↦ h.enterable u j | inr (inl j) ↦ subst (λ z. Enterable z) (sym j) g | inr (inr x'') ↦ elim x'' [ ] ];
     quads_are = ap quads_placed e ∙ placed_last m.history v ∙ ap (λ l. l ++ quads_placed (v ∷ [])) h.quads_are ∙ k;
     room_kept = o ∙ h.room_kept;
   }

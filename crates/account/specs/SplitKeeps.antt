@@ -93,31 +93,35 @@ module _ (m : Mesh) (x : Live) (t : Tri) (p : Node) (ok : Valid m) (at : In x m.
       let a1 = left ++ (l1 ∷ []) in
       let a2 = a1 ++ (l2 ∷ []) in
       let b1 : (z : Live) → In z a1 → z.slot < m.used =
-      λ z i. elim (in_either z left (l1 ∷ []) i) [ inl j ↦ ok.given z (old z j).0 | inr (inl f) ↦ let g : z.slot ≡ x.slot = ap (λ l. l.slot) f in omega arith ] in
+      λ z i. elim (in_either z left (l1 ∷ []) i) [ inl j ↦ ok.given z (old z j).0 | inr (inl f) ↦ let g : z.slot ≡ x.slot = ap (λ l. l.slot) f in omega arith | inr (inr x3) ↦ elim x3 [ ] ] in
       let b2 : (z : Live) → In z a2 → z.slot < suc m.used =
-      λ z i. elim (in_either z a1 (l2 ∷ []) i) [ inl j ↦ let l = b1 z j in omega arith | inr (inl f) ↦ let g : z.slot ≡ m.used = ap (λ l. l.slot) f in omega arith ] in
+      λ z i. elim (in_either z a1 (l2 ∷ []) i) [ inl j ↦ let l = b1 z j in omega arith | inr (inl f) ↦ let g : z.slot ≡ m.used = ap (λ l. l.slot) f in omega arith | inr (inr x3) ↦ elim x3 [ ] ] in
       let points : length (m.points ++ (p ∷ [])) ≡ suc (length m.points) = length-append m.points (p ∷ []) ∙ omega arith in
       record {
         slots =
             slots_last a2 l3
             (slots_last a1 l2 (slots_last left l1 (slots_filter _ m.live ok.slots) (λ z i. (old z i).1)) (λ z i e. let l = b1 z i in omega arith))
             (λ z i e. let l = b2 z i in omega arith);
-        given = λ z i. elim (in_either z a2 (l3 ∷ []) i) [ inl j ↦ let l = b2 z j in omega arith | inr (inl f) ↦ let g : z.slot ≡ suc m.used = ap (λ l. l.slot) f in omega arith ];
+        given = λ z i. elim (in_either z a2 (l3 ∷ []) i) [ inl j ↦ let l = b2 z j in omega arith | inr (inl f) ↦ let g : z.slot ≡ suc m.used = ap (λ l. l.slot) f in omega arith | inr (inr x3) ↦ elim x3 [ ] ];
         tris = λ r i. subst (λ n. GoodTri n r) (sym points) (elim (in_either r (tris_of left) (t1 ∷ t2 ∷ t3 ∷ []) (subst (λ l. In r l) split_tris i)) [
           | inl j ↦ let z = in_tris left r j in let g = ok.tris r (tris_in m.live z.0 r (old z.0 z.1).0 z.2) in record { distinct = g.distinct; below = λ c k. let l = g.below c k in omega arith }
           | inr (inl f) ↦ good_as _ r t1 f (good_part t.n0 t.n1 (inl refl) (inr (inl refl)) good.distinct.d01)
           | inr (inr (inl f)) ↦ good_as _ r t2 f (good_part t.n1 t.n2 (inr (inl refl)) (inr (inr refl)) good.distinct.d12)
           | inr (inr (inr (inl f))) ↦ good_as _ r t3 f (good_part t.n2 t.n0 (inr (inr refl)) (inl refl) good.distinct.d20)
+          | inr (inr (inr (inr x5))) ↦ elim x5 [ ]
         ]);
         quads = λ z q i c. subst (λ n. GoodQuad n q) (sym points) (elim (in_either z a2 (l3 ∷ []) i) [
           | inl j ↦ elim (in_either z a1 (l2 ∷ []) j) [
             | inl k ↦ elim (in_either z left (l1 ∷ []) k) [
               | inl h ↦ quad_more _ _ q (omega arith) (ok.quads z q (old z h).0 c)
               | inr (inl f) ↦ not_both q t1 (sym c ∙ ap (λ l. l.cell) f)
+              | inr (inr x5) ↦ elim x5 [ ]
             ]
             | inr (inl f) ↦ not_both q t2 (sym c ∙ ap (λ l. l.cell) f)
+            | inr (inr x4) ↦ elim x4 [ ]
           ]
           | inr (inl f) ↦ not_both q t3 (sym c ∙ ap (λ l. l.cell) f)
+          | inr (inr x3) ↦ elim x3 [ ]
         ]);
       }
 

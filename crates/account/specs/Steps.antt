@@ -196,7 +196,7 @@ module _ (s : Settings) (start : Mesh) (P : ℕ → Mesh → Type 0) (splits : S
   sides_by_ok : (k : Spent) (m : Mesh) (r : Inserted) → P k.insertions m → InsertedOk P k.insertions r → SidesOk P (sides_by k m r)
   unfolding sides_by inserting
   sides_by_ok k m nowhere h ok = h
-  sides_by_ok k m (inserted v m') h ok = (ok.0, λ u i. elim i [ inl e ↦ subst (λ z. z < length m'.points) (sym e) ok.1 ])
+  sides_by_ok k m (inserted v m') h ok = (ok.0, λ u i. elim i [ inl e ↦ subst (λ z. z < length m'.points) (sym e) ok.1 | inr x3 ↦ elim x3 [ ] ])
   sides_by_ok k m (full w) h ok = h
 
   sides_from_ok : (f : Stance) (k : Spent) (m : Mesh) (p : ℕ) (cs : List ℕ) → Standing f → P k.insertions m → Below cs m → SidesOk P (sides_from s f k m p cs)
@@ -372,14 +372,14 @@ module _ (s : Settings) (start : Mesh) (P : ℕ → Mesh → Type 0) (flips : Fl
   try_seed_ok e seed (tri t) two near h =
       elim (lies_left start e t) as (λ left. AttemptOk s P (elim left [ true ↦ try_along s start e seed e.0 e.1 | false ↦ try_along s start e seed e.1 e.0 ])) [
         | true ↦ try_along_ok e seed e.0 e.1 two (near t refl) h
-        | false ↦ try_along_ok e seed e.1 e.0 (λ z. two (sym z)) (λ v i. near t refl v (elim i [ inl x ↦ inr (inl x) | inr (inl x) ↦ inl x ])) h
+        | false ↦ try_along_ok e seed e.1 e.0 (λ z. two (sym z)) (λ v i. near t refl v (elim i [ inl x ↦ inr (inl x) | inr (inl x) ↦ inl x | inr (inr x5) ↦ elim x5 [ ] ])) h
       ]
 
   owner_below : (e : Edge) (x : Live) → Valid start → Owner start e x → (t : Tri) → x.cell ≡ tri t → Below (e.0 ∷ e.1 ∷ []) start
   owner_below e x ok w t c v i =
       let g = ok.tris t (tris_in start.live x t w.at c) in
       let h = tri_owns e x t c w.owning in
-      elim i [ inl z ↦ subst (λ n. n < length start.points) (sym z) (g.below e.0 h.0) | inr (inl z) ↦ subst (λ n. n < length start.points) (sym z) (g.below e.1 h.1) ]
+      elim i [ inl z ↦ subst (λ n. n < length start.points) (sym z) (g.below e.0 h.0) | inr (inl z) ↦ subst (λ n. n < length start.points) (sym z) (g.below e.1 h.1) | inr (inr x3) ↦ elim x3 [ ] ]
 
   try_owner_ok : (e : Edge) (o : Option Live) → e.0 ≢ e.1 → Valid start → ((x : Live) → o ≡ some x → Owner start e x) → P 0 start
       → AttemptOk s P (try_owner s start e o)

@@ -32,7 +32,7 @@ unfolding bytes
 returns c = record { reads = no_names c.args.s.now c.args.s.now (found (step_as c.args.s.now) c.expect.ensures c.in_default.is); few = tt }
 
 returns_2 : tie.Need-returns-in_default-decimal_then
-returns_2 c = record { reads = no_triangles c.args.s.now c.args.s.now c.in-To.a (read_a c.before.before.before) (found (number_as c.args.s.now) c.decimal_then.ensures c.in_default-decimal_then.is); few = tt }
+returns_2 c = record { reads = no_triangles c.args.s.now c.args.s.now c.in-To.a (read_a c.before.before) (found (number_as c.args.s.now) c.decimal_then.ensures c.in_default-decimal_then.is); few = tt }
 
 returns_3 : tie.Need-returns-in_default-decimal_then-2
 returns_3 c = record { reads = no_points c.args.s.now c.args.s.now c.in-To.a (read_a c.before.before.before.before.before.before.before.before.before.before) c.in-Is.triangles c.in-Is.b (read_triangles c.before.before.before) (found (number_as c.args.s.now) c.decimal_then-2.ensures c.in_default-decimal_then-2.is); few = tt }

@@ -11,12 +11,11 @@ product a x h k =
     let q : x ≤ 2 ^ 20 - 1 = omega arith in
     omega (arith, mul-le-mul p q)
 
-rise : (c : tie.After-wide2) → c.wide2.result * c.before.before.args.x < 2 ^ 36
-rise c = product c.wide2.result c.before.before.args.x c.wide2.ensures c.before.before.requires.1
+rise : (c : tie.After-wide-2) → c.wide-2.result * c.args.x < 2 ^ 36
+rise c = product c.wide-2.result c.args.x c.wide-2.ensures c.requires.1
 
 pub line_spec : {M : Type 1} → statement M
 line_spec =
     tie.close
     (tie.spec
-    (λ c. search rules) (λ c. search rules) (λ c κs. search rules) (λ c. search rules) (λ c. search rules) (λ c. search rules) (λ c κs. search rules)
-    (λ c. omega (arith, rise c)) (λ c. omega (arith, rise c)) (λ c. search rules))
+    (λ c. search rules) (λ c. search rules) (λ c κs. search rules) (λ c. search rules) (λ c. search rules) (λ c. search rules) (λ c κs. search rules) (λ c. omega (arith, rise c)) (λ c. omega (arith, rise c)) (λ c. search rules))

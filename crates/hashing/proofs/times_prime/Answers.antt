@@ -1,8 +1,7 @@
 -- `hashing::times_prime`: the product in three parts, each below 2^64 once its multiples of 2^64 are taken off.
 use Rattle.std.proofs.Common.{◌≡◌, ℕ, ◌+◌, ◌*◌, ◌/◌, ◌%◌, ◌^◌, sym, ap, ◌∙◌, div-add-mod', arith, rules}
 use native.Mathlib.Nat.{mod-add-mod, add-mul-mod_self_right}
-use Rattle.hashing.proofs.times_prime.Statement.{statement}
-use Rattle.hashing.proofs.times_prime.Tie as tie
+use Rattle.hashing.proofs.times_prime.Goals as goal
 
 -- the product, of the quotients and remainders of x by 2^24 and by 2^32, and of the greater part's product by 2^32
 split : (x a b q l e f : ℕ) → a * 16777216 + b ≡ x → q * 4294967296 + l ≡ x → e * 4294967296 + f ≡ q * 435 →
@@ -23,10 +22,5 @@ parts x r s h i =
     ∙ sym (ap (λ z. z % 2 ^ 64) (split x (x / 16777216) (x % 16777216) (x / 4294967296) (x % 4294967296) (x / 4294967296 * 435 / 4294967296) (x / 4294967296 * 435 % 4294967296)
     (div-add-mod' x 16777216) (div-add-mod' x 4294967296) (div-add-mod' (x / 4294967296 * 435) 4294967296)))
 
-returns : tie.Need-returns
-returns c = parts c.before.before.args.x c.wrapping_add_u642.result c.before.wrapping_add_u64.result c.before.wrapping_add_u64.ensures c.wrapping_add_u642.ensures
-
-pub times_prime_spec : {M : Type 1} → statement M
-times_prime_spec =
-    tie.close
-    (tie.spec (λ c. search rules) (λ c. search rules) (λ c. search rules) (λ c. search rules) (λ c κs. search rules) (λ c κs. search rules) returns)
+pub returns : goal.returns
+returns c = parts c.args.x c.wrapping_add_u64-2.result c.wrapping_add_u64.result c.wrapping_add_u64.ensures.value c.wrapping_add_u64-2.ensures.value
