@@ -1,5 +1,5 @@
 -- `answer`: the six parts one after the other. Each is short enough for the buffer.
-use Rattle.laws.specs.Kit.{◌∙◌, arith, rules}
+use Rattle.laws.specs.Kit.{◌∙◌, arith}
 use Rattle.writing.proofs.Puts.{and_next, same_text}
 use Rattle.writing.proofs.Parts.{at_front, joined}
 use Rattle.definition.specs.Text.{bytes}
@@ -7,10 +7,10 @@ use Rattle.writing.specs.Answer.{columns, lengths_of, shown}
 use Rattle.writing.proofs.answer.Goals as goal
 
 pub named-requires : goal.named-requires
-named-requires c = omega (arith, c.places-f.ensures.short, c.named-e.ensures.short, c.named-d.ensures.short, c.sized-b.ensures.short, c.counted-a.ensures.short, c.places-f.auto.0, c.named-e.auto.0, c.named-d.auto.0, c.sized-b.auto.0, c.counted-a.auto.0, c.requires.0, c.requires.1, c.requires.2)
+named-requires c = omega (arith, c.places-f.ensures.short, c.named-e.ensures.short, c.named-d.ensures.short, c.sized-b.ensures.short, c.counted-a.ensures.short, c.places-f.auto.out, c.named-e.auto.out, c.named-d.auto.out, c.sized-b.auto.out, c.counted-a.auto.out, c.requires.0, c.requires.1, c.requires.2)
 
 pub shape_of-out : goal.shape_of-out
-shape_of-out c = c.named.auto.0 ∙ c.places-f.auto.0 ∙ c.named-e.auto.0 ∙ c.named-d.auto.0 ∙ c.sized-b.auto.0 ∙ c.counted-a.auto.0
+shape_of-out c = c.named.auto.out ∙ c.places-f.auto.out ∙ c.named-e.auto.out ∙ c.named-d.auto.out ∙ c.sized-b.auto.out ∙ c.counted-a.auto.out
 
 pub returns : goal.returns
 unfolding bytes lengths_of shown

@@ -1,5 +1,5 @@
 -- `named`: the line of names, then the table.
-use Rattle.laws.specs.Kit.{arith, rules}
+use Rattle.laws.specs.Kit.{arith}
 use Rattle.writing.proofs.Puts.{and_next}
 use Rattle.writing.proofs.named.Goals as goal
 

@@ -1,5 +1,5 @@
 -- `places`: the line of names, the given points, the others.
-use Rattle.laws.specs.Kit.{arith, rules}
+use Rattle.laws.specs.Kit.{arith}
 use Rattle.writing.proofs.Puts.{and_next, same_text}
 use Rattle.writing.proofs.Parts.{two_tables}
 use Rattle.definition.specs.Text.{bytes, show_bits}

@@ -1,5 +1,5 @@
 -- `refusal`: the word and the number, each with a newline.
-use Rattle.laws.specs.Kit.{arith, rules}
+use Rattle.laws.specs.Kit.{arith}
 use Rattle.writing.proofs.Puts.{and_next}
 use Rattle.writing.proofs.Parts.{at_front}
 use Rattle.definition.specs.Text.{bytes, line_of, show_refusal}

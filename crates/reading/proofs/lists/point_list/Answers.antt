@@ -1,13 +1,10 @@
 -- `lists::point_list`: the line of names, then the rows.
-use Rattle.laws.specs.Kit.{refl, ◌∙◌, rules, drop}
+use Rattle.laws.specs.Kit.{refl, ◌∙◌, drop}
 use Rattle.reading.proofs.Chains.{found}
 use Rattle.reading.proofs.Wholes.{names_off, names_on}
 use Rattle.definition.specs.Text.{bytes, lit, times, three, hex}
 use Rattle.reading.specs.Found.{step_as, point_list}
 use Rattle.reading.proofs.lists.point_list.Goals as goal
-
-pub enum_told-1 : goal.enum_told-1
-enum_told-1 c = search rules
 
 pub returns-in_default : goal.returns-in_default
 unfolding point_list lit bytes

@@ -1,24 +1,14 @@
 -- `lists::points`. Invariant: i rows stand at the front of the slice, and what is left of the list is to be read at p.
-use Rattle.laws.specs.Kit.{◌≡◌, refl, sym, ◌∙◌, ℕ, ◌-◌, ◌*◌, ◌≤◌, arith, rules, List, length, drop, length-set}
+use Rattle.laws.specs.Kit.{refl, sym, ◌∙◌, arith, length-set}
 use Rattle.reading.proofs.Chains.{found}
-use Rattle.reading.proofs.Rows.{prepend, rows_start, rows_off, rows_more, rows_done, rows_store, past_store}
+use Rattle.reading.proofs.Rows.{rows_start, rows_off, rows_more, rows_done, rows_store, past_store}
 use Rattle.definition.specs.Lists.{rows}
-use Rattle.definition.specs.Text.{three, hex, times}
-use Rattle.reading.specs.Found.{taken, place_as}
+use Rattle.definition.specs.Text.{three, hex}
+use Rattle.reading.specs.Found.{place_as}
 use Rattle.reading.proofs.lists.points.Goals as goal
-
--- i rows are read, the next stands at p
-record Reading (s : List ℕ) (at n : ℕ) (before now : List ℕ) (p i : ℕ) : Type 0 where
-  within : i ≤ n
-  long : length now ≡ length before
-  reads : times n (three hex) (drop at s) ≡ prepend (rows 3 i now) (times (n - i) (three hex) (drop p s))
-  past : drop (3 * n) now ≡ drop (3 * n) before
 
 pub loop-i-init : goal.loop-i-init
 loop-i-init c = record { within = omega arith; long = refl; reads = rows_start c.args.bits.now (three hex) c.args.n _; past = refl }
-
-pub enum_told-1 : goal.enum_told-1
-enum_told-1 c = search rules
 
 pub shape_of-bits-in_default : goal.shape_of-bits-in_default
 shape_of-bits-in_default c = c.loop-i.invariant.long

@@ -1,25 +1,15 @@
 -- `lists::triangles`.
 -- Invariant: i rows stand at the front of the slice, and what is left of the list is to be read at p.
-use Rattle.laws.specs.Kit.{◌≡◌, refl, sym, ◌∙◌, ℕ, ◌-◌, ◌*◌, ◌≤◌, arith, rules, List, length, drop, length-set}
+use Rattle.laws.specs.Kit.{refl, sym, ◌∙◌, arith, length-set}
 use Rattle.reading.proofs.Chains.{found}
-use Rattle.reading.proofs.Rows.{prepend, rows_start, rows_off, rows_more, rows_done, rows_store, past_store}
+use Rattle.reading.proofs.Rows.{rows_start, rows_off, rows_more, rows_done, rows_store, past_store}
 use Rattle.definition.specs.Lists.{rows}
-use Rattle.definition.specs.Text.{three, node, times}
-use Rattle.reading.specs.Found.{taken, corners_as}
+use Rattle.definition.specs.Text.{three, node}
+use Rattle.reading.specs.Found.{corners_as}
 use Rattle.reading.proofs.lists.triangles.Goals as goal
-
--- i rows are read, the next stands at p
-record Reading (s : List ℕ) (at n : ℕ) (before now : List ℕ) (p i : ℕ) : Type 0 where
-  within : i ≤ n
-  long : length now ≡ length before
-  reads : times n (three node) (drop at s) ≡ prepend (rows 3 i now) (times (n - i) (three node) (drop p s))
-  past : drop (3 * n) now ≡ drop (3 * n) before
 
 pub loop-i-init : goal.loop-i-init
 loop-i-init c = record { within = omega arith; long = refl; reads = rows_start c.args.tris.now (three node) c.args.n _; past = refl }
-
-pub enum_told-1 : goal.enum_told-1
-enum_told-1 c = search rules
 
 pub shape_of-tris-in_default : goal.shape_of-tris-in_default
 shape_of-tris-in_default c = c.loop-i.invariant.long

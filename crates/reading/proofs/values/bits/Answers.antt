@@ -1,8 +1,7 @@
 -- `values::bits` reads sixteen digits.
 -- Invariant: i are read, v is their number, of 4 i bits, and the definition's reading goes on from it.
-use Rattle.laws.specs.Kit.{◌≡◌, sym, ◌∙◌, ◌-◌, ◌*◌, ◌^◌, ◌<◌, ◌≤◌, arith, rules, drop}
-use Rattle.reading.proofs.Hexes.{hexes, hex_start, hexes_short, hexes_other, hexes_more, hexes_done, bits_more, bits_fit}
-use Rattle.definition.specs.Text.{hex}
+use Rattle.laws.specs.Kit.{sym, ◌∙◌, arith, drop}
+use Rattle.reading.proofs.Hexes.{hex_start, hexes_short, hexes_other, hexes_more, hexes_done, bits_more, bits_fit}
 use Rattle.reading.proofs.values.bits.Goals as goal
 
 pub loop-i-init : goal.loop-i-init

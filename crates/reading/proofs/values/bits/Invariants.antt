@@ -1,5 +1,5 @@
-use Rattle.laws.specs.Kit.{◌≡◌, sym, ◌∙◌, ◌-◌, ◌*◌, ◌^◌, ◌<◌, ◌≤◌, arith, rules, drop}
-use Rattle.reading.proofs.Hexes.{hexes, hex_start, hexes_short, hexes_other, hexes_more, hexes_done, bits_more, bits_fit}
+use Rattle.laws.specs.Kit.{◌≡◌, ◌-◌, ◌*◌, ◌^◌, ◌<◌, ◌≤◌, drop}
+use Rattle.reading.proofs.Hexes.{hexes}
 use Rattle.definition.specs.Text.{hex}
 use Rattle.reading.proofs.values.bits.Given as goal
 

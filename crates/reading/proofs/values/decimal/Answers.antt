@@ -1,5 +1,5 @@
 -- `values::decimal`: the number of digits that are well formed.
-use Rattle.laws.specs.Kit.{sym, ◌∙◌, rules}
+use Rattle.laws.specs.Kit.{sym, ◌∙◌}
 use Rattle.definition.specs.Text.{dec}
 use Rattle.reading.specs.Found.{limited, up_to}
 use Rattle.reading.proofs.values.decimal.Goals as goal

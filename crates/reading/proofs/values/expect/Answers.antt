@@ -1,7 +1,6 @@
 -- `values::expect` compares byte by byte. Invariant: reading the whole text at `at` is reading the rest of it at p.
-use Rattle.laws.specs.Kit.{◌≡◌, refl, sym, ◌∙◌, ◌-◌, ◌≤◌, arith, rules, length, drop}
+use Rattle.laws.specs.Kit.{refl, sym, ◌∙◌, arith}
 use Rattle.reading.proofs.Bytes.{same_byte, other_byte, no_byte, all_bytes}
-use Rattle.definition.specs.Text.{exactly}
 use Rattle.reading.proofs.values.expect.Goals as goal
 
 pub returns-then-p-s : goal.returns-then-p-s

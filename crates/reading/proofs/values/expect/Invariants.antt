@@ -1,5 +1,4 @@
-use Rattle.laws.specs.Kit.{◌≡◌, refl, sym, ◌∙◌, ◌-◌, ◌≤◌, arith, rules, length, drop}
-use Rattle.reading.proofs.Bytes.{same_byte, other_byte, no_byte, all_bytes}
+use Rattle.laws.specs.Kit.{◌≡◌, ◌-◌, ◌≤◌, length, drop}
 use Rattle.definition.specs.Text.{exactly}
 use Rattle.reading.proofs.values.expect.Given as goal
 

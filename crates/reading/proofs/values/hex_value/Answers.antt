@@ -1,5 +1,5 @@
 -- `values::hex_value` is a digit's value, 16 where the byte is none: a law for each way out.
-use Rattle.laws.specs.Kit.{sym, ◌∙◌, rules}
+use Rattle.laws.specs.Kit.{sym, ◌∙◌}
 use Rattle.reading.proofs.Digits.{digit_within}
 use Rattle.reading.proofs.Hexes.{of_digit, of_low, of_high, of_letter}
 use Rattle.reading.proofs.values.hex_value.Goals as goal

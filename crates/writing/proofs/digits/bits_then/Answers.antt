@@ -1,12 +1,12 @@
 -- `digits::bits_then`: sixteen digits, then the byte.
-use Rattle.laws.specs.Kit.{arith, rules}
+use Rattle.laws.specs.Kit.{arith}
 use Rattle.writing.proofs.Puts.{and_next, one_byte}
 use Rattle.writing.proofs.Shows.{hex_long}
 use Rattle.definition.specs.Text.{show_bits}
 use Rattle.writing.proofs.digits.bits_then.Goals as goal
 
 pub bounds-out-p : goal.bounds-out-p
-bounds-out-p c = omega (arith, hex_long 16 c.args.n, c.hexes-p.ensures.next, c.hexes-p.auto.0, c.requires)
+bounds-out-p c = omega (arith, hex_long 16 c.args.n, c.hexes-p.ensures.next, c.hexes-p.auto.out, c.requires)
 
 pub overflow_add-result : goal.overflow_add-result
 overflow_add-result c = omega (arith, hex_long 16 c.args.n, c.hexes-p.ensures.next, c.requires, c.well_formed.0.0)
@@ -18,6 +18,6 @@ returns c =
     let f = c.hexes-p in
     let long = hex_long 16 a.args.n in
     record {
-      written = and_next f.ensures (omega (arith, long, f.ensures.next, a.requires)) (one_byte f.new.0 f.result a.args.b (omega (arith, long, f.ensures.next, f.auto.0, a.requires)));
+      written = and_next f.ensures (omega (arith, long, f.ensures.next, a.requires)) (one_byte f.new.out f.result a.args.b (omega (arith, long, f.ensures.next, f.auto.out, a.requires)));
       short = omega (arith, long, f.ensures.next);
     }

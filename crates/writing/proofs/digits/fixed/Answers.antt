@@ -1,9 +1,8 @@
 -- `digits::fixed`. Invariant: i bytes of the text are written, and the next goes to p.
-use Rattle.laws.specs.Kit.{◌≡◌, refl, sym, ◌+◌, ◌-◌, ◌≤◌, arith, rules, length, get_or, take, length-set}
+use Rattle.laws.specs.Kit.{refl, sym, arith, get_or, length-set}
 use Rattle.writing.proofs.Puts.{and_next, one_byte, no_text, same_text}
 use native.Mathlib.Numerals.{add-one}
 use lib.Seq.{take-suc, take_all}
-use Rattle.writing.specs.Put.{Written}
 use Rattle.writing.proofs.digits.fixed.Goals as goal
 
 pub loop-i-preserved : goal.loop-i-preserved

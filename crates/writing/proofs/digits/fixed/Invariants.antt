@@ -1,7 +1,4 @@
-use Rattle.laws.specs.Kit.{◌≡◌, refl, sym, ◌+◌, ◌-◌, ◌≤◌, arith, rules, length, get_or, take, length-set}
-use Rattle.writing.proofs.Puts.{and_next, one_byte, no_text, same_text}
-use native.Mathlib.Numerals.{add-one}
-use lib.Seq.{take-suc, take_all}
+use Rattle.laws.specs.Kit.{◌≡◌, ◌+◌, ◌-◌, ◌≤◌, length, take}
 use Rattle.writing.specs.Put.{Written}
 use Rattle.writing.proofs.digits.fixed.Given as goal
 

@@ -1,5 +1,5 @@
 -- `digits::hex_digit`: by the test.
-use Rattle.laws.specs.Kit.{rules, lt-ltb, le-ltb}
+use Rattle.laws.specs.Kit.{lt-ltb, le-ltb}
 use Rattle.writing.proofs.digits.hex_digit.Goals as goal
 
 pub returns-then-d-lt10 : goal.returns-then-d-lt10

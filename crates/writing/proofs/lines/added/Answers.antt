@@ -1,10 +1,9 @@
 -- `lines::added`. Invariant: the points from k up to i are written, a line each.
-use Rattle.laws.specs.Kit.{◌≡◌, refl, ◌∙◌, ap, ℕ, ◌+◌, ◌-◌, ◌*◌, ◌≤◌, arith, rules, map, length, drop, binary64, nan, to_bits}
+use Rattle.laws.specs.Kit.{◌≡◌, refl, ◌∙◌, ap, ℕ, ◌-◌, ◌*◌, arith, map, drop, binary64, nan, to_bits}
 use Rattle.writing.proofs.Puts.{and_next, no_text, same_text}
 use Rattle.writing.proofs.Rows.{point_more, no_lines}
 use Rattle.definition.specs.Lists.{rows}
 use Rattle.definition.specs.Text.{show_bits, lines_of, points_between}
-use Rattle.writing.specs.Put.{Written}
 use Rattle.writing.proofs.lines.added.Goals as goal
 
 pub loop-i-init : goal.loop-i-init
@@ -24,7 +23,7 @@ loop-i-preserved c =
       omega (arith, l.invariant.0),
       omega (arith, c.loop-i-test.true),
       omega (arith, f.ensures.short, l.invariant.2, l.invariant.0),
-      f.auto.0 ∙ l.invariant.3,
+      f.auto.out ∙ l.invariant.3,
       same_text (and_next l.invariant.4 (omega (arith, l.invariant.0, l.invariant.2, c.requires, c.loop-i-test.true)) f.ensures.written)
           (rw (c.bits_of-x.ensures, c.bits_of-y.ensures, c.bits_of-z.ensures)
           (point_more show_bits (to_bits binary64) nan a.k l.i a.points.now l.invariant.0 (omega (arith, c.requires, c.loop-i-test.true)))),

@@ -1,8 +1,6 @@
-use Rattle.laws.specs.Kit.{◌≡◌, refl, ◌∙◌, ap, ℕ, ◌+◌, ◌-◌, ◌*◌, ◌≤◌, arith, rules, map, length, drop, binary64, nan, to_bits}
-use Rattle.writing.proofs.Puts.{and_next, no_text, same_text}
-use Rattle.writing.proofs.Rows.{point_more, no_lines}
+use Rattle.laws.specs.Kit.{◌≡◌, ◌+◌, ◌-◌, ◌*◌, ◌≤◌, map, length, drop, binary64, to_bits}
 use Rattle.definition.specs.Lists.{rows}
-use Rattle.definition.specs.Text.{show_bits, lines_of, points_between}
+use Rattle.definition.specs.Text.{show_bits, lines_of}
 use Rattle.writing.specs.Put.{Written}
 use Rattle.writing.proofs.lines.added.Given as goal
 

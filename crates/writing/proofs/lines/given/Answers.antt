@@ -1,10 +1,9 @@
 -- `lines::given`. Invariant: i points are written, a line each.
-use Rattle.laws.specs.Kit.{◌≡◌, refl, ◌∙◌, ap, ℕ, ◌+◌, ◌-◌, ◌*◌, ◌≤◌, arith, rules, length}
+use Rattle.laws.specs.Kit.{◌≡◌, refl, ◌∙◌, ap, ℕ, arith}
 use Rattle.writing.proofs.Puts.{and_next, no_text, same_text}
 use Rattle.writing.proofs.Rows.{place_more, no_lines}
 use Rattle.definition.specs.Lists.{rows}
 use Rattle.definition.specs.Text.{show_bits, lines_of}
-use Rattle.writing.specs.Put.{Written}
 use Rattle.writing.proofs.lines.given.Goals as goal
 
 pub loop-i-init : goal.loop-i-init
@@ -17,7 +16,7 @@ loop-i-preserved c =
     let f = c.place-p in (
       omega (arith, c.loop-i-test.true),
       omega (arith, f.ensures.short, l.invariant.1),
-      f.auto.0 ∙ l.invariant.2,
+      f.auto.out ∙ l.invariant.2,
       same_text (and_next l.invariant.3 (omega (arith, l.invariant.1, c.requires, c.loop-i-test.true)) f.ensures.written)
           (place_more show_bits l.i a.bits.now (omega (arith, c.requires, c.loop-i-test.true))),
     )

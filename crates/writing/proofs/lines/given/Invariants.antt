@@ -1,6 +1,4 @@
-use Rattle.laws.specs.Kit.{◌≡◌, refl, ◌∙◌, ap, ℕ, ◌+◌, ◌-◌, ◌*◌, ◌≤◌, arith, rules, length}
-use Rattle.writing.proofs.Puts.{and_next, no_text, same_text}
-use Rattle.writing.proofs.Rows.{place_more, no_lines}
+use Rattle.laws.specs.Kit.{◌≡◌, ◌+◌, ◌-◌, ◌*◌, ◌≤◌, length}
 use Rattle.definition.specs.Lists.{rows}
 use Rattle.definition.specs.Text.{show_bits, lines_of}
 use Rattle.writing.specs.Put.{Written}

@@ -1,10 +1,9 @@
 -- `lines::line`.
 -- Invariant: j numbers are written, a space after each; the last one is written after the loop, with the newline.
-use Rattle.laws.specs.Kit.{◌≡◌, refl, ◌∙◌, ◌+◌, ◌-◌, ◌*◌, ◌≤◌, arith, rules, length, take, drop}
+use Rattle.laws.specs.Kit.{refl, ◌∙◌, arith}
 use Rattle.writing.proofs.Puts.{and_next, no_text, same_text}
 use Rattle.writing.proofs.Rows.{spaced, spaced_next, line_next}
 use Rattle.definition.specs.Text.{show}
-use Rattle.writing.specs.Put.{Written}
 use Rattle.writing.proofs.lines.line.Goals as goal
 
 pub loop-j-init : goal.loop-j-init
@@ -18,13 +17,13 @@ loop-j-preserved c =
     let f = c.number_then-p in (
       omega (arith, c.loop-j-test.true),
       omega (arith, f.ensures.short, l.invariant.1),
-      f.auto.0 ∙ l.invariant.2,
+      f.auto.out ∙ l.invariant.2,
       same_text (and_next l.invariant.3 (omega (arith, c.requires, l.invariant.1, c.loop-j-test.true)) f.ensures.written)
           (spaced_next show a.xs.now a.from l.j (omega (arith, c.requires, c.loop-j-test.true))),
     )
 
 pub shape_of-out : goal.shape_of-out
-shape_of-out c = c.number_then.auto.0 ∙ c.loop-j.invariant.2
+shape_of-out c = c.number_then.auto.out ∙ c.loop-j.invariant.2
 
 pub returns : goal.returns
 returns c =

@@ -1,6 +1,5 @@
-use Rattle.laws.specs.Kit.{◌≡◌, refl, ◌∙◌, ◌+◌, ◌-◌, ◌*◌, ◌≤◌, arith, rules, length, take, drop}
-use Rattle.writing.proofs.Puts.{and_next, no_text, same_text}
-use Rattle.writing.proofs.Rows.{spaced, spaced_next, line_next}
+use Rattle.laws.specs.Kit.{◌≡◌, ◌+◌, ◌-◌, ◌*◌, ◌≤◌, length, take, drop}
+use Rattle.writing.proofs.Rows.{spaced}
 use Rattle.definition.specs.Text.{show}
 use Rattle.writing.specs.Put.{Written}
 use Rattle.writing.proofs.lines.line.Given as goal

@@ -1,5 +1,5 @@
 -- `lines::place`: three values, each with its byte.
-use Rattle.laws.specs.Kit.{arith, rules, append_assoc}
+use Rattle.laws.specs.Kit.{arith, append_assoc}
 use Rattle.writing.proofs.Puts.{and_next, same_text}
 use Rattle.definition.specs.Text.{line_of}
 use Rattle.writing.proofs.lines.place.Goals as goal
