@@ -68,11 +68,11 @@ f64 bits = of_bits binary64 bits
 unfoldable pub 0·0 : Float
 0·0 = f64 0x0000000000000000
 
-unfoldable pub 1e_12 : Float
-1e_12 = f64 0x3d719799812dea11
+unfoldable pub 1e-12 : Float
+1e-12 = f64 0x3d719799812dea11
 
-unfoldable pub 1e_9 : Float
-1e_9 = f64 0x3e112e0be826d695
+unfoldable pub 1e-9 : Float
+1e-9 = f64 0x3e112e0be826d695
 
 unfoldable pub 1/64 : Float
 1/64 = f64 0x3f90000000000000

@@ -1,7 +1,7 @@
 -- The numbers that decide what a run does: those that may be set, in a record of which the standard set is `base`;
 -- the module's constants; and what the caller asks for and lends.
 use Rattle.std.specs.Prelude.{Bool, List, [], ◌∷◌, ℕ, ◌+◌, ◌*◌, Float}
-use Rattle.definition.specs.Floats.{0·2, 0·25, 0·3, 0·4, 0·5, 0·6, 0·7, 0·8, 0·866, 0·9, 0·90630778703665, 1·0, 1·5, 2·2, 2·5, 3·0, 1e_12, 1e_9}
+use Rattle.definition.specs.Floats.{0·2, 0·25, 0·3, 0·4, 0·5, 0·6, 0·7, 0·8, 0·866, 0·9, 0·90630778703665, 1·0, 1·5, 2·2, 2·5, 3·0, 1e-12, 1e-9}
 
 -- ---- the quality set
 
@@ -81,19 +81,19 @@ insert_reach = 3·0
 
 -- a cross product or twice an area counts as zero up to this
 unfoldable pub tiny_cross : Float
-tiny_cross = 1e_12
+tiny_cross = 1e-12
 
 -- a length counts as zero up to this
 unfoldable pub tiny_length : Float
-tiny_length = 1e_12
+tiny_length = 1e-12
 
 -- a region's area may be off by this times the greater of the quad's area and 1
 unfoldable pub area_slack : Float
-area_slack = 1e_9
+area_slack = 1e-9
 
 -- a size up to this is none, and the bucket is then 1.0
 unfoldable pub tiny_size : Float
-tiny_size = 1e_9
+tiny_size = 1e-9
 
 -- the most attempts, and the most live triangles, for so many given triangles
 unfoldable pub max_attempts : ℕ → ℕ

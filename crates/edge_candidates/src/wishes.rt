@@ -17,7 +17,7 @@ use plane::vectors::{Vec, from_to, norm, over};
 use rings::next;
 
 // A length counts as zero up to this.
-pub const TINY_LENGTH: f64 = 1e_12;
+pub const TINY_LENGTH: f64 = 1e-12;
 
 // The least sum of two units that gives an ideal.
 pub const IDEAL_SUM: f64 = 0.2;

@@ -1,12 +1,12 @@
 -- On the grid of 1 / 1024 a region whose float area agrees with the quad's has exactly the quad's area:
 -- the areas and their sums have no rounding error, two that differ do so by 2 ^ -21 at least, and the slack,
--- 1e_9 times at most 256, is below that.
+-- 1e-9 times at most 256, is below that.
 -- Assumes nothing.
 use Rattle.laws.specs.Kit.{◌≡◌, refl, sym, ◌∙◌, ap, Bool, true, false, not, cond, ℕ, zero, suc, ◌+◌, ◌*◌, ◌^◌, ◌<◌, ◌≤◌, arith, dec_le, mul-le-mul_right, lit<, lit≤, T, not-true, pow_pos, pos, List, [], ◌∷◌, ◌++◌, map, foldl, length, Float, binary64, nan, fin, inf, of_bits, fits, lt, add, sub, mul}
 use Rattle.std.specs.Prelude.{◌*ℤ◌}
 use Rattle.std.specs.Float.{Format}
 use Rattle.std.specs.Float.Ieee.Fits.{sub-fits, div-fits}
-use Rattle.definition.specs.Floats.{◌≺◌, f64, greater, 0·0, 1·0, 1e_9}
+use Rattle.definition.specs.Floats.{◌≺◌, f64, greater, 0·0, 1·0, 1e-9}
 use Rattle.definition.specs.Floats as floats
 use Rattle.definition.specs.Lists.{flat_map}
 use Rattle.definition.specs.Numbers.{area_slack}
@@ -30,12 +30,12 @@ use Rattle.exact.specs.Areas.{Placed, turn, both_turns, tri_parts, turn_most, ar
 abbrev slack_units : ℕ
 slack_units = 4835703278458517 * 2 ^ 992
 
-slack_ok : Ok binary64 1e_9
-unfolding 1e_9 f64 of_bits fits
+slack_ok : Ok binary64 1e-9
+unfolding 1e-9 f64 of_bits fits
 slack_ok = tt
 
-slack_is : whole binary64 1e_9 ≡ (slack_units, 0)
-unfolding 1e_9 f64 of_bits whole
+slack_is : whole binary64 1e-9 ≡ (slack_units, 0)
+unfolding 1e-9 f64 of_bits whole
 slack_is = refl
 
 abs_fits : (f : Format) (x : Float) → T (fits f x) → T (fits f (floats.abs x))
@@ -154,17 +154,17 @@ module _ (m : Mesh) (g : (v : ℕ) → Placed (node_at m v)) where
         go true = (one_ok, rw one_is (some (2 ^ 1074)))
         go false = expected_ok
 
-    agreeing : (cells : List Live) → length cells ≤ 1048576 → not (floats.◌⊗◌ 1e_9 (greater expected 1·0) ≺ floats.abs (floats.◌⊖◌ (region_area m cells) expected)) ≡ true
+    agreeing : (cells : List Live) → length cells ≤ 1048576 → not (floats.◌⊗◌ 1e-9 (greater expected 1·0) ≺ floats.abs (floats.◌⊖◌ (region_area m cells) expected)) ≡ true
         → region_turn cells ≡ quad_turn
     unfolding floats.◌⊗◌ floats.◌⊖◌ ◌≺◌
     agreeing cells l h =
         let S = region_turn cells in
-        let x = mul binary64 1e_9 (greater expected 1·0) in
+        let x = mul binary64 1e-9 (greater expected 1·0) in
         let r = sub binary64 (region_area m cells) expected in
         let B = slack_units * (256 * 2 ^ 1074) in
-        let z = whole binary64 1e_9 ⊗ whole binary64 (greater expected 1·0) in
-        let Z : Within z B = within_mul (whole binary64 1e_9) (whole binary64 (greater expected 1·0)) slack_units (256 * 2 ^ 1074) (rw slack_is (upward slack_units slack_units (lit≤ tt))) greater_ok.1 in
-        let p = mul_rel binary64 1e_9 (greater expected 1·0) B slack_ok greater_ok.0 Z (lit< tt) in
+        let z = whole binary64 1e-9 ⊗ whole binary64 (greater expected 1·0) in
+        let Z : Within z B = within_mul (whole binary64 1e-9) (whole binary64 (greater expected 1·0)) slack_units (256 * 2 ^ 1074) (rw slack_is (upward slack_units slack_units (lit≤ tt))) greater_ok.1 in
+        let p = mul_rel binary64 1e-9 (greater expected 1·0) B slack_ok greater_ok.0 Z (lit< tt) in
         let sm = region_most cells in
         let d = sub_is binary64 2097152 1053 refl most (lit< tt) (lit< tt) (region_area m cells) expected (S, 0) (quad_turn, 0) 562949953421312 536870912 (region_is cells l) expected_is (upward S 562949953421312 (omega arith)) (upward quad_turn 536870912 quad_small) (lit≤ tt) in
         let a = abs_is r (S + 0, 0 + quad_turn) 2097152 d in

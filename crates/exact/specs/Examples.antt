@@ -5,7 +5,7 @@ use Rattle.std.proofs.Common.{not-le_of_lt}
 use Rattle.std.specs.Prelude.{neg_ℤ, nat_abs, ◌*ℤ◌}
 use Rattle.std.specs.Float.Ieee.{size}
 use Rattle.definition.specs.Lists.{any}
-use Rattle.definition.specs.Floats.{◌⊕◌, ◌⊖◌, ◌⊗◌, ◌⊘◌, ◌≺◌, ◌≼◌, abs, finite, lesser, greater, f64, 0·0, 0·25, 0·3, 0·4, 0·5, 0·6, 0·7, 0·8, 0·9, 0·90630778703665, 1·0, 2·0, 2·5, 3·0, 8·0, 1/64, 1e_12}
+use Rattle.definition.specs.Floats.{◌⊕◌, ◌⊖◌, ◌⊗◌, ◌⊘◌, ◌≺◌, ◌≼◌, abs, finite, lesser, greater, f64, 0·0, 0·25, 0·3, 0·4, 0·5, 0·6, 0·7, 0·8, 0·9, 0·90630778703665, 1·0, 2·0, 2·5, 3·0, 8·0, 1/64, 1e-12}
 use Rattle.definition.specs.Numbers.{base, insert_shares, tiny_cross, tiny_length}
 use Rattle.definition.specs.Root.{isqrt, scale, sqrt}
 use Rattle.definition.specs.Plane.{Node, flat, point, cross, side, parts, segments_cross, positive, negative, point_strictly_inside, shoelace, twice_area, from_to, dot, norm, over, dist, edge_length}
@@ -21,7 +21,7 @@ use Rattle.exact.specs.Theorems.{Within, passing, inside, grid_cross}
 
 -- to unfold `computed` is to unfold what the tests are made of
 unfoldable computed : Unit {0}
-unfolding add sub mul div neg lt le eq of_bits fits round size any ◌⊕◌ ◌⊖◌ ◌⊗◌ ◌⊘◌ ◌≺◌ ◌≼◌ abs finite lesser greater f64 0·0 0·25 0·3 0·4 0·5 0·6 0·7 0·8 0·9 0·90630778703665 1·0 2·0 2·5 3·0 8·0 1/64 1e_12 base insert_shares tiny_cross tiny_length isqrt scale sqrt flat point cross side parts segments_cross positive negative point_strictly_inside shoelace twice_area from_to dot norm over dist edge_length corner c0 c1 c2 c3 d0 d1 weights weighted scaled jacobian_at min_scaled_jacobian corner_of corners not_convex angle_of clamp cosine largest_cosine quad_metrics passes score along target_of inward_normal loop_perimeter signed units arrow exact_cross exact_dot squared_length squared next_side last_side outside most_coordinate least_size most_size bad_size settings settings_within
+unfolding add sub mul div neg lt le eq of_bits fits round size any ◌⊕◌ ◌⊖◌ ◌⊗◌ ◌⊘◌ ◌≺◌ ◌≼◌ abs finite lesser greater f64 0·0 0·25 0·3 0·4 0·5 0·6 0·7 0·8 0·9 0·90630778703665 1·0 2·0 2·5 3·0 8·0 1/64 1e-12 base insert_shares tiny_cross tiny_length isqrt scale sqrt flat point cross side parts segments_cross positive negative point_strictly_inside shoelace twice_area from_to dot norm over dist edge_length corner c0 c1 c2 c3 d0 d1 weights weighted scaled jacobian_at min_scaled_jacobian corner_of corners not_convex angle_of clamp cosine largest_cosine quad_metrics passes score along target_of inward_normal loop_perimeter signed units arrow exact_cross exact_dot squared_length squared next_side last_side outside most_coordinate least_size most_size bad_size settings settings_within
 computed = tt
 
 -- the double just above 8

@@ -3,7 +3,7 @@
 use Rattle.laws.specs.Kit.{◌≡◌, refl, sym, ap, subst, inl, inr, Bool, true, false, ◌&&◌, ◌||◌, cond, ℕ, ◌+◌, ◌*◌, ◌^◌, ◌<◌, ◌≤◌, arith, le_of_mul-le-mul_right, eqb, lit≤, T, List, ◌∷◌, Float, binary64, nan, fin, inf, down, up, of_bits, eq, lt, le, neg, mul}
 use Rattle.std.proofs.Common.{le_trans, eqb→eq}
 use Rattle.std.specs.Float.Ieee.Fits.{and_l, and_r, down_pos, neg-fits}
-use Rattle.definition.specs.Floats.{◌≺◌, ◌≼◌, f64, 0·0, 1/64, 8·0, 1e_12, 0·3, 0·4, 0·5, 0·6, 0·7, 0·8, 0·9, 1·0}
+use Rattle.definition.specs.Floats.{◌≺◌, ◌≼◌, f64, 0·0, 1/64, 8·0, 1e-12, 0·3, 0·4, 0·5, 0·6, 0·7, 0·8, 0·9, 1·0}
 use Rattle.definition.specs.Floats as floats
 use Rattle.definition.specs.Numbers.{Settings, insert_shares, tiny_length}
 use Rattle.definition.specs.Plane.{Node, Vec, flat, from_to}
@@ -115,7 +115,7 @@ over_tiny w t T e z h = go (rw e at h)
     go : (T, 0) ⊏ w → T ≤ w.0
     go h = omega arith
 
-short : tiny_length ≡ 1e_12
+short : tiny_length ≡ 1e-12
 unfolding tiny_length
 short = refl
 
@@ -137,7 +137,7 @@ module _ (s : Settings) (size : Size 8 s.size) (a b : Node) (A : At 8 a) (B : At
       let dx = (from_to a b).dx in
       let dy = (from_to a b).dy in
       let r = length_root dx dy (wx a b) (wy a b) x_part y_part in
-      let t = over_tiny (whole binary64 span) (whole binary64 1e_12) tiny_units tiny_is r.1 (not_le binary64 span 1e_12 r.0 tiny_ok (rw short at far)) in
+      let t = over_tiny (whole binary64 span) (whole binary64 1e-12) tiny_units tiny_is r.1 (not_le binary64 span 1e-12 r.0 tiny_ok (rw short at far)) in
       (long binary64 (2 ^ 1021) room64 dx dy span (wx a b) (wy a b) tiny_units x_part y_part r (lit≤ tt) t, t)
 
   abbrev normal : Vec

@@ -4,7 +4,7 @@
 use Rattle.laws.specs.Kit.{◌≡◌, refl, sym, ap, true, false, ◌||◌, ℕ, ◌+◌, ◌*◌, ◌^◌, ◌<◌, ◌≤◌, arith, dec_le, mul-le-mul, mul-le-mul_right, eqb, lit≤, pow_pos, Float, binary64, nan, fin, inf, down, up, of_bits, fits, eq, lt, mul}
 use Rattle.std.proofs.Common.{eqb→eq, ltb→lt}
 use Rattle.std.specs.Float.Ieee.Fits.{and_l}
-use Rattle.definition.specs.Floats.{◌≺◌, f64, 0·0, 0·5, 1·5, 1e_12}
+use Rattle.definition.specs.Floats.{◌≺◌, f64, 0·0, 0·5, 1·5, 1e-12}
 use Rattle.definition.specs.Floats as floats
 use Rattle.definition.specs.Numbers.{Settings, mismatch_low, mismatch_high, tiny_length}
 use Rattle.definition.specs.Plane.{size_mismatch}
@@ -97,7 +97,7 @@ target_itself s e x = rw e refl
 
 -- Neither zero is a size.
 pub zero_unsized : (x : Float) → eq x 0·0 ≡ true → (tiny_length ≺ x) ≡ false
-unfolding tiny_length ◌≺◌ lt eq 0·0 1e_12 f64 of_bits
+unfolding tiny_length ◌≺◌ lt eq 0·0 1e-12 f64 of_bits
 zero_unsized nan h = refl
 zero_unsized (inf false) h = absurd (is_not (sym h) tt)
 zero_unsized (inf true) h = refl

@@ -7,7 +7,7 @@ use refusals::Stated;
 use rules::Rules;
 
 // A size up to this is none.
-const TINY_SIZE: f64 = 1e_9;
+const TINY_SIZE: f64 = 1e-9;
 
 // The bucket's side without a size.
 const NO_SIZE: f64 = 1.0;

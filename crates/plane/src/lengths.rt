@@ -11,7 +11,7 @@ use crate::points::Spot;
 use crate::vectors::{Vec, dist_of, norm};
 
 // A number of a size between these can be doubled and squared: nothing underflows and nothing overflows.
-const SMALLEST: f64 = 1e_150;
+const SMALLEST: f64 = 1e-150;
 
 const LARGEST: f64 = 1e150;
 

@@ -1,7 +1,7 @@
 -- The tests of a region: each node inside the quad, and the areas summed, cell after cell of the list.
 use Rattle.laws.specs.Kit.{◌≡◌, refl, sym, ◌∙◌, ap, subst, ◌≢◌, Bool, true, false, not, ◌&&◌, cond, Option, none, some, ℕ, zero, suc, ◌+◌, ◌<◌, ◌≤◌, arith, List, [], ◌∷◌, ◌++◌, foldl, length, get_or, drop, Float, binary64, of_bits, lt, sub, mul}
 use mathlib.Core.Bool.{and-true}
-use Rattle.definition.specs.Floats.{◌⊕◌, ◌⊖◌, ◌⊗◌, ◌⊘◌, ◌≺◌, abs, greater, f64, 1·0, 2·0, 1e_9}
+use Rattle.definition.specs.Floats.{◌⊕◌, ◌⊖◌, ◌⊗◌, ◌⊘◌, ◌≺◌, abs, greater, f64, 1·0, 2·0, 1e-9}
 use Rattle.definition.specs.Lists.{all}
 use Rattle.definition.specs.Numbers.{area_slack}
 use Rattle.definition.specs.Plane.{cross, inside_quad, quad_area}
@@ -187,7 +187,7 @@ pub agrees_is : (q : List Float) (m : Mesh) (a b c d : ℕ) → Four q m a b c d
     → (area : Float) → area ≡ quad_area (point_at q a) (point_at q b) (point_at q c) (point_at q d) → (expected : Float) → expected ≡ abs area
     → (sum : Float) → sum ≡ region_area m xs → (off : Float) → off ≡ abs (sub binary64 sum expected) → (most : Float) → most ≡ greater expected (of_bits binary64 0x3ff0000000000000)
     → not (lt (mul binary64 (of_bits binary64 0x3e112e0be826d695) most) off) ≡ area_agrees m (new_quad a b c d) xs
-unfolding area_agrees new_quad area_slack ◌⊗◌ ◌⊖◌ ◌≺◌ 1·0 1e_9 f64
+unfolding area_agrees new_quad area_slack ◌⊗◌ ◌⊖◌ ◌≺◌ 1·0 1e-9 f64
 agrees_is q m a b c d f xs area ea expected ee sum es off eo most em =
     rw (em, eo, es, ee, ea, f.sa.is, f.sb.is, f.sc.is, f.sd.is)
 

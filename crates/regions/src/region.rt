@@ -17,7 +17,7 @@ use plane::floats::{abs, greater};
 use plane::sides::inside_quad;
 
 // A region's area may be off by this times the greater of the quad's area and 1.
-pub const AREA_SLACK: f64 = 1e_9;
+pub const AREA_SLACK: f64 = 1e-9;
 
 // Every node of the triangle in slot j lies inside the quad a b c d.
 fn tri_inside(

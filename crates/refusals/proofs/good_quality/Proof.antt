@@ -6,78 +6,78 @@ use Rattle.definition.specs.Call.{ranges, good_quality, most_pairs}
 use Rattle.refusals.proofs.good_quality.Statement.{statement}
 use Rattle.refusals.proofs.good_quality.Tie as tie
 
-abbrev start : tie.Else1 → tie.Start
+abbrev start : tie.Else-not-ranges → tie.Start
 start c = c.before.before
 
-yes_1 : (c : tie.Else1) → ranges 0·0 1·0 (start c).args.y.least_jacobian ≡ true
+yes_1 : (c : tie.Else-not-ranges) → ranges 0·0 1·0 (start c).args.y.least_jacobian ≡ true
 unfolding 0·0 1·0 f64
-yes_1 c = sym c.before.ranges.ensures ∙ not-false _ c.if1.left
+yes_1 c = sym c.ranges.ensures ∙ not-false _ c.if-not-ranges.left
 
-abbrev top2 : tie.Else2 → tie.Else1
+abbrev top2 : tie.Else-not-ranges-2 → tie.Else-not-ranges
 top2 c = c.before.before
 
-yes_2 : (c : tie.Else2) → ranges 0·5 0·99 (start (top2 c)).args.y.largest_cosine ≡ true
+yes_2 : (c : tie.Else-not-ranges-2) → ranges 0·5 0·99 (start (top2 c)).args.y.largest_cosine ≡ true
 unfolding 0·5 0·99 f64
-yes_2 c = sym c.before.ranges2.ensures ∙ not-false _ c.if2.left
+yes_2 c = sym c.ranges-2.ensures ∙ not-false _ c.if-not-ranges-2.left
 
-abbrev top3 : tie.Else3 → tie.Else2
+abbrev top3 : tie.Else-not-ranges-3 → tie.Else-not-ranges-2
 top3 c = c.before.before
 
-yes_3 : (c : tie.Else3) → ranges 0·1 4·0 (start (top2 (top3 c))).args.y.side_low ≡ true
+yes_3 : (c : tie.Else-not-ranges-3) → ranges 0·1 4·0 (start (top2 (top3 c))).args.y.side_low ≡ true
 unfolding 0·1 4·0 f64
-yes_3 c = sym c.before.ranges3.ensures ∙ not-false _ c.if3.left
+yes_3 c = sym c.ranges-3.ensures ∙ not-false _ c.if-not-ranges-3.left
 
-abbrev top4 : tie.Else4 → tie.Else3
+abbrev top4 : tie.Else-not-ranges-4 → tie.Else-not-ranges-3
 top4 c = c.before.before
 
-yes_4 : (c : tie.Else4) → ranges 0·1 4·0 (start (top2 (top3 (top4 c)))).args.y.side_high ≡ true
+yes_4 : (c : tie.Else-not-ranges-4) → ranges 0·1 4·0 (start (top2 (top3 (top4 c)))).args.y.side_high ≡ true
 unfolding 0·1 4·0 f64
-yes_4 c = sym c.before.ranges4.ensures ∙ not-false _ c.if4.left
+yes_4 c = sym c.ranges-4.ensures ∙ not-false _ c.if-not-ranges-4.left
 
-abbrev top5 : tie.Else5 → tie.Else4
+abbrev top5 : tie.Else-not-y → tie.Else-not-ranges-4
 top5 c = c.before.before
 
-yes_5 : (c : tie.Else5) → ((start (top2 (top3 (top4 (top5 c))))).args.y.side_low ≼ (start (top2 (top3 (top4 (top5 c))))).args.y.side_high) ≡ true
+yes_5 : (c : tie.Else-not-y) → ((start (top2 (top3 (top4 (top5 c))))).args.y.side_low ≼ (start (top2 (top3 (top4 (top5 c))))).args.y.side_high) ≡ true
 unfolding ◌≼◌
-yes_5 c = not-false _ c.if5.left
+yes_5 c = not-false _ c.if-not-y.left
 
-returns : tie.Need-returns
+returns : tie.Need-returns-then-not-ranges
 unfolding good_quality 0·0 1·0 f64
-returns c = rw (sym c.before.ranges.ensures ∙ not-true _ c.if1.taken)
+returns c = rw (sym c.ranges.ensures ∙ not-true _ c.if-not-ranges.taken)
 
-returns_2 : tie.Need-returns-2
+returns_2 : tie.Need-returns-then-not-ranges-2
 unfolding good_quality 0·5 0·99 f64
-returns_2 c = rw (yes_1 c.before.before, sym c.before.ranges2.ensures ∙ not-true _ c.if2.taken)
+returns_2 c = rw (yes_1 c.before.before, sym c.ranges-2.ensures ∙ not-true _ c.if-not-ranges-2.taken)
 
-returns_3 : tie.Need-returns-3
+returns_3 : tie.Need-returns-then-not-ranges-3
 unfolding good_quality 0·1 4·0 f64
-returns_3 c = let p = c.before.before in rw (yes_1 (top2 p), yes_2 p, sym c.before.ranges3.ensures ∙ not-true _ c.if3.taken)
+returns_3 c = let p = c in rw (yes_1 (top2 p.before.before), yes_2 p.before.before, sym c.ranges-3.ensures ∙ not-true _ c.if-not-ranges-3.taken)
 
-returns_4 : tie.Need-returns-4
+returns_4 : tie.Need-returns-then-not-ranges-4
 unfolding good_quality 0·1 4·0 f64
-returns_4 c = let p = c.before.before in rw (yes_1 (top2 (top3 p)), yes_2 (top3 p), yes_3 p, sym c.before.ranges4.ensures ∙ not-true _ c.if4.taken)
+returns_4 c = let p = c in rw (yes_1 (top2 (top3 p.before.before)), yes_2 (top3 p.before.before), yes_3 p.before.before, sym c.ranges-4.ensures ∙ not-true _ c.if-not-ranges-4.taken)
 
-returns_5 : tie.Need-returns-5
+returns_5 : tie.Need-returns-then-not-y
 unfolding good_quality ◌≼◌
 returns_5 c =
-    let p = c.before.before in
-    let y = (start (top2 (top3 (top4 p)))).args.y in
-    let no : (y.side_low ≼ y.side_high) ≡ false = not-true _ c.if5.taken in
-    rw (yes_1 (top2 (top3 (top4 p))), yes_2 (top3 (top4 p)), yes_3 (top4 p), yes_4 p, no)
+    let p = c in
+    let y = (start (top2 (top3 (top4 p.before.before)))).args.y in
+    let no : (y.side_low ≼ y.side_high) ≡ false = not-true _ c.if-not-y.taken in
+    rw (yes_1 (top2 (top3 (top4 p.before.before))), yes_2 (top3 (top4 p.before.before)), yes_3 (top4 p.before.before), yes_4 p.before.before, no)
 
-returns_6 : tie.Need-returns-6
+returns_6 : tie.Need-returns-then-y-lt1
 unfolding good_quality ◌≼◌
 returns_6 c =
-    let p5 = c.before.before in
-    let p = top5 p5 in
-    rw (yes_1 (top2 (top3 (top4 p))), yes_2 (top3 (top4 p)), yes_3 (top4 p), yes_4 p, yes_5 p5, lt-leb 1 _ c.if6.taken)
+    let p5 = c in
+    let p = top5 p5.before.before in
+    rw (yes_1 (top2 (top3 (top4 p))), yes_2 (top3 (top4 p)), yes_3 (top4 p), yes_4 p, yes_5 p5.before.before, lt-leb 1 _ c.if-y-lt1.taken)
 
-returns_7 : tie.Need-returns-7
+returns_7 : tie.Need-returns
 unfolding good_quality ◌≼◌ most_pairs
 returns_7 c =
-    let p5 = c.before.before.before in
-    let p = top5 p5 in
-    rw (yes_1 (top2 (top3 (top4 p))), yes_2 (top3 (top4 p)), yes_3 (top4 p), yes_4 p, yes_5 p5, le-leb 1 _ c.before.if6.left)
+    let p5 = c in
+    let p = top5 p5.before.before.before in
+    rw (yes_1 (top2 (top3 (top4 p))), yes_2 (top3 (top4 p)), yes_3 (top4 p), yes_4 p, yes_5 p5.before.before.before, le-leb 1 _ c.if-y-lt1.left)
 
 pub good_quality_spec : {M : Type 1} → statement M
 good_quality_spec =

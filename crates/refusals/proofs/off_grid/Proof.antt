@@ -17,21 +17,24 @@ tested t z =
     let f = both (finite t.args.x) (finite t.args.y) (within_finite p (t.requires z)) in
     grid_tested p (ok binary64 t.args.x (to_T t.well_formed.0.1) (to_T f.0)) (ok binary64 t.args.y (to_T t.well_formed.1.0.1) (to_T f.1)) (t.requires z)
 
-returns : tie.Need-returns
+returns : tie.Need-returns-then-whole_part
 returns c =
     λ z.
-    let t = c.before.before.before in
-    let e = sym c.before.before.whole_part.ensures ∙ c.before.if1.true in
-    let h : is_whole_part t.args.y ≡ grid_node (spot t.args.x t.args.y z) = rw e at (tested t z) in
-    ap not (c.whole_part2.ensures ∙ h)
+    let t = c in
+    let e = sym c.whole_part.ensures ∙ c.if-whole_part.true in
+    let h : is_whole_part t.args.y ≡ grid_node (spot t.args.x t.args.y z) = rw e at (tested t.before.before.before z) in
+    ap not (c.whole_part-then-whole_part.ensures ∙ h)
 
-returns_2 : tie.Need-returns-2
+returns_2 : tie.Need-returns
 returns_2 c =
     λ z.
-    let t = c.before.before in
-    let e = sym c.before.whole_part.ensures ∙ c.if1.false in
-    let h : false ≡ grid_node (spot t.args.x t.args.y z) = rw e at (tested t z) in
+    let t = c in
+    let e = sym c.whole_part.ensures ∙ c.if-whole_part.false in
+    let h : false ≡ grid_node (spot t.args.x t.args.y z) = rw e at (tested t.before.before z) in
     ap not h
 
 pub off_grid_spec : {M : Type 1} → statement M
-off_grid_spec = tie.close (tie.spec (λ c κs. search rules) (λ c κs. search rules) returns returns_2)
+off_grid_spec =
+    tie.close
+    (tie.spec
+    (λ c κs. search rules) (λ c κs. search rules) returns returns_2)

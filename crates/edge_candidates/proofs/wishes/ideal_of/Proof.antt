@@ -1,5 +1,5 @@
 use Rattle.laws.specs.Kit.{◌≡◌, sym, ◌∙◌, ap, subst, true, false, arith, rules, Float}
-use Rattle.definition.specs.Floats.{◌≺◌, ◌≼◌, 0·2, 1e_12, f64}
+use Rattle.definition.specs.Floats.{◌≺◌, ◌≼◌, 0·2, 1e-12, f64}
 use Rattle.definition.specs.Numbers.{ideal_sum, tiny_length}
 use Rattle.definition.specs.Plane.{Vec, norm, over}
 use Rattle.definition.specs.Cells.{is_front}
@@ -42,7 +42,7 @@ from_to_requires c κs =
     (y a.a t.requires.3.node, y a.v t.requires.3.end)
 
 returns_3 : tie.Need-returns-3
-unfolding tiny_length ◌≼◌ 1e_12 f64
+unfolding tiny_length ◌≼◌ 1e-12 f64
 returns_3 c =
     let e4 = c.before in
     let nm = e4.before in
@@ -60,7 +60,7 @@ returns_3 c =
     (by_tiny every m a.a a.other (vec a.u) a.v e1.if1.false e2.if2.false (ap (is_front m) (key_swap a.a a.v) ∙ sym (is.is_front_around.ensures m r) ∙ t3.if3.true) (subst (λ (x : Float). (x ≼ tiny_length) ≡ true) n e4.if4.true))
 
 returns_4 : tie.Need-returns-4
-unfolding tiny_length ideal_sum ◌≺◌ ◌≼◌ 0·2 1e_12 f64
+unfolding tiny_length ideal_sum ◌≺◌ ◌≼◌ 0·2 1e-12 f64
 returns_4 c =
     let nm2 = c.before in
     let pl = nm2.before in

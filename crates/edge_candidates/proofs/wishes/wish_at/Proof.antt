@@ -1,5 +1,5 @@
 use Rattle.laws.specs.Kit.{◌≡◌, refl, ◌∙◌, ap, rules, Float}
-use Rattle.definition.specs.Floats.{◌≼◌, 1e_12, f64}
+use Rattle.definition.specs.Floats.{◌≼◌, 1e-12, f64}
 use Rattle.definition.specs.Numbers.{tiny_length}
 use Rattle.definition.specs.Plane.{Vec, norm, over}
 use Rattle.definition.specs.Candidates.{toward}
@@ -10,7 +10,7 @@ use Rattle.edge_candidates.proofs.wishes.wish_at.Statement.{statement}
 use Rattle.edge_candidates.proofs.wishes.wish_at.Tie as tie
 
 returns : tie.Need-returns
-unfolding tiny_length ◌≼◌ 1e_12 f64
+unfolding tiny_length ◌≼◌ 1e-12 f64
 returns c =
     let ls = c.before.before in
     let ov = ls.before.before in

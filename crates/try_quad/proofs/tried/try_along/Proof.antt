@@ -1,6 +1,6 @@
 -- From what is measured to the stance, then by the side nodes at a.
 use mathlib.Core.Bool.{true}
-use Rattle.definition.specs.Floats.{◌≼◌, 1e_12, f64}
+use Rattle.definition.specs.Floats.{◌≼◌, 1e-12, f64}
 use Rattle.definition.specs.Numbers.{first_turn, tiny_length}
 use Rattle.definition.specs.Attempt.{side_nodes, stance, try_along}
 use Rattle.rules.specs.Settings.{settings_of}
@@ -14,7 +14,7 @@ use Rattle.try_quad.proofs.tried.try_along.Statement.{statement}
 use Rattle.try_quad.proofs.tried.try_along.Tie as tie
 
 returns : tie.Need-returns
-unfolding tiny_length ◌≼◌ 1e_12 f64
+unfolding tiny_length ◌≼◌ 1e-12 f64
 returns c =
     let t = c.before.before.before.before.before.before.before.before.before.before.before.before in
     let a = t.args in
@@ -27,7 +27,7 @@ returns c =
     (short_target a.w.now a.q.now a.rules a.c a.edge.u a.edge.v m h a.edge.a a.edge.b a.seed t.requires.1.0 t.requires.1.1 le.result le.ensures.0 (vec ft.result) ft.ensures no.result no.ensures ta.result (ta.ensures (settings_of a.rules) (sized a.rules)) c.before.if1.true)
 
 returns_2 : tie.Need-returns-2
-unfolding tiny_length ◌≼◌ 1e_12 f64
+unfolding tiny_length ◌≼◌ 1e-12 f64
 returns_2 c =
     let t = c.before.before.before.before.before.before.before.before.before.before.before.before.before in
     let a = t.args in
@@ -66,7 +66,7 @@ with_first_requires c κs =
     (t.requires.0.0, a.q.now, a.c, side_nodes g (turn true) f (only_inserted 0) m a.edge.a a.edge.b, first_of a.w.now a.q.now a.rules a.c a.edge.u a.edge.v m h a.edge.a a.edge.b a.seed t.requires.1.0 t.requires.1.1 f na.ensures z, sides_lock a.j.now (only_inserted 0) m t.requires.0.3 g (turn true) f a.edge.a a.edge.b, first_log a.w.now a.q.now a.rules a.c a.edge.u a.edge.v m h a.edge.a a.edge.b a.seed t.requires.1.0 t.requires.1.1 f na.ensures z t.requires.0.5)
 
 returns_3 : tie.Need-returns-3
-unfolding first_turn tiny_length ◌≼◌ 1e_12 f64
+unfolding first_turn tiny_length ◌≼◌ 1e-12 f64
 returns_3 c =
     let t = c.before.before.before.before.before.before.before.before.before.before.before.before.before.before.before.before.before.before.before.before.before.before.before.before.before.before.before.before.before.before.before.before.before.before.before in
     let a = t.args in

@@ -1,0 +1,56 @@
+-- The old cell goes, then the new one is put into its slot.
+use Rattle.laws.specs.Kit.{◌∙◌, ◌≤◌, arith}
+use Rattle.definition.specs.Cells.{remove_cell}
+use Rattle.laws.specs.Frames.{keeps_trans}
+use Rattle.cells.specs.Layout.{mesh_end}
+use Rattle.meshes.specs.Changes.{tri_of_nodes}
+use Rattle.meshes.proofs.Evens.{forgotten_rep, forgotten_none, forgotten_keeps, forgotten_length}
+use Rattle.meshes.proofs.Removes.{set_put, set_is}
+use Rattle.meshes.proofs.store.set_tri.Goals as goal
+
+pub remove_cell-requires : goal.remove_cell-requires
+remove_cell-requires c =
+    let t = c in
+    let a = t.args in
+    record { rep = (t.requires.0, t.requires.1); i_lt_s = omega (arith, t.requires.1.used, t.requires.2.given) }
+
+pub forget_even-requires : goal.forget_even-requires
+forget_even-requires c =
+    let t = c in
+    let g = c.remove_cell.ensures in
+    record { room = (g.rep t.requires.0 t.requires.1 tt).room; le_s = omega (arith, t.requires.1.used, t.requires.2.given) }
+
+pub put_tri-requires : goal.put_tri-requires
+put_tri-requires c =
+    let t = c in
+    let a = t.args in
+    let cell = tri_of_nodes a.a a.b a.c in
+    let b = c.remove_cell in
+    let g = c.forget_even in
+    let m = t.requires.0 in
+    let one : 1 ≤ a.s = omega (arith, t.requires.1.used, t.requires.2.given) in
+    let r = b.ensures.rep m t.requires.1 tt in
+    record { by_index = (remove_cell m a.i, m.used, forgotten_rep b.new.0 g.new.0 a.s a.p one g.ensures (remove_cell m a.i) r, set_put a.s a.i m cell t.requires.1.used t.requires.2); uneven = forgotten_none b.new.0 g.new.0 a.s a.p one g.ensures r.room }
+
+pub shape_of-w : goal.shape_of-w
+shape_of-w c =
+    let t = c in
+    let a = t.args in
+    let b = c.remove_cell in
+    let g = c.forget_even in
+    c.put_tri.ensures.keeps.len ∙ forgotten_length b.new.0 g.new.0 a.s a.p (omega (arith, t.requires.1.used, t.requires.2.given)) g.ensures ∙ b.ensures.keeps.len
+
+pub returns : goal.returns
+returns c =
+    let t = c in
+    let a = t.args in
+    let cell = tri_of_nodes a.a a.b a.c in
+    let b = c.remove_cell in
+    let g = c.forget_even in
+    let q = c.put_tri.ensures in
+    let one : 1 ≤ a.s = omega (arith, t.requires.1.used, t.requires.2.given) in
+    let e = mesh_end a.s a.p in
+    record {
+      rep = λ m r o. set_is a.s a.i m cell _ a.p (q.rep (remove_cell m a.i) m.used (forgotten_rep b.new.0 g.new.0 a.s a.p one g.ensures (remove_cell m a.i) (b.ensures.rep m r tt)) (set_put a.s a.i m cell r.used o));
+      keeps = keeps_trans a.w.now g.new.0 _ e (keeps_trans a.w.now b.new.0 g.new.0 e b.ensures.keeps (forgotten_keeps b.new.0 g.new.0 a.s a.p one g.ensures)) q.keeps;
+    }

@@ -1,0 +1,13 @@
+use Rattle.laws.specs.Kit.{refl, sym, ◌∙◌, true, rules}
+use Rattle.plane.specs.Measures.{metrics_of_enum}
+use Rattle.plane.proofs.Measured.{metrics_by}
+use Rattle.plane.proofs.metrics.quad_metrics_of.Goals as goal
+
+pub returns-then-folded : goal.returns-then-folded
+unfolding metrics_of_enum
+returns-then-folded c = sym (metrics_by _ _ _ _ true _ (sym c.folded.ensures ∙ c.if-folded.true) refl)
+
+pub returns : goal.returns
+returns c =
+    let k = c in
+    c.measured.ensures c.lengths_of.ensures (sym k.folded.ensures ∙ k.if-folded.false)

@@ -1,0 +1,12 @@
+-- Two comparisons, each as the definition has it.
+use Rattle.definition.specs.Floats.{◌≼◌}
+use Rattle.definition.specs.Call.{ranges}
+use Rattle.refusals.proofs.ranges.Goals as goal
+
+pub returns-then-low-c : goal.returns-then-low-c
+unfolding ranges ◌≼◌
+returns-then-low-c c = rw c.if-low-c.taken
+
+pub returns : goal.returns
+unfolding ranges ◌≼◌
+returns c = rw c.if-low-c.left
