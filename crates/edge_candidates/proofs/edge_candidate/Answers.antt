@@ -60,7 +60,7 @@ returns-then-not-edge_reach c =
     let d : vec ft.from_to-d.result ≡ toward m a.a a.v = toward_read a.q.now a.p m k a.a a.v y (vec ft.from_to-d.result) ft.from_to-d.ensures in
     let n : nm.norm-n.result ≡ norm (toward m a.a a.v) = nm.norm-n.ensures ∙ ap norm d in
     edge_far (turn a.left) m a.a a.other a.target a.v e2.if-v-a.false e3.if-v-other.false
-    (sym (not-true er.edge_reach.result c.if-not-edge_reach.true) ∙ er.edge_reach.ensures ∙ ap (λ (x : Float). edge_reach x a.target) n)
+    (sym c.if-not-edge_reach.true ∙ er.edge_reach.ensures ∙ ap (λ (x : Float). edge_reach x a.target) n)
 
 pub returns : goal.returns
 returns c =
@@ -82,7 +82,7 @@ returns c =
     let o : vec ov.over.result ≡ over (toward m a.a a.v) (norm (toward m a.a a.v)) = ov.over.ensures ∙ ap (λ (x : Vec). over x nm.norm-n.result) d ∙ ap (over (toward m a.a a.v)) n in
     let f = owner_found a.w.now a.s a.p m r (key a.a a.v) to.tri_around.result (to.tri_around.ensures m r ∙ ap (λ (x : Edge). slot_or a.s (tri_owner m x)) (key_swap a.v a.a)) e4.if-tri_around-s.false in
     edge_near (turn a.left) m a.a a.other a.target a.v c.near_ideal.result (new_live to.tri_around.result (tri f.t)) e2.if-v-a.false e3.if-v-other.false
-    (sym (not-false er.edge_reach.result e5.if-not-edge_reach.false) ∙ er.edge_reach.ensures ∙ ap (λ (x : Float). edge_reach x a.target) n) f.is
+    (sym e5.if-not-edge_reach.false ∙ er.edge_reach.ensures ∙ ap (λ (x : Float). edge_reach x a.target) n) f.is
     (sym z.near ∙ e1.if-o.false)
     (c.near_ideal.ensures m a.p a.other k z ∙ ap (λ (x : Vec). near_ideal (turn a.left) m a.a a.other x (vec ov.over.result)) z.unit
     ∙ ap (near_ideal (turn a.left) m a.a a.other (over (toward m a.a a.other) (norm (toward m a.a a.other)))) o)

@@ -6,7 +6,7 @@ returns c = λ e.
     let i2 = c in
     let i1 = i2 in
     let b = i1.args.b in
-    record { left = not-false b.left.fine i1.if-not-b.false; right = not-false b.right.fine i2.if-not-b-2.false; low = not-false b.low.fine c.if-not-b-3.false; high = e }
+    record { left = not-false _ i1.if-not-b.false; right = not-false _ i2.if-not-b-2.false; low = not-false _ c.if-not-b-3.false; high = e }
 
 pub returns-then-not-b : goal.returns-then-not-b
 returns-then-not-b c = λ e. absurd (false≢true e)

@@ -16,4 +16,4 @@ returns c =
     let o2 = c in
     let i1 = o2 in
     let o1 = i1 in
-    before_is _ _ _ _ (o1.in_order.ensures (not-false o1.in_order.result i1.if-not-in_order.false)) (o2.in_order-2.ensures (not-false o2.in_order-2.result c.if-not-in_order-2.false))
+    before_is _ _ _ _ (o1.in_order.ensures i1.if-not-in_order.false) (o2.in_order-2.ensures c.if-not-in_order-2.false)

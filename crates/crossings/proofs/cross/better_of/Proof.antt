@@ -38,7 +38,7 @@ returns_3 c =
     let k = c in
     let a = (top k.before).args in (
       omega arith,
-      λ m d. not_chosen m a.u a.v a.a a.x a.best false (sym (not_parted m a.u a.v a.a a.x a.q.now (four k.before m d) (sym (parted k.before) ∙ not-true k.other_side.result c.if-not-other_side.true))) refl,
+      λ m d. not_chosen m a.u a.v a.a a.x a.best false (sym (not_parted m a.u a.v a.a a.x a.q.now (four k.before m d) (sym (parted k.before) ∙ c.if-not-other_side.true))) refl,
     )
 
 is_crossing_requires : tie.Need-is_crossing-requires
@@ -47,7 +47,7 @@ is_crossing_requires c κs =
     let t = top k.before in
     let p = t.requires.0 in
     let n : t.args.x < t.args.n = omega (arith, k.if-x-best.false, t.requires.1.0) in
-    ((omega (arith, p.fits, p.u_known), omega (arith, p.fits, p.v_known), omega (arith, p.fits, p.a_known), omega (arith, p.fits, n)), sym (parted k.before) ∙ not-false k.other_side.result c.if-not-other_side.false)
+    ((omega (arith, p.fits, p.u_known), omega (arith, p.fits, p.v_known), omega (arith, p.fits, p.a_known), omega (arith, p.fits, n)), sym (parted k.before) ∙ c.if-not-other_side.false)
 
 returns_4 : tie.Need-returns-then-is_crossing
 returns_4 c =

@@ -30,7 +30,7 @@ least_near-b-requires c =
 pub shape_of-w-then-b-n : goal.shape_of-w-then-b-n
 shape_of-w-then-b-n c =
     let q = c in
-    q.least_near-b.auto.0 ∙ q.loop-a.invariant.1.len
+    q.least_near-b.auto.w ∙ q.loop-a.invariant.1.len
 
 pub returns-then-b-n : goal.returns-then-b-n
 returns-then-b-n c =

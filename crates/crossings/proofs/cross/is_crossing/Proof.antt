@@ -21,13 +21,13 @@ returns : tie.Need-returns-then-not-off_edge
 returns c = λ m e f.
     let o = c in
     let a = o.args in
-    shares_a m a.u a.v a.a a.b o.off_edge.result o.off_edge.ensures (not-true o.off_edge.result c.if-not-off_edge.true)
+    shares_a m a.u a.v a.a a.b o.off_edge.result o.off_edge.ensures c.if-not-off_edge.true
 
 returns_2 : tie.Need-returns-then-not-off_edge-2
 returns_2 c = λ m e f.
     let o2 = c in
     let a = o2.args in
-    shares_b m a.u a.v a.a a.b o2.off_edge-2.result o2.off_edge-2.ensures (not-true o2.off_edge-2.result c.if-not-off_edge-2.true)
+    shares_b m a.u a.v a.a a.b o2.off_edge-2.result o2.off_edge-2.ensures c.if-not-off_edge-2.true
 
 returns_3 : tie.Need-returns-then-not-other_side
 returns_3 c = λ m e f.
@@ -37,9 +37,9 @@ returns_3 c = λ m e f.
     let e1 = o2 in
     let o = e1 in
     let a = o.args in
-    parts_not m a.u a.v a.a a.b o.off_edge.result o.off_edge.ensures (not-false o.off_edge.result e1.if-not-off_edge.false)
-    o2.off_edge-2.result o2.off_edge-2.ensures (not-false o2.off_edge-2.result e2.if-not-off_edge-2.false)
-    a.q.now f x.other_side.result (crosses x.before) (not-true x.other_side.result c.if-not-other_side.true)
+    parts_not m a.u a.v a.a a.b o.off_edge.result o.off_edge.ensures e1.if-not-off_edge.false
+    o2.off_edge-2.result o2.off_edge-2.ensures e2.if-not-off_edge-2.false
+    a.q.now f x.other_side.result (crosses x.before) c.if-not-other_side.true
 
 returns_4 : tie.Need-returns
 returns_4 c = λ m e f.
@@ -50,9 +50,9 @@ returns_4 c = λ m e f.
     let e1 = o2 in
     let o = e1 in
     let a = o.args in
-    parts_rest m a.u a.v a.a a.b o.off_edge.result o.off_edge.ensures (not-false o.off_edge.result e1.if-not-off_edge.false)
-    o2.off_edge-2.result o2.off_edge-2.ensures (not-false o2.off_edge-2.result e2.if-not-off_edge-2.false)
-    a.q.now f x.other_side.result (crosses x.before.before) (not-false x.other_side.result e3.if-not-other_side.false)
+    parts_rest m a.u a.v a.a a.b o.off_edge.result o.off_edge.ensures e1.if-not-off_edge.false
+    o2.off_edge-2.result o2.off_edge-2.ensures e2.if-not-off_edge-2.false
+    a.q.now f x.other_side.result (crosses x.before.before) e3.if-not-other_side.false
     c.overlaps.result (c.overlaps.ensures m e f)
 
 pub is_crossing_spec : {M : Type 1} → statement M

@@ -46,7 +46,7 @@ put_requires_2 c κs =
     let e2 = pt in
     let t = e2 in
     let a = t.args in
-    let n : length pt.put.new.w ≡ length a.w.now = pt.put.auto.0 in
+    let n : length pt.put.new.w ≡ length a.w.now = pt.put.auto.w in
     let h : a.b + 2 * a.s + 4 * a.i + 2 + 2 ≤ length pt.put.new.w = omega (arith, e2.if-i-s.false, n, t.requires.to) in
     h
 
@@ -60,7 +60,7 @@ same_length : tie.Need-shape_of-w
 same_length c =
     let p2 = c in
     let p1 = p2 in
-    p2.put-2.auto.0 ∙ p1.put.auto.0
+    p2.put-2.auto.w ∙ p1.put.auto.w
 
 returns_5 : tie.Need-returns
 unfolding vec
@@ -80,7 +80,7 @@ returns_5 c =
     let k : a.i ≡ a.k = omega (arith, e1.if-k-i.false, t.requires.some) in
     subst (λ (j : ℕ). KeepTo a.w.now w2 a.s a.b a.i j (vec a.x) (a.i + 1)) k
     (keep_done a.w.now p1.put.new.w w2 a.s a.b a.i f (vec a.x) p1.put.ensures p2.put-2.ensures
-    (n1.is_number.ensures (not-false n1.is_number.result e3.if-not-is_number.false)) (n2.is_number-2.ensures (not-false n2.is_number-2.result e4.if-not-is_number-2.false)))
+    (n1.is_number.ensures e3.if-not-is_number.false) (n2.is_number-2.ensures e4.if-not-is_number-2.false))
 
 pub keep_spec : {M : Type 1} → statement M
 keep_spec =

@@ -118,7 +118,7 @@ loop-c-preserved c =
     let x = l.loop-c in
     let t = l in
     let a = t.args in (
-      n2.list_node-g.auto.0 ∙ n1.list_node-one.auto.0 ∙ x.invariant.0,
+      n2.list_node-g.auto.w ∙ n1.list_node-one.auto.w ∙ x.invariant.0,
       λ m k.
           let z = x.invariant.1 m k in
           let o = n1.list_node-one.ensures m (gather_one a.w.now a.q.now a.s a.p a.a a.other a.b m k (vec a.u) x.w x.g x.c z i.loop-c-test.true na.node_after-x.result nb.node_before-y.result nt.next-d.result na.node_after-x.ensures nb.node_before-y.ensures nt.next-d.ensures) in

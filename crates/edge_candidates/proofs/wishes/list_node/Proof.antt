@@ -20,7 +20,7 @@ returns c =
     let a = t.args in
     λ m k.
     let y = io.ideal_of-x.ensures m k.list.rep k.list.pts (record { node = k.list.ends.node; end = k.end }) in
-    node_none a.w.now a.q.now a.s a.p a.a a.other a.b m (vec a.u) a.g a.v k (sym (not-true io.ideal_of-x.result.yes c.if-not-x.true) ∙ y.yes)
+    node_none a.w.now a.q.now a.s a.p a.a a.other a.b m (vec a.u) a.g a.v k (sym (not-true _ c.if-not-x.true) ∙ y.yes)
 
 cast_w : tie.Need-overflow_cast-w
 cast_w c =
@@ -56,7 +56,7 @@ same_length_2 : tie.Need-shape_of-w
 same_length_2 c =
     let kp = c in
     let a = (start_of c).args in
-    kp.keep-k.auto.0 ∙ length-set a.w.now (a.b + a.g.count) a.v
+    kp.keep-k.auto.w ∙ length-set a.w.now (a.b + a.g.count) a.v
 
 returns_2 : tie.Need-returns
 returns_2 c =
@@ -67,7 +67,7 @@ returns_2 c =
     let a = t.args in
     λ m k.
     let y = io.ideal_of-x.ensures m k.list.rep k.list.pts (record { node = k.list.ends.node; end = k.end }) in
-    let z : io.ideal_of-x.result.yes ≡ true = not-false io.ideal_of-x.result.yes e1.if-not-x.false in
+    let z : io.ideal_of-x.result.yes ≡ true = not-false _ e1.if-not-x.false in
     node_some a.w.now a.q.now a.s a.p a.a a.other a.b m (vec a.u) a.g a.v k (sym z ∙ y.yes) (vec io.ideal_of-x.result.ideal) (y.is z) kp.keep-k.new.w
     kp.keep-k.result kp.keep-k.ensures
 
@@ -75,4 +75,4 @@ pub list_node_spec : {M : Type 1} → statement M
 list_node_spec =
     tie.close
     (tie.spec
-    ideal_of_requires (λ c. refl) returns cast_w add_w mul_w slice_write_w keep_requires (λ c. let t = start_of c in let k = t.requires.1 in omega (arith, k.room, k.list.to, t.good.0.0)) same_length_2 returns_2)
+    ideal_of_requires (λ c. refl) returns cast_w add_w mul_w slice_write_w keep_requires (λ c. let t = start_of c in let k = t.requires.1 in omega (arith, k.room, k.list.to, t.well_formed.0.0)) same_length_2 returns_2)
