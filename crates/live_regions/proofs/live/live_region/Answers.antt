@@ -176,7 +176,7 @@ loop-j-preserved c =
     let w2 = so.seed_one.new.w in
     let f0 = so.seed_one.ensures m0 g0.hold in
     let sc = scratch_trans w w1 w2 a.s a.p g0.scratch f0.scratch in (
-      sp.step-n.auto.0 ∙ x.invariant.0,
+      sp.step-n.auto.w ∙ x.invariant.0,
       (
           let m = m0 in
           let le : Lent w2 a.q.now a.s a.p a.used m = record { rep = scratch_rep w w2 a.s a.p m sc l0.rep; pts = l0.pts; given = l0.given } in
@@ -197,7 +197,7 @@ shape_of-w c =
     let l = c in
     let so = l in
     let em = so in
-    l.loop-j.invariant.0 ∙ so.seed_one.auto.0 ∙ em.empty.auto.0
+    l.loop-j.invariant.0 ∙ so.seed_one.auto.w ∙ em.empty.auto.w
 
 pub returns : goal.returns
 returns c =

@@ -100,7 +100,7 @@ loop-c-preserved c =
     let t = l in
     let a = t.args in
     let hh = i.loop-c-test.true in (
-      o.push_one.auto.0 ∙ x.invariant.0,
+      o.push_one.auto.w ∙ x.invariant.0,
       λ m out seen st h.
           let g = x.invariant.1 m out seen st h in
           let f = o.push_one.ensures m out seen g.now (going_here a.w.now x.w a.s a.p a.i a.u a.v x.k x.j x.c m out seen st g hh).x (going_met a.w.now x.w a.s a.p a.i a.u a.v x.k x.j x.c m out seen st g hh) in
@@ -145,7 +145,7 @@ note_other-requires c =
 
 pub shape_of-w : goal.shape_of-w
 shape_of-w c =
-    c.note_other.auto.0 ∙ c.loop-c.invariant.0
+    c.note_other.auto.w ∙ c.loop-c.invariant.0
 
 pub returns : goal.returns
 returns c =

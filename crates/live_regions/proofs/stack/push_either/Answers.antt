@@ -10,7 +10,7 @@ push_edge-requires c =
     record { can_push = t.requires.can_push; edge = t.requires.edge }
 
 pub shape_of-w-then-not-many : goal.shape_of-w-then-not-many
-shape_of-w-then-not-many c = c.push_edge.auto.0
+shape_of-w-then-not-many c = c.push_edge.auto.w
 
 pub returns-then-not-many : goal.returns-then-not-many
 returns-then-not-many c = λ m out seen st h. c.push_edge.ensures m out seen st h
@@ -27,7 +27,7 @@ push_edge-requires-then-around_other c =
     let y = t.requires.can_push in record { can_push = (y.0, y.1, y.2, y.3, can_swap a.w.now a.s a.p a.i a.u a.v y.0 y.1 y.2 y.3 y.4); edge = record { node = c.around_other.ensures c.if-around_other.true; apart = λ e. t.requires.edge.apart (sym e) } }
 
 pub shape_of-w-then-around_other : goal.shape_of-w-then-around_other
-shape_of-w-then-around_other c = c.push_edge-then-around_other.auto.0
+shape_of-w-then-around_other c = c.push_edge-then-around_other.auto.w
 
 pub returns-then-around_other : goal.returns-then-around_other
 returns-then-around_other c =
@@ -43,7 +43,7 @@ push_edge-requires-2 c =
     record { can_push = t.requires.can_push; edge = t.requires.edge }
 
 pub shape_of-w : goal.shape_of-w
-shape_of-w c = c.push_edge-2.auto.0
+shape_of-w c = c.push_edge-2.auto.w
 
 pub returns : goal.returns
 returns c = λ m out seen st h. c.push_edge-2.ensures m out seen st h

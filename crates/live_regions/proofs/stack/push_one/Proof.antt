@@ -113,7 +113,7 @@ link_requires_2 c κs =
 
 same_length_2 : tie.Need-shape_of-w
 same_length_2 c =
-    c.link-2.auto.0 ∙ simp length-set
+    c.link-2.auto.w ∙ simp length-set
 
 returns_4 : tie.Need-returns
 returns_4 c =
