@@ -38,8 +38,7 @@ pub fn run_mesh(
     stated: Stated,
 ) -> Mesh
     ensures job_returns { JobReturns
-        (job
-        (job_of state)
+        (job (job_of state)
         (asked stated)
         (lent_of points.old triangles.now joints.now quads.old triangles_out.old components.old work.old float_work.old trace.old))
         result
