@@ -24,8 +24,8 @@ is_near-requires c =
     let f1 = tk.take-b.ensures m out seen st x h.top in
     record { rep = (m, f1.to.hold.rep, pts, k.t); i_lt_s = h.top.inside; tell = t.requires.tell }
 
-pub push_around-f-requires : goal.push_around-f-requires
-push_around-f-requires c =
+pub push_around_either-f-requires : goal.push_around_either-f-requires
+push_around_either-f-requires c =
     let nr = c in
     let tk = nr in
     let t = tk in
@@ -62,11 +62,11 @@ list_one-requires c =
     let h = t.requires.pts.6 in
     let k = top_tri w a.s a.p a.n a.i m out seen st x h in
     let f1 = tk.take-b.ensures m out seen st x h.top in
-    let w2 = pa.push_around-f.new.w in
+    let w2 = pa.push_around_either-f.new.w in
     let ca = can_push_all w a.s a.p a.n a.i m out seen st x h w1 tk.take-b.result f1 in
-    let f2 = pa.push_around-f.ensures m out (x ∷ seen) st x k.t ca k.is in
+    let f2 = pa.push_around_either-f.ensures m out (x ∷ seen) st x k.t ca k.is in
     let st2 = foldl (on_top (x ∷ seen)) st (neighbours m x) in
-    let cl = can_list w a.s a.p a.n a.i m out seen st x h w2 st2 pa.push_around-f.result (push_trans w w1 w2 a.s a.p m out (x ∷ seen) st2 f1.to.scratch f2.to) f2.walls in
+    let cl = can_list w a.s a.p a.n a.i m out seen st x h w2 st2 pa.push_around_either-f.result (push_trans w w1 w2 a.s a.p m out (x ∷ seen) st2 f1.to.scratch f2.to) f2.walls in
     (m, out, x ∷ seen, st2, x, cl)
 
 pub overflow_add-result : goal.overflow_add-result
@@ -101,11 +101,11 @@ returns-then-is_near c =
     λ m out seen st x pts h.
     let k = top_tri w a.s a.p a.n a.i m out seen st x h in
     let f1 = tk.take-b.ensures m out seen st x h.top in
-    let w2 = pa.push_around-f.new.w in
+    let w2 = pa.push_around_either-f.new.w in
     let ca = can_push_all w a.s a.p a.n a.i m out seen st x h w1 tk.take-b.result f1 in
-    let f2 = pa.push_around-f.ensures m out (x ∷ seen) st x k.t ca k.is in
+    let f2 = pa.push_around_either-f.ensures m out (x ∷ seen) st x k.t ca k.is in
     let st2 = foldl (on_top (x ∷ seen)) st (neighbours m x) in
-    let cl = can_list w a.s a.p a.n a.i m out seen st x h w2 st2 pa.push_around-f.result (push_trans w w1 w2 a.s a.p m out (x ∷ seen) st2 f1.to.scratch f2.to) f2.walls in
+    let cl = can_list w a.s a.p a.n a.i m out seen st x h w2 st2 pa.push_around_either-f.result (push_trans w w1 w2 a.s a.p m out (x ∷ seen) st2 f1.to.scratch f2.to) f2.walls in
     let w3 = lo.list_one.new.w in
     let f3 = lo.list_one.ensures m out (x ∷ seen) st2 x cl in
     step_near w a.s a.p a.n a.i m out seen st x h a.x a.y a.r w3 (sym pa.if-is_near.true ∙ nr.is_near.ensures m f1.to.hold.rep pts k.t)

@@ -1,0 +1,12 @@
+use Rattle.laws.specs.Kit.{ℕ, ◌-◌, ◌≤◌, arith, List}
+use Rattle.definition.specs.Plane.{Edge}
+use Rattle.edges.specs.Kept.{on_place}
+use Rattle.loops.specs.Keep.{OpenLoop}
+use Rattle.loops.proofs.Keeping.{open_edge, Asking, asking_start, asking_end, asking_hit, asking_on}
+use Rattle.loops.proofs.keep.any_open.Given as goal
+
+abbrev pub invariant-loop-i : goal.invariant-loop-i
+invariant-loop-i s = (s.b ≤ s.i) × ((n : ℕ) (bl l : List Edge) → OpenLoop s.w s.s s.p s.b s.e n bl l → Asking s.w s.s s.p s.e s.i bl l)
+
+abbrev pub decreases-loop-i : goal.decreases-loop-i
+decreases-loop-i l = l.e - l.i
