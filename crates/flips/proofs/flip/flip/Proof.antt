@@ -149,11 +149,11 @@ convex_pair_requires : tie.Need-convex_pair-requires
 convex_pair_requires c κs =
     let t = top (known c) in
     let a = t.args in
-    let m = t.pre.0.0 in
-    let r = t.pre.0.1 in
+    let m = t.requires.0.0 in
+    let r = t.requires.0.1 in
     let f = third1 c m r in
     let g = third2 c m r in
-    let in_slice : (x : ℕ) → x < length m.points → Within a.q.now x = λ x h. within a.q.now a.p (length m.points) x h r.points t.pre.0.2.fits in
+    let in_slice : (x : ℕ) → x < length m.points → Within a.q.now x = λ x h. within a.q.now a.p (length m.points) x h r.points t.requires.0.2.fits in
     (in_slice a.u f.u_known, in_slice a.v f.v_known, in_slice (node1 c) f.x_known, in_slice (node2 c) g.x_known)
 
 returns_3 : tie.Need-returns-then-not-convex_pair
@@ -190,7 +190,7 @@ turn_evenly_requires c κs =
     let e = c in
     let v = e in
     let t = top (known v.before.before.before.before) in
-    (t.pre.0.0, t.pre.0.1, flips v.before.before.before t.pre.0.0 t.pre.0.1 t.pre.0.2 t.pre.0.3 e.if-not-convex_pair.false)
+    (t.requires.0.0, t.requires.0.1, flips v.before.before.before t.requires.0.0 t.requires.0.1 t.requires.0.2 t.requires.0.3 e.if-not-convex_pair.false)
 
 returns_5 : tie.Need-returns
 returns_5 c =

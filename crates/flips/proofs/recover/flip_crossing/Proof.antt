@@ -47,7 +47,7 @@ abbrev edge : tie.After-flip-f → tie.In-At
 edge f = f.before.before.before.before
 
 abbrev room : tie.After-flip-f → Bool
-room f = f.fits2.result
+room f = f.fits-room.result
 
 abbrev turned : tie.After-flip-f → Turned
 turned f = f.flip-f.result
@@ -57,7 +57,7 @@ memory2 f = f.flip-f.new.w
 
 module _ (f : tie.After-flip-f) where
   fits : (base : List ℕ) → FitsIs base (top (edge f)).args.t.now (top (edge f)).args.at (room f)
-  fits base = λ m m' v h n l. f.fits2.ensures base m m' v h n l
+  fits base = λ m m' v h n l. f.fits-room.ensures base m m' v h n l
 
   keeps : Keeps (top (edge f)).args.w.now (memory2 f) (mesh_end (top (edge f)).args.s (top (edge f)).args.p)
   keeps =
@@ -115,7 +115,7 @@ note_flip_requires c κs =
     let m = t.requires.0.1 in
     let k = t.requires.0.2 in
     let g = first e m k t.requires.0.5 in
-    let y = d.in-Flipped in
+    let y = d.in-Flipped.is in
     let x = to f.before.before.before.before m k t.requires.0.3 in (
       (
         base,
@@ -161,7 +161,7 @@ returns_4 c =
     let f = d in
     let e = edge f.before.before.before.before.before.before.before in
     let a = (top e).args in
-    let y = d.in-Flipped in
+    let y = d.in-Flipped.is in
     record {
       is = λ base m k o l b.
           let x = to f.before.before.before.before.before.before.before m k o in

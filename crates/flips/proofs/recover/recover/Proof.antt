@@ -85,7 +85,7 @@ same_length_3 c =
 same_length_4 : tie.Need-shape_of-t-then-not-f invariant_loop decreases_loop
 same_length_4 c =
     let f = c in
-    f.flip_crossing-f.auto.t.1.1.0 ∙ f.loop-k.invariant.2
+    f.flip_crossing-f.auto.t ∙ f.loop-k.invariant.2
 
 returns_2 : tie.Need-returns-then-not-f invariant_loop decreases_loop
 returns_2 c =
@@ -101,7 +101,7 @@ returns_2 c =
           going_stuck l.loop-k.w a.q.now base l.loop-k.t a.s a.p a.n a.used a.bucket a.u a.v l.loop-k.k l.loop-k.at l.loop-k.from m e l.loop-k.invariant.0 g i.loop-k-test.true
           h.has_edge.result (h.has_edge.ensures g.mesh g.stands.known.rep) e1.if-has_edge.false f.flip_crossing-f.new.w f.flip_crossing-f.new.t
           f.flip_crossing-f.result (f.flip_crossing-f.ensures.is base g.mesh g.stands.known (rw g.locks o) g.stands.log g.below)
-          c.if-not-f.true _ (record { there = refl; short = refl; flips = refl; place = refl });
+          (not-true _ c.if-not-f.true) _ (record { there = refl; short = refl; flips = refl; place = refl });
       keeps = keeps_trans a.w.now l.loop-k.w f.flip_crossing-f.new.w (mesh_end a.s a.p) l.loop-k.invariant.1 f.flip_crossing-f.ensures.keeps;
     }
 
@@ -115,13 +115,13 @@ loop_again c =
     let a = (top l.before.before.before.before.before.before.before.before.before.before.before.before).args in (
       omega (arith, i.loop-k-test.true),
       keeps_trans a.w.now l.loop-k.w f.flip_crossing-f.new.w (mesh_end a.s a.p) l.loop-k.invariant.1 f.flip_crossing-f.ensures.keeps,
-      f.flip_crossing-f.auto.t.1.1.0 ∙ l.loop-k.invariant.2,
+      f.flip_crossing-f.auto.t ∙ l.loop-k.invariant.2,
       λ base m k e o z.
           let g = l.loop-k.invariant.3 base m k e o z in
           going_on l.loop-k.w a.q.now base l.loop-k.t a.s a.p a.n a.used a.bucket a.u a.v l.loop-k.k l.loop-k.at l.loop-k.from m e l.loop-k.invariant.0 g i.loop-k-test.true
           h.has_edge.result (h.has_edge.ensures g.mesh g.stands.known.rep) e1.if-has_edge.false f.flip_crossing-f.new.w f.flip_crossing-f.new.t
           f.flip_crossing-f.result (f.flip_crossing-f.ensures.is base g.mesh g.stands.known (rw g.locks o) g.stands.log g.below)
-          c.if-not-f.false,
+          (not-false _ c.if-not-f.false),
       f.flip_crossing-f.ensures.few,
     )
 
