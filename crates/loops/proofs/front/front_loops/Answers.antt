@@ -72,11 +72,11 @@ loop-i-preserved c =
     let l = i in
     let h = i.loop-i-test.true in (
       tr.trace-e.auto.w ∙ l.loop-i.invariant.0,
-      ke.keep-x.auto.f.1.1.0 ∙ l.loop-i.invariant.1,
+      ke.keep-x.auto.f ∙ l.loop-i.invariant.1,
       λ m es bl k cl.
           let g = l.loop-i.invariant.2 m es bl k cl in
           let t = tr.trace-e.ensures _ es (looping_trace g h) in
-          looping_on g h t ke.keep-x.auto.f.1.1.0 (ke.keep-x.ensures m bl _ _ (looping_keep g h t refl k)) c.next_fresh-i-in-loop-i.ensures,
+          looping_on g h t ke.keep-x.auto.f (ke.keep-x.ensures m bl _ _ (looping_keep g h t refl k)) c.next_fresh-i-in-loop-i.ensures,
     )
 
 pub returns : goal.returns
