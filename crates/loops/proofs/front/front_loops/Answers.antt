@@ -1,14 +1,10 @@
 -- The loop's invariant: the loops that stand, and behind them those of the edges left, are the front's;
 -- the definition's fuel suffices for these.
 -- The measure is how many edges stand from i on.
-use Rattle.laws.specs.Kit.{◌≡◌, refl, ◌∙◌, ◌-◌, arith, rules, List, length}
-use Rattle.definition.specs.Plane.{Edge}
-use Rattle.definition.specs.Cells.{Mesh}
+use Rattle.laws.specs.Kit.{refl, ◌∙◌, arith}
 use Rattle.edges.specs.Parts.{edge_of}
-use Rattle.loops.specs.Link.{Clear}
-use Rattle.loops.specs.Sift.{CanSift}
 use Rattle.loops.specs.Trace.{walk_of}
-use Rattle.loops.proofs.Looping.{Looping, looping_start, looping_end, looping_trace, looping_next, looping_keep, looping_on, listed_sift, looping_to}
+use Rattle.loops.proofs.Looping.{looping_start, looping_end, looping_trace, looping_next, looping_keep, looping_on, listed_sift, looping_to}
 use Rattle.loops.proofs.front.front_loops.Goals as goal
 
 pub list_edges-requires : goal.list_edges-requires

@@ -1,12 +1,11 @@
 -- The three edges of the triangle one after the other, each by its nodes as they were read.
 use Rattle.laws.specs.Kit.{◌≡◌, ◌∙◌, ℕ, arith, List, [], ◌++◌}
 use Rattle.definition.specs.Plane.{Edge}
-use Rattle.definition.specs.Cells.{Tri, Live, Mesh, key, new_quad, quad_edges}
-use Rattle.definition.specs.Region.{reach_all, across}
+use Rattle.definition.specs.Cells.{Tri, Mesh, key, new_quad, quad_edges}
+use Rattle.definition.specs.Region.{across}
 use Rattle.cells.specs.Rep.{Rep, TriIn}
 use Rattle.cells.specs.Walk.{node_in}
 use Rattle.cells.proofs.Slots.{rep_see, tri_held}
-use Rattle.regions.specs.Listing.{State}
 use Rattle.regions.specs.Flood.{beyond, tri_live}
 use Rattle.regions.proofs.Visits.{Corners, tri_inside, tri_corners, tri_across, seq_failed, seq_mid, seq_then}
 use Rattle.regions.proofs.flood.visit_tri.Goals as goal
