@@ -1,6 +1,5 @@
 -- No edge, one or two.
 use Rattle.front_edges.proofs.Copies.{copied_none, can_first, copied_one, can_second, copied_two}
-use Rattle.laws.specs.Kit.{rules}
 use Rattle.front_edges.proofs.copy_noted.Goals as goal
 
 pub returns-then-x-eq1 : goal.returns-then-x-eq1

@@ -1,6 +1,5 @@
 -- Only the note's word changes.
 use Rattle.front_edges.proofs.Noting.{none_written}
-use Rattle.laws.specs.Kit.{rules}
 use Rattle.front_edges.proofs.note_none.Goals as goal
 
 pub returns : goal.returns

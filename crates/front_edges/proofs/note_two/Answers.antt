@@ -1,5 +1,5 @@
 -- Both other ends, then the note's word.
-use Rattle.laws.specs.Kit.{◌∙◌, ◌+◌, ◌*◌, ◌<◌, arith, rules, length, get_or, set, length-set}
+use Rattle.laws.specs.Kit.{◌∙◌, ◌+◌, ◌*◌, ◌<◌, arith, length, get_or, set, length-set}
 use Rattle.front_edges.proofs.Noting.{can_mark, two_written}
 use Rattle.front_edges.proofs.note_two.Goals as goal
 
@@ -17,8 +17,11 @@ mark-requires c =
     let t = v in
     let a = t.args in
     let i = f.fronts_at.result + 2 * a.u in
-    let j = v.front_v_at.result + a.k in record { can_mark = can_mark (set a.w.now i (get_or a.w.now j 0)) a.s a.p a.u (i + 1) (get_or a.w.now (j + 1) 0)
-          (can_mark a.w.now a.s a.p a.u i (get_or a.w.now j 0) t.requires.mark (omega (arith, f.fronts_at.ensures))) (omega (arith, f.fronts_at.ensures)); n_bound = omega arith }
+    let j = v.front_v_at.result + a.k in record {
+      can_mark = can_mark (set a.w.now i (get_or a.w.now j 0)) a.s a.p a.u (i + 1) (get_or a.w.now (j + 1) 0)
+          (can_mark a.w.now a.s a.p a.u i (get_or a.w.now j 0) t.requires.mark (omega (arith, f.fronts_at.ensures))) (omega (arith, f.fronts_at.ensures));
+      n_bound = omega arith;
+    }
 
 pub shape_of-w : goal.shape_of-w
 shape_of-w c = c.mark.auto.w ∙ (simp length-set)

@@ -1,5 +1,5 @@
 -- A corner of a quad adds nothing; at a corner of a triangle both of its edges are tried.
-use Rattle.laws.specs.Kit.{refl, sym, ◌∙◌}
+use Rattle.laws.specs.Kit.{sym, ◌∙◌}
 use Rattle.front_edges.proofs.Corners.{here_see, here_read, quad_step, can_x, can_y, tri_step}
 use Rattle.front_edges.proofs.try_corner.Goals as goal
 

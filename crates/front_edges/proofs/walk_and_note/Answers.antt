@@ -1,6 +1,5 @@
 -- The walk, then the note.
 use Rattle.front_edges.proofs.Noting.{can_note, walked}
-use Rattle.laws.specs.Kit.{rules}
 use Rattle.front_edges.proofs.walk_and_note.Goals as goal
 
 pub note_edges-requires : goal.note_edges-requires

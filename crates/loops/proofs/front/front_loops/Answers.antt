@@ -1,14 +1,10 @@
 -- The loop's invariant: the loops that stand, and behind them those of the edges left, are the front's;
 -- the definition's fuel suffices for these.
 -- The measure is how many edges stand from i on.
-use Rattle.laws.specs.Kit.{◌≡◌, refl, ◌∙◌, ◌-◌, arith, rules, List, length}
-use Rattle.definition.specs.Plane.{Edge}
-use Rattle.definition.specs.Cells.{Mesh}
+use Rattle.laws.specs.Kit.{refl, ◌∙◌, arith}
 use Rattle.edges.specs.Parts.{edge_of}
-use Rattle.loops.specs.Link.{Clear}
-use Rattle.loops.specs.Sift.{CanSift}
 use Rattle.loops.specs.Trace.{walk_of}
-use Rattle.loops.proofs.Looping.{Looping, looping_start, looping_end, looping_trace, looping_next, looping_keep, looping_on, listed_sift, looping_to}
+use Rattle.loops.proofs.Looping.{looping_start, looping_end, looping_trace, looping_next, looping_keep, looping_on, listed_sift, looping_to}
 use Rattle.loops.proofs.front.front_loops.Goals as goal
 
 pub list_edges-requires : goal.list_edges-requires
@@ -72,11 +68,11 @@ loop-i-preserved c =
     let l = i in
     let h = i.loop-i-test.true in (
       tr.trace-e.auto.w ∙ l.loop-i.invariant.0,
-      ke.keep-x.auto.f.1.1.0 ∙ l.loop-i.invariant.1,
+      ke.keep-x.auto.f ∙ l.loop-i.invariant.1,
       λ m es bl k cl.
           let g = l.loop-i.invariant.2 m es bl k cl in
           let t = tr.trace-e.ensures _ es (looping_trace g h) in
-          looping_on g h t ke.keep-x.auto.f.1.1.0 (ke.keep-x.ensures m bl _ _ (looping_keep g h t refl k)) c.next_fresh-i-in-loop-i.ensures,
+          looping_on g h t ke.keep-x.auto.f (ke.keep-x.ensures m bl _ _ (looping_keep g h t refl k)) c.next_fresh-i-in-loop-i.ensures,
     )
 
 pub returns : goal.returns

@@ -1,11 +1,9 @@
-use Rattle.laws.specs.Kit.{◌≡◌, refl, ◌∙◌, ◌-◌, arith, rules, List, length}
+use Rattle.laws.specs.Kit.{◌≡◌, ◌-◌, List, length}
 use Rattle.definition.specs.Plane.{Edge}
 use Rattle.definition.specs.Cells.{Mesh}
-use Rattle.edges.specs.Parts.{edge_of}
 use Rattle.loops.specs.Link.{Clear}
 use Rattle.loops.specs.Sift.{CanSift}
-use Rattle.loops.specs.Trace.{walk_of}
-use Rattle.loops.proofs.Looping.{Looping, looping_start, looping_end, looping_trace, looping_next, looping_keep, looping_on, listed_sift, looping_to}
+use Rattle.loops.proofs.Looping.{Looping}
 use Rattle.loops.proofs.front.front_loops.Given as goal
 
 abbrev pub invariant-loop-i : goal.invariant-loop-i

@@ -1,7 +1,6 @@
 -- The loop's invariant: the edges passed are in loops. The measure is how many are left.
-use Rattle.laws.specs.Kit.{◌≡◌, sym, ◌∙◌, ap, ℕ, ◌+◌, ◌-◌, arith, rules, eqb, eq-eqb, ne_eqb, get_or}
-use Rattle.cells.specs.Layout.{front_used_at}
-use Rattle.loops.proofs.Looping.{Passing, passing_start, passing_on}
+use Rattle.laws.specs.Kit.{sym, ◌∙◌, ap, ℕ, ◌+◌, arith, eqb, eq-eqb, ne_eqb, get_or}
+use Rattle.loops.proofs.Looping.{passing_start, passing_on}
 use Rattle.loops.proofs.front.next_fresh.Goals as goal
 
 pub loop-x-init : goal.loop-x-init

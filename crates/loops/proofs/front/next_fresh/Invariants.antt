@@ -1,6 +1,6 @@
-use Rattle.laws.specs.Kit.{◌≡◌, sym, ◌∙◌, ap, ℕ, ◌+◌, ◌-◌, arith, rules, eqb, eq-eqb, ne_eqb, get_or}
+use Rattle.laws.specs.Kit.{◌≡◌, ◌-◌}
 use Rattle.cells.specs.Layout.{front_used_at}
-use Rattle.loops.proofs.Looping.{Passing, passing_start, passing_on}
+use Rattle.loops.proofs.Looping.{Passing}
 use Rattle.loops.proofs.front.next_fresh.Given as goal
 
 abbrev pub invariant-loop-x : goal.invariant-loop-x

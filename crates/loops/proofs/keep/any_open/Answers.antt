@@ -1,9 +1,7 @@
 -- The invariant: the edges from place i on tell whether some edge is not blocked.
-use Rattle.laws.specs.Kit.{ℕ, ◌-◌, ◌≤◌, arith, List}
-use Rattle.definition.specs.Plane.{Edge}
+use Rattle.laws.specs.Kit.{arith}
 use Rattle.edges.specs.Kept.{on_place}
-use Rattle.loops.specs.Keep.{OpenLoop}
-use Rattle.loops.proofs.Keeping.{open_edge, Asking, asking_start, asking_end, asking_hit, asking_on}
+use Rattle.loops.proofs.Keeping.{open_edge, asking_start, asking_end, asking_hit, asking_on}
 use Rattle.loops.proofs.keep.any_open.Goals as goal
 
 pub is_open_at-requires : goal.is_open_at-requires

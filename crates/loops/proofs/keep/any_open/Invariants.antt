@@ -1,8 +1,7 @@
-use Rattle.laws.specs.Kit.{ℕ, ◌-◌, ◌≤◌, arith, List}
+use Rattle.laws.specs.Kit.{ℕ, ◌-◌, ◌≤◌, List}
 use Rattle.definition.specs.Plane.{Edge}
-use Rattle.edges.specs.Kept.{on_place}
 use Rattle.loops.specs.Keep.{OpenLoop}
-use Rattle.loops.proofs.Keeping.{open_edge, Asking, asking_start, asking_end, asking_hit, asking_on}
+use Rattle.loops.proofs.Keeping.{Asking}
 use Rattle.loops.proofs.keep.any_open.Given as goal
 
 abbrev pub invariant-loop-i : goal.invariant-loop-i

@@ -1,5 +1,5 @@
 -- What the test tells decides: the loop is measured, or nothing changes.
-use Rattle.laws.specs.Kit.{refl, sym, ◌∙◌, rules, length}
+use Rattle.laws.specs.Kit.{refl, sym, ◌∙◌, length}
 use Rattle.laws.specs.Bools.{never}
 use Rattle.loops.proofs.keep.keep.Goals as goal
 

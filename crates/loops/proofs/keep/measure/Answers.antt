@@ -1,5 +1,5 @@
 -- One loop needs no perimeter, with the second come two, and then one at a time.
-use Rattle.laws.specs.Kit.{arith, rules, length-set}
+use Rattle.laws.specs.Kit.{arith, length-set}
 use Rattle.loops.proofs.Keeping.{first_is, measured_two, measured_more}
 use Rattle.loops.proofs.keep.measure.Goals as goal
 

@@ -1,13 +1,9 @@
 -- The loop's invariant: the edges still to come, added to the sum so far, give the perimeter.
 -- The measure is how many they are.
-use Rattle.laws.specs.Kit.{◌-◌, ◌≤◌, arith, List, length, of_bits}
+use Rattle.laws.specs.Kit.{arith, of_bits}
 use Rattle.definition.specs.Floats.{◌⊕◌, 0·0, f64}
-use Rattle.definition.specs.Plane.{Edge}
-use Rattle.definition.specs.Cells.{Mesh}
-use Rattle.cells.specs.Rep.{Pts}
-use Rattle.edges.specs.Places.{OnPlaces}
 use Rattle.edges.specs.Kept.{on_place, known_on}
-use Rattle.loops.proofs.Keeping.{Summing, summing_start, summing_end, summing_on}
+use Rattle.loops.proofs.Keeping.{summing_start, summing_end, summing_on}
 use Rattle.loops.proofs.keep.perimeter.Goals as goal
 
 pub loop-i-init : goal.loop-i-init

@@ -1,11 +1,9 @@
-use Rattle.laws.specs.Kit.{◌-◌, ◌≤◌, arith, List, length, of_bits}
-use Rattle.definition.specs.Floats.{◌⊕◌, 0·0, f64}
+use Rattle.laws.specs.Kit.{◌-◌, ◌≤◌, List, length}
 use Rattle.definition.specs.Plane.{Edge}
 use Rattle.definition.specs.Cells.{Mesh}
 use Rattle.cells.specs.Rep.{Pts}
 use Rattle.edges.specs.Places.{OnPlaces}
-use Rattle.edges.specs.Kept.{on_place, known_on}
-use Rattle.loops.proofs.Keeping.{Summing, summing_start, summing_end, summing_on}
+use Rattle.loops.proofs.Keeping.{Summing}
 use Rattle.loops.proofs.keep.perimeter.Given as goal
 
 abbrev pub invariant-loop-i : goal.invariant-loop-i

@@ -1,6 +1,5 @@
-use Rattle.laws.specs.Kit.{◌≡◌, subst, ℕ, ◌-◌, ◌≤◌, arith, rules}
+use Rattle.laws.specs.Kit.{◌-◌, ◌≤◌}
 use Rattle.loops.specs.Link.{Filled}
-use Rattle.loops.proofs.Linking.{fill_start, fill_more}
 use Rattle.loops.proofs.links.fill.Given as goal
 
 abbrev pub invariant-loop-i : goal.invariant-loop-i

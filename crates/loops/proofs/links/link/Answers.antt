@@ -1,5 +1,4 @@
-use Rattle.laws.specs.Kit.{arith, rules, length-set}
-use Rattle.cells.specs.Layout.{front_links_at, heads_at}
+use Rattle.laws.specs.Kit.{arith, length-set}
 use Rattle.loops.specs.Link.{linked}
 use Rattle.loops.proofs.links.link.Goals as goal
 

@@ -1,8 +1,6 @@
 -- The loop's invariant: the edges from number i on are in the lists of their ends. The measure is how many are left.
-use Rattle.laws.specs.Kit.{◌≡◌, refl, ◌∙◌, ℕ, arith, rules, List, length}
-use Rattle.definition.specs.Plane.{Edge}
-use Rattle.loops.specs.Link.{Linking}
-use Rattle.loops.proofs.Linking.{Going, going_start, going_end, going_next, going_on}
+use Rattle.laws.specs.Kit.{refl, ◌∙◌, arith}
+use Rattle.loops.proofs.Linking.{going_start, going_end, going_next, going_on}
 use Rattle.loops.proofs.links.link_all.Goals as goal
 
 pub link_edge-requires : goal.link_edge-requires

@@ -1,7 +1,7 @@
-use Rattle.laws.specs.Kit.{◌≡◌, refl, ◌∙◌, ℕ, arith, rules, List, length}
+use Rattle.laws.specs.Kit.{◌≡◌, ℕ, List, length}
 use Rattle.definition.specs.Plane.{Edge}
 use Rattle.loops.specs.Link.{Linking}
-use Rattle.loops.proofs.Linking.{Going, going_start, going_end, going_next, going_on}
+use Rattle.loops.proofs.Linking.{Going}
 use Rattle.loops.proofs.links.link_all.Given as goal
 
 abbrev pub invariant-loop-i : goal.invariant-loop-i

@@ -1,4 +1,4 @@
-use Rattle.laws.specs.Kit.{◌∙◌, ap, ℕ, ◌+◌, rules, get_or}
+use Rattle.laws.specs.Kit.{◌∙◌, ap, ℕ, ◌+◌, get_or}
 use Rattle.loops.proofs.Linking.{can_link_first, can_link_second, link_edge_to}
 use Rattle.loops.proofs.links.link_edge.Goals as goal
 

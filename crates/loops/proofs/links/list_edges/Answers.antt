@@ -1,4 +1,4 @@
-use Rattle.laws.specs.Kit.{subst, ℕ, rules}
+use Rattle.laws.specs.Kit.{subst, ℕ}
 use Rattle.cells.specs.Layout.{front_used_at, heads_at}
 use Rattle.loops.specs.Link.{Filled}
 use Rattle.loops.proofs.Linking.{cleared, list_to}

@@ -1,4 +1,4 @@
-use Rattle.laws.specs.Kit.{◌∙◌, ap, ℕ, ◌+◌, rules, get_or}
+use Rattle.laws.specs.Kit.{◌∙◌, ap, ℕ, ◌+◌, get_or}
 use Rattle.loops.proofs.Ends.{far_by_first, far_by_second}
 use Rattle.loops.proofs.walks.far.Goals as goal
 

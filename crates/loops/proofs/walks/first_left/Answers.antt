@@ -1,10 +1,7 @@
 -- The loop's invariant: the first edge in no loop at the node is the first such from c on.
 -- The measure is how many edges stand from c on.
-use Rattle.laws.specs.Kit.{◌≡◌, sym, ◌∙◌, ap, ℕ, ◌+◌, ◌-◌, ◌<◌, arith, rules, eqb, eq-eqb, ne_eqb, List, get_or}
-use Rattle.definition.specs.Plane.{Edge}
-use Rattle.cells.specs.Layout.{front_used_at}
-use Rattle.loops.specs.Trace.{Ready}
-use Rattle.loops.proofs.Unused.{Seeking, seeking_start, seeking_end, seeking_found, seeking_past, seeking_on, seeking_at, behind}
+use Rattle.laws.specs.Kit.{sym, ◌∙◌, ap, ℕ, ◌+◌, arith, eqb, eq-eqb, ne_eqb, get_or}
+use Rattle.loops.proofs.Unused.{seeking_start, seeking_end, seeking_found, seeking_past, seeking_on, seeking_at, behind}
 use Rattle.loops.proofs.walks.first_left.Goals as goal
 
 pub loop-c-init : goal.loop-c-init

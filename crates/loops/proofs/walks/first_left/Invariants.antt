@@ -1,8 +1,8 @@
-use Rattle.laws.specs.Kit.{◌≡◌, sym, ◌∙◌, ap, ℕ, ◌+◌, ◌-◌, ◌<◌, arith, rules, eqb, eq-eqb, ne_eqb, List, get_or}
+use Rattle.laws.specs.Kit.{◌≡◌, ℕ, ◌-◌, ◌<◌, List}
 use Rattle.definition.specs.Plane.{Edge}
 use Rattle.cells.specs.Layout.{front_used_at}
 use Rattle.loops.specs.Trace.{Ready}
-use Rattle.loops.proofs.Unused.{Seeking, seeking_start, seeking_end, seeking_found, seeking_past, seeking_on, seeking_at, behind}
+use Rattle.loops.proofs.Unused.{Seeking}
 use Rattle.loops.proofs.walks.first_left.Given as goal
 
 abbrev pub invariant-loop-c : goal.invariant-loop-c

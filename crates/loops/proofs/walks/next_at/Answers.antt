@@ -1,4 +1,4 @@
-use Rattle.laws.specs.Kit.{◌∙◌, ap, ℕ, ◌+◌, ◌*◌, rules, get_or}
+use Rattle.laws.specs.Kit.{◌∙◌, ap, ℕ, ◌+◌, ◌*◌, get_or}
 use Rattle.loops.proofs.Ends.{next_by_first, next_by_second}
 use Rattle.loops.proofs.walks.next_at.Goals as goal
 

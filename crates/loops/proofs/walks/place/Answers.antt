@@ -1,5 +1,4 @@
-use Rattle.laws.specs.Kit.{arith, rules, length-set}
-use Rattle.cells.specs.Layout.{front_used_at, order_at}
+use Rattle.laws.specs.Kit.{arith, length-set}
 use Rattle.loops.proofs.Places.{change, place_room, place_to}
 use Rattle.loops.proofs.walks.place.Goals as goal
 

@@ -1,11 +1,9 @@
 -- The loop's invariant: the walk from here on, through the edges left, gives what the whole walk gives.
 -- The measure is how many edges have no place.
-use Rattle.laws.specs.Kit.{◌≡◌, refl, ◌∙◌, ℕ, ◌-◌, arith, List, length}
-use Rattle.definition.specs.Plane.{Edge}
-use Rattle.loops.specs.Trace.{CanWalk}
+use Rattle.laws.specs.Kit.{refl, ◌∙◌, arith}
 use Rattle.loops.proofs.Places.{place_room}
 use Rattle.loops.proofs.Unused.{behind}
-use Rattle.loops.proofs.Walking.{Walking, walking_start, walking_end, walking_place, walking_at, walking_stop, walking_on}
+use Rattle.loops.proofs.Walking.{walking_start, walking_end, walking_place, walking_at, walking_stop, walking_on}
 use Rattle.loops.proofs.walks.walk.Goals as goal
 
 pub first_left-c-requires : goal.first_left-c-requires

@@ -1,9 +1,7 @@
-use Rattle.laws.specs.Kit.{◌≡◌, refl, ◌∙◌, ℕ, ◌-◌, arith, List, length}
+use Rattle.laws.specs.Kit.{◌≡◌, ℕ, ◌-◌, List, length}
 use Rattle.definition.specs.Plane.{Edge}
 use Rattle.loops.specs.Trace.{CanWalk}
-use Rattle.loops.proofs.Places.{place_room}
-use Rattle.loops.proofs.Unused.{behind}
-use Rattle.loops.proofs.Walking.{Walking, walking_start, walking_end, walking_place, walking_at, walking_stop, walking_on}
+use Rattle.loops.proofs.Walking.{Walking}
 use Rattle.loops.proofs.walks.walk.Given as goal
 
 abbrev pub invariant-loop-c : goal.invariant-loop-c

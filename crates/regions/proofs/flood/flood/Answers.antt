@@ -1,14 +1,13 @@
-use Rattle.laws.specs.Kit.{◌≡◌, refl, ◌∙◌, ◌-◌, ◌^◌, ◌≤◌, arith, rules, [], ◌∷◌, ◌++◌, length}
-use Rattle.definition.specs.Cells.{Mesh, new_quad, quad_edges}
+use Rattle.laws.specs.Kit.{refl, ◌∙◌, arith, [], ◌∷◌, ◌++◌}
+use Rattle.definition.specs.Cells.{new_quad, quad_edges}
 use Rattle.definition.specs.Region.{flood}
 use Rattle.laws.specs.Frames.{under_sym}
 use Rattle.cells.specs.Layout.{mesh_end}
-use Rattle.cells.specs.Rep.{Rep, TriIn}
 use Rattle.cells.proofs.Frames.{rep_under}
 use Rattle.regions.specs.Flood.{tri_live}
 use Rattle.regions.proofs.Listings.{aside_refl, few}
 use Rattle.regions.proofs.Visits.{tri_inside, reached_from}
-use Rattle.regions.proofs.Floods.{Flooding, flood_start, flood_end, flood_can, popped, flood_failed, flood_on}
+use Rattle.regions.proofs.Floods.{flood_start, flood_end, flood_can, popped, flood_failed, flood_on}
 use Rattle.regions.proofs.flood.flood.Goals as goal
 
 pub start-requires : goal.start-requires

@@ -1,5 +1,4 @@
 use Rattle.regions.proofs.Sides.{side_0, side_1, side_2, side_3}
-use Rattle.laws.specs.Kit.{rules}
 use Rattle.regions.proofs.flood.is_side.Goals as goal
 
 pub returns-then-same_edge : goal.returns-then-same_edge

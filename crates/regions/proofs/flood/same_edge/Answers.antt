@@ -1,5 +1,4 @@
 use Rattle.regions.proofs.Sides.{joint_first, joint_rest}
-use Rattle.laws.specs.Kit.{rules}
 use Rattle.regions.proofs.flood.same_edge.Goals as goal
 
 pub returns-then-is_pair : goal.returns-then-is_pair

@@ -1,4 +1,4 @@
-use Rattle.laws.specs.Kit.{sym, subst, ℕ, arith, rules, List}
+use Rattle.laws.specs.Kit.{sym, subst, ℕ, arith, List}
 use Rattle.regions.specs.Flood.{Seeded}
 use Rattle.regions.proofs.Seeds.{seeded}
 use Rattle.regions.proofs.flood.start.Goals as goal

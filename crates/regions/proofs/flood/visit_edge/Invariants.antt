@@ -1,8 +1,8 @@
-use Rattle.laws.specs.Kit.{◌≡◌, refl, ◌∙◌, ◌^◌, ◌≤◌, arith, rules, List, [], ◌++◌, length}
+use Rattle.laws.specs.Kit.{◌≡◌, ◌^◌, ◌≤◌, List, ◌++◌, length}
 use Rattle.definition.specs.Cells.{Mesh, Live}
 use Rattle.cells.specs.Walk.{left}
 use Rattle.regions.specs.Listing.{State}
-use Rattle.regions.proofs.Visits.{Going, going_start, going_end, going_here, going_seen, going_failed, going_at, going_less, going_on}
+use Rattle.regions.proofs.Visits.{Going}
 use Rattle.regions.proofs.flood.visit_edge.Given as goal
 
 abbrev pub invariant-loop-c : goal.invariant-loop-c

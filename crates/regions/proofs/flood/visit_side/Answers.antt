@@ -1,6 +1,5 @@
 use Rattle.definition.specs.Cells.{key, new_quad, quad_edges}
 use Rattle.regions.proofs.Visits.{side_skipped, side_crossed}
-use Rattle.laws.specs.Kit.{rules}
 use Rattle.regions.proofs.flood.visit_side.Goals as goal
 
 pub returns-then-is_side : goal.returns-then-is_side

@@ -1,5 +1,4 @@
-use Rattle.laws.specs.Kit.{arith, rules, length-set}
-use Rattle.cells.specs.Layout.{marks_at, list_at}
+use Rattle.laws.specs.Kit.{arith, length-set}
 use Rattle.regions.proofs.lists.append.Goals as goal
 
 pub returns : goal.returns

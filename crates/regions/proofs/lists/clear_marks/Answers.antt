@@ -1,5 +1,4 @@
 use Rattle.regions.proofs.Seeds.{marks_cleared}
-use Rattle.laws.specs.Kit.{rules}
 use Rattle.regions.proofs.lists.clear_marks.Goals as goal
 
 pub returns : goal.returns

@@ -1,5 +1,4 @@
-use Rattle.laws.specs.Kit.{◌∙◌, ap, ℕ, ◌+◌, rules, get_or}
-use Rattle.cells.specs.Layout.{list_at}
+use Rattle.laws.specs.Kit.{◌∙◌, ap, ℕ, ◌+◌, get_or}
 use Rattle.regions.proofs.lists.listed.Goals as goal
 
 pub returns : goal.returns

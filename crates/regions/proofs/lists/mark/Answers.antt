@@ -1,5 +1,4 @@
-use Rattle.laws.specs.Kit.{◌∙◌, ap, ℕ, ◌+◌, rules, get_or}
-use Rattle.cells.specs.Layout.{marks_at}
+use Rattle.laws.specs.Kit.{◌∙◌, ap, ℕ, ◌+◌, get_or}
 use Rattle.regions.proofs.lists.mark.Goals as goal
 
 pub returns : goal.returns

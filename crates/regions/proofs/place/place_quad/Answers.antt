@@ -1,6 +1,5 @@
 use Rattle.definition.specs.Cells.{remove_cells}
 use Rattle.regions.proofs.Places.{replacing, can_push}
-use Rattle.laws.specs.Kit.{rules}
 use Rattle.regions.proofs.place.place_quad.Goals as goal
 
 pub push_quad-requires : goal.push_quad-requires

@@ -1,10 +1,8 @@
-use Rattle.laws.specs.Kit.{◌≡◌, refl, ◌∙◌, ◌-◌, ◌^◌, ◌≤◌, arith, rules, List, length}
-use Rattle.definition.specs.Cells.{Live, Mesh}
-use Rattle.laws.specs.Frames.{Keeps, keeps_refl, keeps_trans}
+use Rattle.laws.specs.Kit.{refl, ◌∙◌, arith}
+use Rattle.laws.specs.Frames.{keeps_refl, keeps_trans}
 use Rattle.cells.specs.Layout.{mesh_end}
-use Rattle.regions.specs.Listing.{Listed}
 use Rattle.regions.proofs.Listings.{few}
-use Rattle.regions.proofs.Places.{Removing, remove_start, remove_end, remove_more, removed_inside}
+use Rattle.regions.proofs.Places.{remove_start, remove_end, remove_more, removed_inside}
 use Rattle.regions.proofs.place.remove_listed.Goals as goal
 
 pub loop-i-init : goal.loop-i-init

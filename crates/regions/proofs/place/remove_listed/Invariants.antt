@@ -1,10 +1,9 @@
-use Rattle.laws.specs.Kit.{◌≡◌, refl, ◌∙◌, ◌-◌, ◌^◌, ◌≤◌, arith, rules, List, length}
+use Rattle.laws.specs.Kit.{◌≡◌, ◌-◌, ◌^◌, ◌≤◌, List, length}
 use Rattle.definition.specs.Cells.{Live, Mesh}
-use Rattle.laws.specs.Frames.{Keeps, keeps_refl, keeps_trans}
+use Rattle.laws.specs.Frames.{Keeps}
 use Rattle.cells.specs.Layout.{mesh_end}
 use Rattle.regions.specs.Listing.{Listed}
-use Rattle.regions.proofs.Listings.{few}
-use Rattle.regions.proofs.Places.{Removing, remove_start, remove_end, remove_more, removed_inside}
+use Rattle.regions.proofs.Places.{Removing}
 use Rattle.regions.proofs.place.remove_listed.Given as goal
 
 abbrev pub invariant-loop-i : goal.invariant-loop-i

@@ -1,8 +1,7 @@
-use Rattle.laws.specs.Kit.{◌≡◌, refl, sym, ◌∙◌, ◌-◌, ◌^◌, ◌≤◌, arith, rules, not-true, not-false, List, drop}
-use Rattle.definition.specs.Lists.{all}
-use Rattle.definition.specs.Cells.{Live, Mesh, new_quad}
+use Rattle.laws.specs.Kit.{refl, sym, ◌∙◌, arith, drop}
+use Rattle.definition.specs.Cells.{new_quad}
 use Rattle.definition.specs.Region.{cell_inside}
-use Rattle.regions.specs.Fill.{Known, Shown, Drawn}
+use Rattle.regions.specs.Fill.{Drawn}
 use Rattle.regions.proofs.Listings.{few}
 use Rattle.regions.proofs.Fills.{item, item_can, items_end, all_next, all_stop, all_end}
 use Rattle.regions.proofs.region.all_inside.Goals as goal

@@ -1,10 +1,8 @@
-use Rattle.laws.specs.Kit.{◌≡◌, refl, sym, ◌∙◌, ◌-◌, ◌^◌, ◌≤◌, arith, rules, not-true, not-false, List, drop}
+use Rattle.laws.specs.Kit.{◌≡◌, ◌-◌, ◌^◌, ◌≤◌, List, drop}
 use Rattle.definition.specs.Lists.{all}
 use Rattle.definition.specs.Cells.{Live, Mesh, new_quad}
 use Rattle.definition.specs.Region.{cell_inside}
-use Rattle.regions.specs.Fill.{Known, Shown, Drawn}
-use Rattle.regions.proofs.Listings.{few}
-use Rattle.regions.proofs.Fills.{item, item_can, items_end, all_next, all_stop, all_end}
+use Rattle.regions.specs.Fill.{Known, Shown}
 use Rattle.regions.proofs.region.all_inside.Given as goal
 
 abbrev pub invariant-loop-i : goal.invariant-loop-i

@@ -1,5 +1,4 @@
 use Rattle.regions.proofs.Fills.{four, agrees_is}
-use Rattle.laws.specs.Kit.{rules}
 use Rattle.regions.proofs.region.area_agrees.Goals as goal
 
 pub quad_area-requires : goal.quad_area-requires

@@ -1,8 +1,8 @@
-use Rattle.laws.specs.Kit.{◌≡◌, refl, sym, ◌∙◌, ap, ◌-◌, ◌^◌, ◌≤◌, arith, rules, List, foldl, drop, Float}
+use Rattle.laws.specs.Kit.{refl, sym, ◌∙◌, ap, arith, foldl, Float}
 use Rattle.definition.specs.Floats.{◌⊕◌, 0·0, f64}
-use Rattle.definition.specs.Cells.{Live, Mesh}
+use Rattle.definition.specs.Cells.{Live}
 use Rattle.definition.specs.Region.{area_of, region_area}
-use Rattle.regions.specs.Fill.{Shown, Drawn}
+use Rattle.regions.specs.Fill.{Drawn}
 use Rattle.regions.proofs.Listings.{few}
 use Rattle.regions.proofs.Fills.{item, item_can, items_end, sum_next}
 use Rattle.regions.proofs.region.region_area.Goals as goal

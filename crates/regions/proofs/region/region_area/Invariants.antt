@@ -1,10 +1,8 @@
-use Rattle.laws.specs.Kit.{◌≡◌, refl, sym, ◌∙◌, ap, ◌-◌, ◌^◌, ◌≤◌, arith, rules, List, foldl, drop, Float}
-use Rattle.definition.specs.Floats.{◌⊕◌, 0·0, f64}
+use Rattle.laws.specs.Kit.{◌≡◌, ◌-◌, ◌^◌, ◌≤◌, List, foldl, drop, Float}
+use Rattle.definition.specs.Floats.{◌⊕◌}
 use Rattle.definition.specs.Cells.{Live, Mesh}
 use Rattle.definition.specs.Region.{area_of, region_area}
-use Rattle.regions.specs.Fill.{Shown, Drawn}
-use Rattle.regions.proofs.Listings.{few}
-use Rattle.regions.proofs.Fills.{item, item_can, items_end, sum_next}
+use Rattle.regions.specs.Fill.{Shown}
 use Rattle.regions.proofs.region.region_area.Given as goal
 
 abbrev pub invariant-loop-i : goal.invariant-loop-i

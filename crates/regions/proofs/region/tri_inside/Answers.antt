@@ -1,4 +1,4 @@
-use Rattle.laws.specs.Kit.{arith, not-true, not-false}
+use Rattle.laws.specs.Kit.{arith}
 use Rattle.cells.proofs.Slots.{rep_see}
 use Rattle.regions.proofs.Fills.{drawn_inside, three, four, first_out, second_out, third_test}
 use Rattle.regions.proofs.region.tri_inside.Goals as goal

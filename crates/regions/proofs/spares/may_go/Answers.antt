@@ -1,5 +1,4 @@
 -- An edge that is not locked may go, and a locked one where it is a side.
-use Rattle.laws.specs.Kit.{rules}
 use Rattle.definition.specs.Cells.{key, new_quad}
 use Rattle.regions.proofs.Locked.{go_free, go_side}
 use Rattle.regions.proofs.spares.may_go.Goals as goal

@@ -1,10 +1,7 @@
 -- Every edge of the triangles passed may go; the rest of the list says what the whole says.
-use Rattle.laws.specs.Kit.{◌≡◌, refl, sym, ◌∙◌, ◌-◌, ◌^◌, ◌≤◌, arith, rules, not-true, not-false, List, drop}
-use Rattle.definition.specs.Lists.{all}
-use Rattle.definition.specs.Cells.{Live, Mesh, new_quad}
+use Rattle.laws.specs.Kit.{refl, sym, ◌∙◌, arith, drop}
+use Rattle.definition.specs.Cells.{new_quad}
 use Rattle.definition.specs.Region.{spares_locked}
-use Rattle.joints.specs.Table.{Locks}
-use Rattle.regions.specs.Listing.{Listed}
 use Rattle.regions.proofs.Listings.{few}
 use Rattle.regions.proofs.Fills.{item, item_can, items_end, all_next, all_stop, all_end}
 use Rattle.regions.proofs.Locked.{spared, spared_is}

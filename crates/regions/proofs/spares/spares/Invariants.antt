@@ -1,12 +1,9 @@
-use Rattle.laws.specs.Kit.{◌≡◌, refl, sym, ◌∙◌, ◌-◌, ◌^◌, ◌≤◌, arith, rules, not-true, not-false, List, drop}
+use Rattle.laws.specs.Kit.{◌≡◌, ◌-◌, ◌^◌, ◌≤◌, List, drop}
 use Rattle.definition.specs.Lists.{all}
 use Rattle.definition.specs.Cells.{Live, Mesh, new_quad}
-use Rattle.definition.specs.Region.{spares_locked}
 use Rattle.joints.specs.Table.{Locks}
 use Rattle.regions.specs.Listing.{Listed}
-use Rattle.regions.proofs.Listings.{few}
-use Rattle.regions.proofs.Fills.{item, item_can, items_end, all_next, all_stop, all_end}
-use Rattle.regions.proofs.Locked.{spared, spared_is}
+use Rattle.regions.proofs.Locked.{spared}
 use Rattle.regions.proofs.spares.spares.Given as goal
 
 abbrev pub invariant-loop-i : goal.invariant-loop-i

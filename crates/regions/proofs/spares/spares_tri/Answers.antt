@@ -1,5 +1,5 @@
 -- Edge after edge.
-use Rattle.laws.specs.Kit.{◌∙◌, arith, rules, not-true, not-false}
+use Rattle.laws.specs.Kit.{◌∙◌, arith}
 use Rattle.definition.specs.Cells.{new_quad}
 use Rattle.cells.proofs.Slots.{rep_see, tri_held}
 use Rattle.regions.proofs.Visits.{tri_inside}
