@@ -1,18 +1,13 @@
 -- Every finished run of the definition keeps its account (Kept), and what holds of every state of a run.
 -- lists and triangles
-pub mod Rearranged
 pub mod Triangles
 -- components
 pub mod Even
 pub mod Classes
-pub mod Sizes
 -- meshes, and the steps that change them
 pub mod Flips
 pub mod Ends
 pub mod Valid
-pub mod FlipKeeps
-pub mod SplitKeeps
-pub mod QuadKeeps
 pub mod Found
 pub mod Rated
 -- the walk through an attempt and through a run, for any invariant
@@ -28,15 +23,11 @@ pub mod Rooms
 pub mod Quads
 pub mod Geometry
 pub mod Locked
-pub mod FlipEdges
 pub mod Births
 pub mod Placed
 pub mod SameRound
 -- a finished call
-pub mod Slices
 pub mod Finished
-pub mod Kept
-pub mod Demand
 pub mod Joints
 -- areas on the grid
 pub mod Weights
@@ -46,24 +37,19 @@ pub mod Gridded
 pub mod Roles
 pub mod Refused
 pub mod Tracked
-pub mod Records
 pub mod Pairs
 pub mod Grown
 pub mod Owners
 -- for the proofs of the code
-pub mod Fits
 pub mod Floods
 pub mod Rounds
 pub mod Walks
-pub mod Attempts
 pub mod Trials
 pub mod Smaller
 pub mod Jobs
 pub mod Previews
 pub mod Listed
-pub mod LiveTris
 pub mod Meshes
-pub mod Invariants
 pub mod Reach
 -- a trace and its replay
 pub mod Redo

@@ -24,17 +24,20 @@ use Rattle.definition.specs.Account.{All}
 use Rattle.laws.specs.Lists.{In, in_right}
 use Rattle.laws.specs.Frames.{Under}
 use Rattle.laws.specs.Slices.{quads_length, onto_length}
-use Rattle.account.specs.Counting.{added_refused}
+use Rattle.account.proofs.Counting.{added_refused}
 use Rattle.joints.specs.Table.{Locks}
 use Rattle.traces.specs.Log.{Logged}
 use Rattle.rules.specs.declared.Rules.{Rules}
 use Rattle.rules.specs.Settings.{settings_of}
 use Rattle.account.specs.Run.{ProgressOk}
-use Rattle.account.specs.Grown.{Grown, attempt_grown}
-use Rattle.account.specs.Placed.{live_quad, quad_cells, last_round}
-use Rattle.account.specs.Trials as Trials
+use Rattle.account.specs.Grown.{Grown}
+use Rattle.account.proofs.Grown.{attempt_grown}
+use Rattle.account.specs.Placed.{live_quad, quad_cells}
+use Rattle.account.proofs.Placed.{last_round}
+use Rattle.account.proofs.Trials as Trials
 use Rattle.account.specs.Trials.{FewTrials}
-use Rattle.account.specs.Reach.{by_refusal, by_quad, ReachedState, records_fit}
+use Rattle.account.specs.Reach.{by_refusal, by_quad}
+use Rattle.account.proofs.Reach.{ReachedState, records_fit}
 use Rattle.cells.specs.Layout.{refused_at, mesh_end}
 use Rattle.cells.specs.Walk as Walk
 use Rattle.cells.specs.Counting.{Attempted}

@@ -18,14 +18,18 @@ use Rattle.definition.specs.Front.{State, Progress, stuck, progressed, limited, 
 use Rattle.definition.specs.Call.{Asked, bad_size}
 use Rattle.laws.specs.Lists.{In, all_from, all_at, in_either}
 use Rattle.laws.specs.Bools.{cond_ok}
-use Rattle.account.specs.Counting.{added_refused}
+use Rattle.account.proofs.Counting.{added_refused}
 use Rattle.rules.specs.Settings.{settings_of}
-use Rattle.account.specs.Flips.{flip_points}
-use Rattle.account.specs.QuadKeeps.{replaced_points}
-use Rattle.account.specs.Steps.{OnNormal, split_grows}
-use Rattle.account.specs.Run.{Rule, ProgressOk, attempt_ok}
-use Rattle.account.specs.Reach.{Reach, begun, opened, by_refusal, by_quad, ReachedState, reach_sound}
-use Rattle.exact.specs.Theorems.{Within, held_within}
+use Rattle.account.proofs.Flips.{flip_points}
+use Rattle.account.proofs.QuadKeeps.{replaced_points}
+use Rattle.account.specs.Steps.{OnNormal}
+use Rattle.account.proofs.Steps.{split_grows}
+use Rattle.account.specs.Run.{Rule, ProgressOk}
+use Rattle.account.proofs.Run.{attempt_ok}
+use Rattle.account.specs.Reach.{Reach, begun, opened, by_refusal, by_quad}
+use Rattle.account.proofs.Reach.{ReachedState, reach_sound}
+use Rattle.exact.specs.Theorems.{Within}
+use Rattle.exact.proofs.Theorems.{held_within}
 use Rattle.attempts.specs.Runs.{Setup, Sized, Fixed}
 
 -- ---- the settings as asked

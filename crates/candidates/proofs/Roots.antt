@@ -6,7 +6,7 @@ use Rattle.definition.specs.Floats.{◌≺◌, ◌⊗◌, f64}
 use Rattle.definition.specs.Numbers.{Quality, edge_high}
 use Rattle.definition.specs.Root.{sqrt}
 use Rattle.laws.specs.Bools.{and_left, and_right}
-use Rattle.rounding.specs.RootOrder.{root_beyond}
+use Rattle.rounding.proofs.RootOrder.{root_beyond}
 use Rattle.candidates.specs.Choice.{too_far, FarFrom}
 
 both : (a b : Bool) → a ≡ true → b ≡ true → (a && b) ≡ true

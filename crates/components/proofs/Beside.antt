@@ -9,11 +9,13 @@ use Rattle.definition.specs.Cells.{Tri, Live, Mesh, live_tri, tris_of, without_a
 use Rattle.definition.specs.Components.{meets, classes, component_sizes, odd_one, removing_leaves_odd_component}
 use Rattle.laws.specs.Bools.{which}
 use Rattle.laws.specs.Lists.{In, in_left, in_right, in_either, filter_yes, filter_no, in_filter, filter_in, sort_in, any_in, map_in, in_map}
-use Rattle.account.specs.Rearranged.{number, number_append}
-use Rattle.account.specs.Triangles.{Shares, turned, shares_self, Distinct as Three}
+use Rattle.account.proofs.Rearranged.{number, number_append}
+use Rattle.account.specs.Triangles.{Shares, Distinct as Three}
+use Rattle.account.proofs.Triangles.{turned, shares_self}
 use Rattle.account.specs.Even.{Closed, odd}
-use Rattle.account.specs.Classes.{AllDistinct, meets_says, shares_meets}
-use Rattle.account.specs.Sizes.{none_odd, sizes_even}
+use Rattle.account.specs.Classes.{AllDistinct}
+use Rattle.account.proofs.Classes.{meets_says, shares_meets}
+use Rattle.account.proofs.Sizes.{none_odd, sizes_even}
 use Rattle.cells.specs.Rep.{slots}
 use Rattle.cells.proofs.Corners.{slots_append}
 use Rattle.cells.proofs.Slots.{distinct_filter}

@@ -7,11 +7,12 @@ use Rattle.definition.specs.Components.{meets, classes, component_sizes, odd_one
 use Rattle.definition.specs.Account.{Rearranged}
 use Rattle.laws.specs.Bools.{which, never}
 use Rattle.laws.specs.Lists.{In, in_left, in_right, in_either, filter_yes, filter_no, sort_in, in_any, any_in, in_sort, filter_all, map_in, in_map}
-use Rattle.account.specs.Sizes.{along_chain}
-use Rattle.account.specs.Rearranged.{number, number_append, number_cons, same_length, sort_same, same_in_tris, same_back, not_none}
-use Rattle.account.specs.Triangles.{turned, shares_self}
+use Rattle.account.proofs.Sizes.{along_chain}
+use Rattle.account.proofs.Rearranged.{number, number_append, number_cons, same_length, sort_same, same_in_tris, same_back, not_none}
+use Rattle.account.proofs.Triangles.{turned, shares_self}
 use Rattle.account.specs.Even.{Closed}
-use Rattle.account.specs.Classes.{NoShare, AllApart, Right, AllDistinct, in_concat, every, only, meets_says, shares_meets, apart_or_same, classes_right, one_class}
+use Rattle.account.specs.Classes.{NoShare, AllApart, Right, AllDistinct}
+use Rattle.account.proofs.Classes.{in_concat, every, only, meets_says, shares_meets, apart_or_same, classes_right, one_class}
 
 -- ---- counting
 

@@ -5,7 +5,8 @@ use Rattle.rings.proofs.Lists.{Same, same, differ, decide}
 use Rattle.definition.specs.Lists.{any}
 use Rattle.definition.specs.Cells.{Tri, Cell, tri, quad, Live, Mesh, live_tri, is_tri, in_slot, nodes, tri_nodes, tri_has, new_live}
 use Rattle.laws.specs.Lists.{In, in_right, any_in}
-use Rattle.account.specs.Triangles.{Has as Corner, Distinct as Three, has_test}
+use Rattle.account.specs.Triangles.{Has as Corner, Distinct as Three}
+use Rattle.account.proofs.Triangles.{has_test}
 use Rattle.cells.specs.Rep.{Shape, slots, Has, here, there, CellAt, at_node, cell_corners, Rep, TriIn}
 use Rattle.cells.proofs.Corners.{corner_in}
 use Rattle.cells.proofs.Slots.{rep_held, in_has}

@@ -4,7 +4,8 @@ use Rattle.rings.specs.Rings.{Out, nx}
 use Rattle.definition.specs.Cells.{Tri, Cell, tri, Live, Mesh, live_tri, tri_has}
 use Rattle.laws.specs.Bools.{either, never}
 use Rattle.laws.specs.Lists.{In}
-use Rattle.account.specs.Triangles.{Has as Corner, has_test, test_has}
+use Rattle.account.specs.Triangles.{Has as Corner}
+use Rattle.account.proofs.Triangles.{has_test, test_has}
 use Rattle.cells.specs.Layout.{marks_at, rings_at}
 use Rattle.cells.specs.Rep.{CellAt, slots}
 use Rattle.cells.specs.Walk.{left}

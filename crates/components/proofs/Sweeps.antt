@@ -7,9 +7,11 @@ use Rattle.definition.specs.Components.{meets}
 use Rattle.definition.specs.Account.{Pairwise}
 use Rattle.laws.specs.Bools.{which, never, same_bool}
 use Rattle.laws.specs.Lists.{In, all_from, in_left, in_right, in_either, filter_yes, filter_no, in_filter, filter_in, in_any, filter_all, map_in, in_map, no_more}
-use Rattle.account.specs.Rearranged.{number, number_append}
-use Rattle.account.specs.Triangles.{Shares, turned, shares_self}
-use Rattle.account.specs.Classes.{AllApart, AllDistinct, meets_says, shares_meets}
+use Rattle.account.proofs.Rearranged.{number, number_append}
+use Rattle.account.specs.Triangles.{Shares}
+use Rattle.account.proofs.Triangles.{turned, shares_self}
+use Rattle.account.specs.Classes.{AllApart, AllDistinct}
+use Rattle.account.proofs.Classes.{meets_says, shares_meets}
 use Rattle.cells.specs.Rep.{slots}
 use Rattle.cells.proofs.Slots.{rep_held, in_has, distinct_filter}
 use Rattle.regions.specs.Listing.{Aside}

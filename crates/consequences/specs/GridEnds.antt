@@ -20,11 +20,14 @@ use Rattle.definition.specs.Account.{All}
 use Rattle.laws.specs.Bools.{cond_ok}
 use Rattle.laws.specs.Lists.{In, all_from, known}
 use Rattle.laws.specs.Slices.{points_onto}
-use Rattle.account.specs.Start.{Proper, start_valid}
-use Rattle.account.specs.Run.{ProgressOk, attempt_ok}
+use Rattle.account.specs.Start.{Proper}
+use Rattle.account.proofs.Start.{start_valid}
+use Rattle.account.specs.Run.{ProgressOk}
+use Rattle.account.proofs.Run.{attempt_ok}
 use Rattle.consequences.specs.ValidWalks.{Leads, Closes, Steps, rounds_close}
-use Rattle.account.specs.Gridded.{Unsized, stance_on_target, nothing_tried, points_rule, nothing_inserted}
-use Rattle.account.specs.Finished.{not_of_run, on_grid_so, points_long, given_fit, slots_limit, points_number, given_proper, given_within}
+use Rattle.account.specs.Gridded.{Unsized}
+use Rattle.account.proofs.Gridded.{stance_on_target, nothing_tried, points_rule, nothing_inserted}
+use Rattle.account.proofs.Finished.{not_of_run, on_grid_so, points_long, given_fit, slots_limit, points_number, given_proper, given_within}
 
 -- ---- an attempt
 

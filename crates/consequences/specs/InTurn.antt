@@ -13,13 +13,15 @@ use Rattle.definition.specs.Account.{sum}
 use Rattle.laws.specs.Bools.{which, cond_ok}
 use Rattle.laws.specs.Lists.{flat_map_append}
 use Rattle.account.specs.Valid.{Valid}
-use Rattle.account.specs.Start.{Proper, start_valid}
-use Rattle.account.specs.Weights.{total_append}
+use Rattle.account.specs.Start.{Proper}
+use Rattle.account.proofs.Start.{start_valid}
+use Rattle.account.proofs.Weights.{total_append}
 use Rattle.account.specs.Pairs.{pairs_of}
-use Rattle.account.specs.Trials.{TrialsExact, trials_exact}
+use Rattle.account.specs.Trials.{TrialsExact}
+use Rattle.account.proofs.Trials.{trials_exact}
 use Rattle.consequences.specs.ValidWalks.{Leads, Closes, Steps, rounds_close}
-use Rattle.account.specs.Slices.{read_points, read_quads, read_triangles}
-use Rattle.account.specs.Finished.{behind, given_proper}
+use Rattle.account.proofs.Slices.{read_points, read_quads, read_triangles}
+use Rattle.account.proofs.Finished.{behind, given_proper}
 
 -- ---- one attempt
 

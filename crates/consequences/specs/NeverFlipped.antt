@@ -12,11 +12,13 @@ use Rattle.definition.specs.Front.{State, Progress, stuck, progressed, limited, 
 use Rattle.definition.specs.Call.{Asked, Lent, given_points, given_tris, given_locks, onto, conditions, settings_within, written, after_run, call_within}
 use Rattle.definition.specs.Account.{All}
 use Rattle.laws.specs.Lists.{all_append}
-use Rattle.account.specs.Flips.{flip_free, flip_made}
-use Rattle.account.specs.Locks.{flip_locked}
-use Rattle.account.specs.Start.{Proper, start_valid}
-use Rattle.account.specs.Run.{Rule, ProgressOk, front_loop_ok}
-use Rattle.account.specs.Finished.{given_proper}
+use Rattle.account.proofs.Flips.{flip_free, flip_made}
+use Rattle.account.proofs.Locks.{flip_locked}
+use Rattle.account.specs.Start.{Proper}
+use Rattle.account.proofs.Start.{start_valid}
+use Rattle.account.specs.Run.{Rule, ProgressOk}
+use Rattle.account.proofs.Run.{front_loop_ok}
+use Rattle.account.proofs.Finished.{given_proper}
 
 module _ (lk : Edge → Bool) where
   -- a flip is of an edge that is not locked

@@ -19,10 +19,10 @@ use Rattle.definition.specs.Call.{Asked, Lent, given_points, given_tris, given_l
 use Rattle.definition.specs.Preview.{Shown, off_front, shown_quad, shown_kind, shown_refusal, shown, show_edge, preview}
 use Rattle.laws.specs.Bools.{which, cond_ok}
 use Rattle.laws.specs.Lists.{known}
-use Rattle.account.specs.Flips.{flip_made, flip_points, flip_used}
-use Rattle.account.specs.Steps.{split_count, recover_all_ok}
-use Rattle.account.specs.Rooms.{split_used}
-use Rattle.account.specs.Finished.{not_of_run, points_number, tris_number}
+use Rattle.account.proofs.Flips.{flip_made, flip_points, flip_used}
+use Rattle.account.proofs.Steps.{split_count, recover_all_ok}
+use Rattle.account.proofs.Rooms.{split_used}
+use Rattle.account.proofs.Finished.{not_of_run, points_number, tris_number}
 
 -- without a trace every entry fits
 no_trace_fits : (m : Mesh) → m.room ≡ 0 → in_room m ≡ true

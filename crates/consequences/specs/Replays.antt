@@ -12,11 +12,13 @@ use Rattle.definition.specs.Call.{Asked, Lent, Lengths, finished, refusal, given
 use Rattle.definition.specs.Replay.{whole, replay_words, Told, as_asked, rebuilt, ReplayReturned, replay_conditions, after_replay, replay}
 use Rattle.laws.specs.Bools.{or_none}
 use Rattle.laws.specs.Lists.{In, no_some}
-use Rattle.account.specs.Slices.{read_points, read_quads, read_triangles, read_sizes, points_back, quads_back, numbers_back}
-use Rattle.account.specs.Finished.{behind, given_proper}
-use Rattle.account.specs.Start.{start_valid}
-use Rattle.account.specs.Run.{Rule, ProgressOk, front_loop_ok, run_ok}
-use Rattle.account.specs.Redo.{bare, Redoable, redo_rule, start_redoable}
+use Rattle.account.proofs.Slices.{read_points, read_quads, read_triangles, read_sizes, points_back, quads_back, numbers_back}
+use Rattle.account.proofs.Finished.{behind, given_proper}
+use Rattle.account.proofs.Start.{start_valid}
+use Rattle.account.specs.Run.{Rule, ProgressOk}
+use Rattle.account.proofs.Run.{front_loop_ok, run_ok}
+use Rattle.account.specs.Redo.{bare, Redoable}
+use Rattle.account.proofs.Redo.{redo_rule, start_redoable}
 use Rattle.consequences.specs.Played.{played}
 
 -- ---- a replay that is not refused by its opening tests

@@ -18,14 +18,16 @@ use Rattle.definition.specs.Front.{State, Progress, stuck, progressed, limited, 
 use Rattle.definition.specs.Call.{Asked, Lent, given_points, given_tris, given_locks, onto, conditions, settings_within, settings, written, after_run, call_within}
 use Rattle.definition.specs.Replay.{Told, as_asked, replay}
 use Rattle.laws.specs.Lists.{In, flat_map_append}
-use Rattle.account.specs.Flips.{flip_made}
+use Rattle.account.proofs.Flips.{flip_made}
 use Rattle.account.specs.Valid.{Valid}
-use Rattle.account.specs.Start.{start_valid}
+use Rattle.account.proofs.Start.{start_valid}
 use Rattle.account.specs.Steps.{Splitting, Made}
-use Rattle.account.specs.Run.{Rule, ProgressOk, front_loop_ok}
-use Rattle.account.specs.Finished.{given_proper}
+use Rattle.account.specs.Run.{Rule, ProgressOk}
+use Rattle.account.proofs.Run.{front_loop_ok}
+use Rattle.account.proofs.Finished.{given_proper}
 use Rattle.consequences.specs.NeverFlipped.{at_end}
-use Rattle.account.specs.Redo.{Redoable, flip_redoable, split_redoable, quad_redoable, start_redoable}
+use Rattle.account.specs.Redo.{Redoable}
+use Rattle.account.proofs.Redo.{flip_redoable, split_redoable, quad_redoable, start_redoable}
 use Rattle.consequences.specs.Replays.{Replaying, rebuilt_as, ends_in, with_room}
 
 -- ---- the steps of a run

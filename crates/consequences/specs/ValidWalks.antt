@@ -10,8 +10,9 @@ use Rattle.definition.specs.Loops.{front_loops}
 use Rattle.definition.specs.Front.{State, Progress, stuck, progressed, limited, stopped, counting, attempt, try_edges, open_edges, try_loops, round, front_loop}
 use Rattle.laws.specs.Lists.{In}
 use Rattle.account.specs.Valid.{Valid}
-use Rattle.account.specs.Fronts.{front_in}
-use Rattle.account.specs.Run.{Rule, ProgressOk, Ordered, loops_ordered, open_front, attempt_ok}
+use Rattle.account.proofs.Fronts.{front_in}
+use Rattle.account.specs.Run.{Rule, ProgressOk, Ordered}
+use Rattle.account.proofs.Run.{loops_ordered, open_front, attempt_ok}
 
 -- every mesh on the way is valid
 valid_rule : (s : Settings) → Rule s (λ st es. Unit {0}) (λ st es n m. Unit {0}) (λ st. Unit {0})

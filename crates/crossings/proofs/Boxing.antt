@@ -8,8 +8,8 @@ use Rattle.definition.specs.Plane.{Node}
 use Rattle.definition.specs.Cells.{Live, Mesh, key, has_side, has_edge, node_at}
 use Rattle.definition.specs.Call.{point_at}
 use Rattle.laws.specs.Bools.{of_T, to_T}
-use Rattle.rounding.specs.Order.{le_or_lt, real_left, real_right}
-use Rattle.rounding.specs.Keys.{le_trans, lt_le}
+use Rattle.rounding.proofs.Order.{le_or_lt, real_left, real_right}
+use Rattle.rounding.proofs.Keys.{le_trans, lt_le}
 use Rattle.plane.specs.Points.{Within, node_of}
 use Rattle.cells.specs.Layout.{rings_at}
 use Rattle.cells.specs.Notes.{Near}

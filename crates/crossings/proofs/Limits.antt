@@ -7,8 +7,8 @@ use Rattle.definition.specs.Root.{floor}
 use Rattle.definition.specs.Plane.{Node, segments_cross}
 use Rattle.definition.specs.Cells.{Mesh, node_at, touches}
 use Rattle.definition.specs.Flips.{bucket_key, overlaps, is_crossing}
-use Rattle.rounding.specs.Order.{real_right}
-use Rattle.rounding.specs.Keys.{key_not_above, apart_low, apart_high}
+use Rattle.rounding.proofs.Order.{real_right}
+use Rattle.rounding.proofs.Keys.{key_not_above, apart_low, apart_high}
 use Rattle.crossings.specs.Cross.{axis_meets, Meets, LeastAt}
 use Rattle.crossings.specs.Limits.{InOrder, Before, After, IsLimits}
 use Rattle.crossings.specs.Boxes.{Away, to_left, to_right, below, above}

@@ -13,7 +13,7 @@ use Rattle.laws.specs.Frames.{on, off, Under, Keeps, under_less}
 use Rattle.cells.proofs.Notes.{note_same}
 use Rattle.plane.specs.Points.{Within, node, ground, node_of, spot_x, spot_y}
 use Rattle.plane.specs.declared.points.Spot.{Spot}
-use Rattle.rounding.specs.Keys.{le_trans}
+use Rattle.rounding.proofs.Keys.{le_trans}
 use Rattle.crossings.specs.Cross.{Known}
 use Rattle.crossings.specs.Boxes.{Bounds, AllFine, CanNote, with_box, CanLook, Beyond, on_left, on_right, under, over, Away, to_left, to_right, below, above}
 use Rattle.crossings.specs.declared.boxes.Sides.{Sides}

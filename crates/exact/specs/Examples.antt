@@ -17,155 +17,41 @@ use Rattle.definition.specs.Exact.{signed, units, arrow, exact_cross, exact_dot,
 use Rattle.definition.specs.Account.{All}
 use Rattle.definition.specs.Call.{Asked, outside, most_coordinate, least_size, most_size, bad_size, settings_within, settings}
 use Rattle.exact.specs.Limits.{Limit}
-use Rattle.exact.specs.Theorems.{Within, passing, inside, grid_cross}
+use Rattle.exact.specs.Theorems.{Within}
 
 -- to unfold `computed` is to unfold what the tests are made of
-unfoldable computed : Unit {0}
+unfoldable pub computed : Unit {0}
 unfolding add sub mul div neg lt le eq of_bits fits round size any ◌⊕◌ ◌⊖◌ ◌⊗◌ ◌⊘◌ ◌≺◌ ◌≼◌ abs finite lesser greater f64 0·0 0·25 0·3 0·4 0·5 0·6 0·7 0·8 0·9 0·90630778703665 1·0 2·0 2·5 3·0 8·0 1/64 1e-12 base insert_shares tiny_cross tiny_length isqrt scale sqrt flat point cross side parts segments_cross positive negative point_strictly_inside shoelace twice_area from_to dot norm over dist edge_length corner c0 c1 c2 c3 d0 d1 weights weighted scaled jacobian_at min_scaled_jacobian corner_of corners not_convex angle_of clamp cosine largest_cosine quad_metrics passes score along target_of inward_normal loop_perimeter signed units arrow exact_cross exact_dot squared_length squared next_side last_side outside most_coordinate least_size most_size bad_size settings settings_within
 computed = tt
 
--- the double just above 8
-8+ : Float
-8+ = f64 0x4020000000000001
-
--- ---- within 8
-
-eight_passes : outside (flat 8·0 (neg 8·0)) ≡ false
-unfolding computed
-eight_passes = refl
-
-beyond_fails : outside (flat 0·0 8+) ≡ true
-unfolding computed 8+
-beyond_fails = refl
-
-nan_fails : outside (flat nan 0·0) ≡ true
-unfolding computed
-nan_fails = refl
-
 -- ---- quads
-
 -- the unit square
-abbrev o : Node
+abbrev pub o : Node
 o = flat 0·0 0·0
 
-abbrev e : Node
+abbrev pub e : Node
 e = flat 1·0 0·0
 
-abbrev ne : Node
+abbrev pub ne : Node
 ne = flat 1·0 1·0
 
-abbrev n : Node
+abbrev pub n : Node
 n = flat 0·0 1·0
 
-square_passes : passes base (quad_metrics o e ne n) ≡ true
-unfolding computed
-square_passes = refl
-
--- the unit square is exactly convex and counterclockwise, with wide corners
-square_exact : All TurnsLeft (corners o e ne n) × All WideEnough (corners o e ne n)
-unfolding computed
-square_exact = passing o e ne n refl refl refl refl square_passes
-
--- the square taken clockwise has no metrics
-clockwise_fails : passes base (quad_metrics o n ne e) ≡ false
-unfolding computed
-clockwise_fails = refl
-
--- a parallelogram with corners of 22 degrees: its scaled Jacobian of 0.37 passes, its cosine of 0.93 does not
-thin_fails : passes base (quad_metrics o e (flat 2·0 0·4) (flat 1·0 0·4)) ≡ false
-unfolding computed
-thin_fails = refl
-
 -- ---- corners
-
 -- a corner of 45 degrees is wide enough, and one of 14 degrees is not
-abbrev sharp : Corner
+abbrev pub sharp : Corner
 sharp = corner_of (flat 8·0 2·0) o (flat 8·0 0·0)
 
-diagonal_wide : WideEnough (corner_of ne o e)
-unfolding computed
-diagonal_wide = inr (lit≤ tt)
-
-above_not_below : (k : ℤ) (a m : ℕ) → k ≡ pos (suc a) → k ≡ neg_ℤ (pos m) → ⊥
-above_not_below k a zero p q = let z : suc a ≡ zero = cc in omega arith
-above_not_below k a (suc m) p q = let z : ◌≡◌ {A = ℕ} 0 1 = cc in omega arith
-
-sharp_narrow : WideEnough sharp → ⊥
-unfolding computed
-sharp_narrow (inl m) = above_not_below (exact_dot (next_side sharp) (last_side sharp)) (64 * 2 ^ 2148 - 1) m.0 refl m.1
-sharp_narrow (inr h) = not-le_of_lt (lit< tt) h
-
--- ---- limits
-
-half_limit : Limit 0·5
-unfolding computed
-half_limit = record { double = refl; from_zero = refl; below_one = refl }
-
--- at 1 every cosine passes, so it is no limit
-one_no_limit : (1·0 ≺ 1·0) ≡ false
-unfolding computed
-one_no_limit = refl
-
--- ---- strictly inside
-
--- the triangle (0, 0) (1, 0) (0, 1) holds (0.25, 0.25), and does not hold (0.5, 0.5), which lies on its side
-held : point_strictly_inside o e n (flat 0·25 0·25) ≡ true
-unfolding computed
-held = refl
-
-on_side : point_strictly_inside o e n (flat 0·5 0·5) ≡ false
-unfolding computed
-on_side = refl
-
--- the segments of the square's diagonals cross, two of its sides do not
-diagonals_cross : segments_cross o ne e n ≡ true
-unfolding computed
-diagonals_cross = refl
-
-sides_apart : segments_cross o e n ne ≡ false
-unfolding computed
-sides_apart = refl
-
 -- ---- insertion
-
 -- from (0, 0), an end of the edge to (1, 0), by 0.3 of the target: the triangle (-1, -1) (1,
 -- -1) (0, 1) holds the point (0, 0.3)
-abbrev no_size : Asked
+abbrev pub no_size : Asked
 no_size = record { given = 0; capacity = 0; count = 0; slots = 0; joints = 0; size = 0·0; stop = 0; quality = base; grid = false }
 
-abbrev added : Node
+abbrev pub added : Node
 added = along o (inward_normal (from_to o e) (norm (from_to o e))) (target_of (settings no_size) (dist e o)) 0·3
 
-added_held : point_strictly_inside (flat (neg 1·0) (neg 1·0)) (flat 1·0 (neg 1·0)) n added ≡ true
-unfolding computed
-added_held = refl
-
-added_within : Within added
-unfolding computed
-added_within = inside (settings no_size) no_size refl refl o e o (flat (neg 1·0) (neg 1·0)) (flat 1·0 (neg 1·0)) n refl refl refl refl refl refl 0·3 (inr (inr (inr (inr (inr (inr (inr (inl refl)))))))) refl added refl added_held
-
 -- ---- lengths, perimeters
-
-abbrev triangle : List Node
+abbrev pub triangle : List Node
 triangle = o ∷ e ∷ n ∷ []
-
-unit_length : edge_length triangle (0, 1) ≡ 1·0
-unfolding computed
-unit_length = refl
-
--- of points that are not within 8 a length need not be finite
-far_length : finite (edge_length (flat (inf false) 0·0 ∷ o ∷ []) (0, 1)) ≡ false
-unfolding computed
-far_length = refl
-
--- ---- the grid
-
--- 0.5 and 0.25 are on the grid of 1 / 1024: no rounding
-on_grid : exact_cross (arrow o (flat 0·5 0·25)) (arrow o (flat 0·25 0·5)) ≡ units (cross o (flat 0·5 0·25) (flat 0·25 0·5)) *ℤ pos (2 ^ 1074)
-unfolding computed
-on_grid = grid_cross o (flat 0·5 0·25) (flat 0·25 0·5) refl refl refl ((false, 0, (refl, refl)), (false, 0, (refl, refl))) ((false, 512, (refl, refl)), (false, 256, (refl, refl))) ((false, 256, (refl, refl)), (false, 512, (refl, refl)))
-
--- 0.3 and 0.7 are not: the float is off the exact one
-off_grid : nat_abs (units (cross o (flat 0·3 0·7) (flat 0·7 0·9)) *ℤ pos (2 ^ 1074)) < nat_abs (exact_cross (arrow o (flat 0·3 0·7)) (arrow o (flat 0·7 0·9)))
-unfolding computed
-off_grid = lit< tt

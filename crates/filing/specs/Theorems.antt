@@ -9,7 +9,7 @@ use Rattle.definition.specs.Call.{point_at, first_points, most_coordinate}
 use Rattle.definition.specs.Account.{All, Rearranged}
 use Rattle.refusals.specs.Passed.{near}
 use Rattle.refusals.specs.Refusals.{number_of}
-use Rattle.account.specs.Rearranged.{same_length, sort_same}
+use Rattle.account.proofs.Rearranged.{same_length, sort_same}
 use Rattle.sorting.specs.Ascending.{sorts_same}
 use Rattle.sorting.specs.Rows.{all_row}
 use Rattle.filing.specs.declared.Order.{Order}

@@ -20,9 +20,9 @@ use Rattle.laws.specs.Lists.{In, all_at, in_filter, in_any, any_in}
 use Rattle.laws.specs.Frames.{keeps_trans, keeps_set}
 use Rattle.account.specs.Even.{AllEven}
 use Rattle.account.specs.Classes.{AllDistinct}
-use Rattle.account.specs.Sizes.{sizes_even, even_sizes, none_odd}
-use Rattle.account.specs.Flips.{flip_made}
-use Rattle.account.specs.FlipKeeps.{flip_kept}
+use Rattle.account.proofs.Sizes.{sizes_even, even_sizes, none_odd}
+use Rattle.account.proofs.Flips.{flip_made}
+use Rattle.account.proofs.FlipKeeps.{flip_kept}
 use Rattle.cells.specs.Layout.{even_at, mesh_end}
 use Rattle.cells.specs.Rep.{NoneOdd, Rep}
 use Rattle.cells.proofs.Edges.{key_up}

@@ -25,7 +25,7 @@ use Rattle.cells.proofs.Owners.{Here, at_here, at_end}
 use Rattle.cells.proofs.Slots.{has_filter, rep_held, ReadTri, read_tri, rep_noting}
 use Rattle.crossings.specs.Nodes.{Four}
 use Rattle.crossings.proofs.Tris.{TriOk, tri_ok, Which, is0, is1, is2, which, off_first, off_second, off_both}
-use Rattle.account.specs.Flips.{free_flip}
+use Rattle.account.proofs.Flips.{free_flip}
 use Rattle.flips.specs.Nodes.{tri_read}
 use Rattle.flips.specs.Flip.{Kinds, TwinsAt, CanTurn, FlipTo}
 use Rattle.flips.specs.Twins.{OfKinds, IsTwins}

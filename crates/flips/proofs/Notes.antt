@@ -7,7 +7,7 @@ use lib.Ieee.{Float}
 use Rattle.definition.specs.Plane.{Edge}
 use Rattle.definition.specs.Cells.{Event, was_flipped, Mesh, key, noting, set_cell, with_live}
 use Rattle.definition.specs.Flips.{set_tris, flip}
-use Rattle.account.specs.Flips.{flip_made}
+use Rattle.account.proofs.Flips.{flip_made}
 use Rattle.cells.specs.Rep.{Pts}
 use Rattle.cells.proofs.Edges.{key_up}
 use Rattle.cells.proofs.Points.{pts_as}

@@ -10,9 +10,10 @@ use Rattle.definition.specs.Plane.{Edge}
 use Rattle.definition.specs.Cells.{Tri, Cell, tri, quad, Live, Mesh, new_live, key, owns, owners, has_edge, node_at}
 use Rattle.definition.specs.Flips.{third, bucket_key, overlaps, is_crossing, flip}
 use Rattle.laws.specs.Lists.{in_any, any_in}
-use Rattle.account.specs.Flips.{Flipped, flip_made}
+use Rattle.account.specs.Flips.{Flipped}
+use Rattle.account.proofs.Flips.{flip_made}
 use Rattle.account.specs.Locked.{Owned}
-use Rattle.account.specs.FlipEdges.{edge_old}
+use Rattle.account.proofs.FlipEdges.{edge_old}
 use Rattle.cells.specs.Rep.{Rep}
 use Rattle.cells.proofs.Edges.{key_up}
 use Rattle.crossings.specs.Cross.{Meets, NoneBelow}

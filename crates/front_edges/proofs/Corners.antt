@@ -7,9 +7,10 @@ use Rattle.definition.specs.Flips.{third}
 use Rattle.laws.specs.Bools.{both, either}
 use Rattle.laws.specs.Lists.{In, in_either}
 use Rattle.laws.specs.Frames.{Under}
-use Rattle.account.specs.Found.{is_a_tri}
+use Rattle.account.proofs.Found.{is_a_tri}
 use Rattle.account.specs.Triangles as triangles
-use Rattle.account.specs.Ends.{third_node}
+use Rattle.account.proofs.Triangles as triangle_laws
+use Rattle.account.proofs.Ends.{third_node}
 use Rattle.cells.specs.Layout.{mesh_end, rings_at}
 use Rattle.cells.specs.Rep.{Shape}
 use Rattle.cells.specs.Walk.{Pos, beside, node_after, node_before, CanRead, CanSee}
@@ -115,13 +116,13 @@ module _ (w : List ℕ) (s p u from k c : ℕ) (m : Mesh) (h : Here w s p u from
         let t = cell.0 in
         let g : (tri_has t u && tri_has t v) ≡ true = sym (tri_side t u v) ∙ ap (λ (b : Cell). has_side (key u v) b) (sym cell.1) ∙ side v d ∙ z in
         let b = both (tri_has t u) (tri_has t v) g in
-        (triangles.test_has t u b.0, triangles.test_has t v b.1)
+        (triangle_laws.test_has t u b.0, triangle_laws.test_has t v b.1)
 
     in_both : (v : ℕ) → u ≢ v → triangles.Has cell.0 u → triangles.Has cell.0 v → (eqb x v || eqb y v) ≡ true
     unfolding owns
     in_both v d a b =
         let t = cell.0 in
-        sym (side v d) ∙ ap (λ (z : Cell). has_side (key u v) z) cell.1 ∙ tri_side t u v ∙ (rw (triangles.has_test t u a, triangles.has_test t v b))
+        sym (side v d) ∙ ap (λ (z : Cell). has_side (key u v) z) cell.1 ∙ tri_side t u v ∙ (rw (triangle_laws.has_test t u a, triangle_laws.has_test t v b))
 
     known : (v : ℕ) → (eqb x v || eqb y v) ≡ true → v < p
     known v z = elim (ℕ_discrete u v) [

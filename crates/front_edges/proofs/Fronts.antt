@@ -13,8 +13,8 @@ use Rattle.definition.specs.Account.{Pairwise}
 use Rattle.laws.specs.Bools.{which}
 use Rattle.laws.specs.Lists.{In, all_at, any_in, flat_map_append, numbers_snoc, Stored}
 use Rattle.laws.specs.Cells.{same_is}
-use Rattle.account.specs.Fronts.{front_in}
-use Rattle.account.specs.Listed.{front_differ, front_number}
+use Rattle.account.proofs.Fronts.{front_in}
+use Rattle.account.proofs.Listed.{front_differ, front_number}
 use Rattle.cells.specs.Layout.{front_u_at, front_v_at}
 use Rattle.cells.specs.Notes.{note}
 use Rattle.cells.specs.Rep.{Rep}

@@ -7,11 +7,12 @@ use Rattle.definition.specs.Account.{Pairwise}
 use Rattle.laws.specs.Bools.{both}
 use Rattle.laws.specs.Lists.{In, all_from, all_at, in_left, in_either, in_filter, filter_in, insert_in, sort_in, in_sort, map_in, in_map, in_flat_map, flat_map_in, no_more, below_in}
 use Rattle.cells.proofs.Near.{near_front}
-use Rattle.account.specs.Found.{is_a_tri}
+use Rattle.account.proofs.Found.{is_a_tri}
 use Rattle.account.specs.Triangles as triangles
-use Rattle.account.specs.Ends.{tri_ends, tri_owns}
-use Rattle.account.specs.Valid.{Valid, tris_in, in_tris}
-use Rattle.account.specs.Listed.{front_differ}
+use Rattle.account.proofs.Ends.{tri_ends, tri_owns}
+use Rattle.account.specs.Valid.{Valid}
+use Rattle.account.proofs.Valid.{tris_in, in_tris}
+use Rattle.account.proofs.Listed.{front_differ}
 use Rattle.cells.proofs.Edges.{key_up, key_down}
 use Rattle.front_edges.specs.Rows.{Ascending, Distinct}
 use Rattle.front_edges.specs.Runs.{pairs, Good, tris_on}

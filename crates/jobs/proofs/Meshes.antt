@@ -12,7 +12,7 @@ use Rattle.definition.specs.Call.{Asked, Lent, Returned, conditions, untouched}
 use Rattle.definition.specs.Job as defined
 use Rattle.definition.specs.Job.{entitled, bad_job, job_limit, charge, handed_on, JobReturned, after_mesh, run_mesh, job}
 use Rattle.laws.specs.Lists.{known}
-use Rattle.account.specs.Jobs.{job_handed}
+use Rattle.account.proofs.Jobs.{job_handed}
 use Rattle.refusals.specs.Refusals.{number_of, first_refusal, none_holds}
 use Rattle.allowances.specs.declared.Job.{Job}
 use Rattle.allowances.specs.States.{job_of}

@@ -7,7 +7,7 @@ use Rattle.definition.specs.Floats.{◌≺◌, ◌⊕◌, ◌⊗◌}
 use Rattle.definition.specs.Root.{sqrt}
 use Rattle.definition.specs.Plane.{Vec, Node, norm, from_to, dist}
 use Rattle.laws.specs.Bools.{of_T}
-use Rattle.rounding.specs.RootOrder.{root_beyond, root_within}
+use Rattle.rounding.proofs.RootOrder.{root_beyond, root_within}
 use Rattle.live_regions.specs.Squares.{square, WithinReach, BeyondReach}
 
 pub norm_root : (d : Vec) → norm d ≡ sqrt (square d)

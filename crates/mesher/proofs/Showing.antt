@@ -26,19 +26,24 @@ use Rattle.laws.specs.Bools.{which}
 use Rattle.laws.specs.Lists.{known, get_d_any}
 use Rattle.laws.specs.Cells.{point_of}
 use Rattle.laws.specs.Slices as slices
-use Rattle.account.specs.Counting.{More, counted_rule, start_counted}
+use Rattle.account.specs.Counting.{More}
+use Rattle.account.proofs.Counting.{counted_rule, start_counted}
 use Rattle.account.specs.Valid.{Valid}
-use Rattle.account.specs.Start.{start_valid}
-use Rattle.account.specs.Flips.{flip_made}
-use Rattle.account.specs.FlipKeeps.{flip_kept}
-use Rattle.account.specs.SplitKeeps.{split_kept}
-use Rattle.account.specs.QuadKeeps.{replaced_points}
-use Rattle.account.specs.Steps.{AttemptOk, made_weaker, try_quad_ok}
-use Rattle.account.specs.Placed.{InRounds, live_quad, quad_cells, rounds_rule, start_rounds, last_round}
-use Rattle.account.specs.Grown.{Grown, attempt_grown}
-use Rattle.account.specs.Tracked.{front_odd}
-use Rattle.account.specs.Finished.{given_proper, points_number}
-use Rattle.account.specs.Previews.{Inserts, at_most_two}
+use Rattle.account.proofs.Start.{start_valid}
+use Rattle.account.proofs.Flips.{flip_made}
+use Rattle.account.proofs.FlipKeeps.{flip_kept}
+use Rattle.account.proofs.SplitKeeps.{split_kept}
+use Rattle.account.proofs.QuadKeeps.{replaced_points}
+use Rattle.account.specs.Steps.{AttemptOk}
+use Rattle.account.proofs.Steps.{made_weaker, try_quad_ok}
+use Rattle.account.specs.Placed.{InRounds, live_quad, quad_cells}
+use Rattle.account.proofs.Placed.{rounds_rule, start_rounds, last_round}
+use Rattle.account.specs.Grown.{Grown}
+use Rattle.account.proofs.Grown.{attempt_grown}
+use Rattle.account.proofs.Tracked.{front_odd}
+use Rattle.account.proofs.Finished.{given_proper, points_number}
+use Rattle.account.specs.Previews.{Inserts}
+use Rattle.account.proofs.Previews.{at_most_two}
 use Rattle.joints.specs.Table.{Kept, Locks, locks_of}
 use Rattle.rules.specs.declared.Rules.{Rules}
 use Rattle.rules.specs.Settings.{settings_of}

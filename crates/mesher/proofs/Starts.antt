@@ -14,7 +14,7 @@ use Rattle.definition.specs.Call.{Asked, Lent, joint_at, first_points, given_poi
 use Rattle.laws.specs.Lists.{all_from}
 use Rattle.rules.specs.declared.Rules.{Rules}
 use Rattle.rules.specs.Settings.{settings_of}
-use Rattle.account.specs.Finished.{sized, given_proper, given_within, points_number, tris_number}
+use Rattle.account.proofs.Finished.{sized, given_proper, given_within, points_number, tris_number}
 use Rattle.joints.specs.Table.{Kept, Locks, locks_of}
 use Rattle.cells.specs.Rep.{Rep, Pts}
 use Rattle.cells.specs.declared.counters.Counters.{Counters}

@@ -5,7 +5,8 @@ use Rattle.definition.specs.Cells.{Tri, Quad, Cell, tri, quad, Live, Mesh, new_t
 use Rattle.definition.specs.Call.{tri_at}
 use Rattle.laws.specs.Lists.{In}
 use Rattle.account.specs.Triangles as triangles
-use Rattle.account.specs.Valid.{Slots, GoodQuad, Valid, in_tris}
+use Rattle.account.specs.Valid.{Slots, GoodQuad, Valid}
+use Rattle.account.proofs.Valid.{in_tris}
 use Rattle.cells.specs.Rep.{Shape, Held, slots, Rep}
 use Rattle.cells.proofs.Slots.{rep_held, in_has}
 

@@ -10,7 +10,7 @@ use Rattle.definition.specs.Components.{removing_leaves_odd_component}
 use Rattle.definition.specs.Region.{region}
 use Rattle.definition.specs.Attempt.{Tried, made, failed, orphaned, lacking, recover_all, replaced, replace, try_region, try_recovered, open_sides, try_pair}
 use Rattle.laws.specs.Bools.{cond_ok}
-use Rattle.account.specs.Locks.{recover_locked, recover_all_locked, replaced_locked}
+use Rattle.account.proofs.Locks.{recover_locked, recover_all_locked, replaced_locked}
 use Rattle.joints.specs.Table.{Locks}
 
 -- ---- recovery

@@ -15,10 +15,10 @@ use Rattle.definition.specs.Call.{Asked, Lent, Lengths, finished, refusal, given
 use Rattle.definition.specs.Call as call
 use Rattle.laws.specs.Lists.{In, find_in, known}
 use Rattle.laws.specs.Cells.{points_length}
-use Rattle.account.specs.Finished.{behind, points_number, tris_number}
-use Rattle.account.specs.Rounds.{attempts_bound}
-use Rattle.account.specs.Invariants.{answer_fits}
-use Rattle.account.specs.Demand.{keeps_account}
+use Rattle.account.proofs.Finished.{behind, points_number, tris_number}
+use Rattle.account.proofs.Rounds.{attempts_bound}
+use Rattle.account.proofs.Invariants.{answer_fits}
+use Rattle.account.proofs.Demand.{keeps_account}
 use Rattle.mesher.specs.declared.Answer.{Answer}
 use Rattle.mesher.specs.Promise.{number_of, counts_in, lengths_in, Returns}
 use Rattle.replies.specs.Tells.{Writable}

@@ -9,7 +9,7 @@ use Rattle.definition.specs.Trace.{quads_placed}
 use Rattle.definition.specs.Front.{in_slots, new_mesh}
 use Rattle.definition.specs.Call.{Lent, first_points, given_points, given_tris, onto, settings_within, settings}
 use Rattle.definition.specs.Replay.{Told, as_asked}
-use Rattle.account.specs.Finished.{points_number, tris_number}
+use Rattle.account.proofs.Finished.{points_number, tris_number}
 use Rattle.joints.specs.Table.{edge_in, Locks}
 use Rattle.cells.specs.Rep.{slots, Rep, Pts}
 use Rattle.cells.proofs.Slots.{slots_below}

@@ -20,7 +20,7 @@ use Rattle.cells.specs.Rep.{Rep, slots}
 use Rattle.cells.proofs.Points.{pts_as}
 use Rattle.meshes.specs.Changes.{born_of_nodes}
 use Rattle.traces.proofs.Parts.{put_length}
-use Rattle.account.specs.Redo.{placed_last}
+use Rattle.account.proofs.Redo.{placed_last}
 use Rattle.cells.proofs.Slots.{out_filter, rep_noting, find_out}
 use Rattle.retrace.specs.Stored.{four, plain, kept, stored}
 use Rattle.retrace.specs.Takes.{has_tri, taking, TakesTo, CanPlace, PutsWords}

@@ -10,8 +10,9 @@ use Rattle.definition.specs.Flips.{set_tris, flip}
 use Rattle.definition.specs.Trace.{quads_placed}
 use Rattle.laws.specs.Lists.{In, no_some, in_filter, filter_in, in_any, any_in, in_flat_map, flat_map_in}
 use Rattle.laws.specs.Bools.{both, fails, never, not_and}
-use Rattle.account.specs.Flips.{Flipped, free_flip, flip_made, flip_points, flip_used}
-use Rattle.account.specs.Slices.{quads_back}
+use Rattle.account.specs.Flips.{Flipped}
+use Rattle.account.proofs.Flips.{free_flip, flip_made, flip_points, flip_used}
+use Rattle.account.proofs.Slices.{quads_back}
 use Rattle.cells.specs.Rep.{Rep, Pts}
 use Rattle.joints.specs.Table.{Locks}
 use Rattle.flips.specs.Flip.{FlipTo}
@@ -20,7 +21,7 @@ use Rattle.flips.specs.declared.flip.Turned.TheVariants.{Not, Short, Flipped as 
 use Rattle.flips.proofs.Recovers.{flip_yes}
 use Rattle.cells.proofs.Edges.{joins, keys, key_up}
 use Rattle.cells.proofs.Points.{pts_as}
-use Rattle.account.specs.Redo.{placed_last}
+use Rattle.account.proofs.Redo.{placed_last}
 use Rattle.retrace.specs.Stored.{four, plain, kept, stored}
 use Rattle.retrace.specs.Plays.{quad_in, quads_of, placed, Plays, Small, EntryTo}
 use Rattle.retrace.specs.declared.Playing.{Playing}

@@ -18,7 +18,7 @@ use Rattle.rules.specs.Settings.{Suits}
 use Rattle.cells.specs.Rep.{Rep, Has, slots, TriIn}
 use Rattle.cells.proofs.Slots.{in_has, out_filter, find_out}
 use Rattle.flips.specs.Split.{with_spot, CanSplit, Splits}
-use Rattle.account.specs.Redo.{placed_last}
+use Rattle.account.proofs.Redo.{placed_last}
 use Rattle.insertion.specs.Hold.{slot_holds}
 use Rattle.retrace.specs.Stored.{four, plain, kept, stored}
 use Rattle.retrace.specs.Plays.{quads_of, placed, Plays, EntryTo}

@@ -8,8 +8,8 @@ use native.Mathlib.Nat.{eq_of_mul-eq-mul_right}
 use lib.Ieee.Exact.{HasValue}
 use Rattle.laws.specs.Isqrt.{four_pow}
 use Rattle.rounding.specs.Parts.{Leading, Evened}
-use Rattle.rounding.specs.Fields.{field_value}
-use Rattle.rounding.specs.Root.{evened as fourfold}
+use Rattle.rounding.proofs.Fields.{field_value}
+use Rattle.rounding.proofs.Root.{evened as fourfold}
 use Rattle.root.specs.Exact.{WholeRoot, Doubled, Radicand}
 
 -- r for digits that have their leading one left out, n * 2 ^ 52 below it

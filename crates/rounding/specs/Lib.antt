@@ -18,7 +18,6 @@ pub mod Nearest
 pub mod Parts
 pub mod Rounded
 pub mod Fields
-pub mod Shift
 pub mod Root
 pub mod Near
 pub mod Floor

@@ -17,7 +17,8 @@ use Rattle.laws.specs.Bools.{never}
 use Rattle.rules.specs.declared.Rules.{Rules}
 use Rattle.rules.specs.Settings.{settings_of}
 use Rattle.account.specs.Reach.{begun}
-use Rattle.account.specs.Rounds.{Gains, round_gains}
+use Rattle.account.specs.Rounds.{Gains}
+use Rattle.account.proofs.Rounds.{round_gains}
 use Rattle.cells.specs.Layout.{refused_at}
 use Rattle.cells.specs.declared.counters.Counters.{Counters}
 use Rattle.traces.specs.Log.{Logged}

@@ -6,7 +6,7 @@ use Rattle.definition.specs.Metrics.{measured}
 use Rattle.definition.specs.Account.{All, Pairwise}
 use Rattle.definition.specs.Sheet.{bounds, place}
 use Rattle.laws.specs.Bools.{which, never, fails, holds}
-use Rattle.rounding.specs.Keys.{le_trans}
+use Rattle.rounding.proofs.Keys.{le_trans}
 use Rattle.sheet_steps.specs.Counting.{counting, counting_none}
 
 -- ---- a test that, once failed, fails for all that follow

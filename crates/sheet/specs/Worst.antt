@@ -8,7 +8,7 @@ use Rattle.definition.specs.Account.{All}
 use Rattle.definition.specs.Sheet.{Value, values, worse, worst}
 use Rattle.laws.specs.Bools.{which, never, fails}
 use Rattle.laws.specs.Lists.{no_some, all_append}
-use Rattle.rounding.specs.Keys.{lt_le, lt_not_le, le_lt_trans, lt_le_trans}
+use Rattle.rounding.proofs.Keys.{lt_le, lt_not_le, le_lt_trans, lt_le_trans}
 
 -- ---- lists
 

@@ -14,7 +14,7 @@ use Rattle.definition.specs.Cells.{Tri, Mesh, node_at, key, touches, tri_edges}
 use Rattle.definition.specs.Candidates.{shared_by_tris, passes_by}
 use Rattle.laws.specs.Bools.{of_T, to_T, refuted, which, TLeft}
 use Rattle.laws.specs.Cells.{key_up, key_back}
-use Rattle.rounding.specs.Order.{through_le, real_left, real_right, le_or_lt}
+use Rattle.rounding.proofs.Order.{through_le, real_left, real_right, le_or_lt}
 use Rattle.side_candidates.specs.Hand.{open_edge}
 use Rattle.side_candidates.specs.Blocks.{Real, Low, High, Bounded, Holds, WithinToo, HoldsBoth, Framed, Leads, by_x, by_y, Leftward, Rightward, Beside}
 use Rattle.side_candidates.specs.declared.blocks.Frame.{Frame}

@@ -11,7 +11,8 @@ use lib.Ieee.{Float, nan, inf, fin, binary64, up, down, unlike, round, sum, neg,
 use lib.Ieee.Fits.{up_pos, down_pos}
 use Rattle.definition.specs.Floats.{◌⊖◌, ◌⊗◌, 0·0, f64}
 use Rattle.side_candidates.specs.Blocks.{Real}
-use Rattle.rounding.specs.Order.{plus, less, AtMost, le→at_most, lowest, highest, round_le, lt_le_clash, not_below_nan}
+use Rattle.rounding.specs.Order.{plus, less, AtMost}
+use Rattle.rounding.proofs.Order.{le→at_most, lowest, highest, round_le, lt_le_clash, not_below_nan}
 
 -- ---- a sum of two finite doubles is a fraction, rounded
 

@@ -3,3 +3,4 @@ pub mod Counting
 pub mod Places
 pub mod Answers
 pub mod Slices
+pub mod Theorems

@@ -5,4 +5,3 @@ pub mod Order
 pub mod Lists
 pub mod Choices
 pub mod Counts
-pub mod Theorems

@@ -20,8 +20,8 @@ use Rattle.plane.specs.Points.{ground, node, spot_x, spot_y}
 use Rattle.plane.specs.declared.points.Spot.{Spot}
 use Rattle.definition.specs.Trials.{Trial, rated}
 use Rattle.laws.specs.Bools.{cond_ok, to_T}
-use Rattle.rounding.specs.Keys.{le_lt_trans, lt_le, lt_le_trans}
-use Rattle.rounding.specs.Order.{real_left}
+use Rattle.rounding.proofs.Keys.{le_lt_trans, lt_le, lt_le_trans}
+use Rattle.rounding.proofs.Order.{real_left}
 use Rattle.trials.specs.Floors.{Neutral, begun, first_corner}
 use Rattle.trials.specs.Nodes.{all_flat_map}
 use Rattle.trials.specs.Ranked.{metrics_at, trial_at}

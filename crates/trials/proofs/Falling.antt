@@ -19,8 +19,8 @@ use Rattle.definition.specs.Numbers.{Quality}
 use Rattle.definition.specs.Trials.{Trial, rated, trial_before}
 use Rattle.laws.specs.Bools.{and_left, cond_ok, either, never, none_left, of_T, to_T, which}
 use Rattle.laws.specs.Sorts.{all_insert, insert_no, insert_yes}
-use Rattle.rounding.specs.Keys.{le_trans, lt_le, lt_le_trans}
-use Rattle.rounding.specs.Order.{le_or_lt, real_left}
+use Rattle.rounding.proofs.Keys.{le_trans, lt_le, lt_le_trans}
+use Rattle.rounding.proofs.Order.{le_or_lt, real_left}
 use Rattle.trials.specs.Kept.{Falling, Keeps, NoBetter, Number, Outdone, length_listed, listed, listed_at, onto, row}
 use Rattle.trials.specs.Nodes.{all_flat_map, all_take}
 use Rattle.trials.specs.Ranked.{metrics_at, trial_at}

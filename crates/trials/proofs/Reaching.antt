@@ -17,8 +17,8 @@ use Rattle.definition.specs.Lists.{filter, insert, flat_map, table, numbers, bel
 use Rattle.definition.specs.Trials.{Trial, trial_before}
 use Rattle.laws.specs.Bools.{fails, never, to_T, which}
 use Rattle.laws.specs.Sorts.{insert_no, insert_yes}
-use Rattle.rounding.specs.Keys.{le_not_lt, lt_le, lt_le_trans, le_lt_trans, lt_not_le}
-use Rattle.rounding.specs.Order.{real_right}
+use Rattle.rounding.proofs.Keys.{le_not_lt, lt_le, lt_le_trans, le_lt_trans, lt_not_le}
+use Rattle.rounding.proofs.Order.{real_right}
 use Rattle.trials.specs.Kept.{Falling, Keeps, NoBetter, Number, Outdone, length_listed, listed, listed_at, onto, row}
 use Rattle.trials.specs.Floors.{Fair, KeepsAbove, reaches, reaching}
 use Rattle.trials.proofs.Falling.{all_get, all_numbers, dropped, falling_onto, falling_take, not_below}

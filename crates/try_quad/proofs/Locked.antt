@@ -8,9 +8,10 @@ use Rattle.definition.specs.Cells.{Mesh, node_at, this_round}
 use Rattle.definition.specs.Insertion.{Inserted, nowhere, inserted, full}
 use Rattle.definition.specs.Attempt.{Stance, Sides, found, missing, overfull, sides_by, sides_from, side_nodes}
 use Rattle.laws.specs.Bools.{cond_ok}
-use Rattle.account.specs.Locks.{LockedAs, insert_locked}
+use Rattle.account.specs.Locks.{LockedAs}
+use Rattle.account.proofs.Locks.{insert_locked}
 use Rattle.account.specs.Valid.{Valid}
-use Rattle.account.specs.SameRound.{SidesRound, sides_rounds}
+use Rattle.account.proofs.SameRound.{SidesRound, sides_rounds}
 use Rattle.joints.specs.Table.{Locks}
 use Rattle.traces.specs.Log.{Logged}
 use Rattle.side_nodes.specs.Sides.{sides_mesh}

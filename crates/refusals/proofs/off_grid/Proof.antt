@@ -4,8 +4,8 @@ use Rattle.definition.specs.Floats.{finite}
 use Rattle.definition.specs.Call.{grid_node}
 use Rattle.laws.specs.Bools.{both, to_T}
 use Rattle.exact.specs.GridTest.{is_whole_part}
-use Rattle.exact.specs.Values.{ok}
-use Rattle.exact.specs.Theorems.{within_finite, grid_tested}
+use Rattle.exact.proofs.Values.{ok}
+use Rattle.exact.proofs.Theorems.{within_finite, grid_tested}
 use Rattle.refusals.specs.Stated.{spot}
 use Rattle.refusals.proofs.off_grid.Statement.{statement}
 use Rattle.refusals.proofs.off_grid.Tie as tie

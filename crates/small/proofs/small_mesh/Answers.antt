@@ -1,6 +1,6 @@
 -- `small::small_mesh`: other numbers of points are refused, behind the last place the order has ended.
 use Rattle.laws.specs.Kit.{sym, inl, inr, arith}
-use Rattle.small.specs.Theorems.{refuses}
+use Rattle.small.proofs.Theorems.{refuses}
 use Rattle.small.proofs.Counting.{triangles_few, triangles_some}
 use Rattle.small.proofs.Answers.{past}
 use Rattle.small.proofs.small_mesh.Goals as goal

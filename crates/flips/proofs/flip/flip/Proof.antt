@@ -17,7 +17,7 @@ use Rattle.flips.specs.Flip.{TwinsAt, IsFlip}
 use Rattle.flips.specs.Twins.{IsTwins}
 use Rattle.flips.proofs.Flips.{Third, Twin, twin1, twin2, flip_flat, flip_turned, lock_is, flip_none, flip_short, flip_some, can_turn, convex_apart, within, four}
 use borrow.Author.Rules.{rules}
-use Rattle.account.specs.Flips.{locked_flip}
+use Rattle.account.proofs.Flips.{locked_flip}
 use Rattle.flips.proofs.flip.flip.Statement.{statement}
 use Rattle.flips.proofs.flip.flip.Tie as tie
 

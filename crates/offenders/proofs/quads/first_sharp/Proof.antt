@@ -10,7 +10,7 @@ use borrow.Author.Count.{below_more}
 use borrow.Author.Tests.{not-true, not-false}
 use Rattle.definition.specs.Exact.{units, CosineUpTo}
 use Rattle.definition.specs.Account.{All}
-use Rattle.exact.specs.Limits.{limit_range}
+use Rattle.exact.proofs.Limits.{limit_range}
 use Rattle.exact.specs.Sides.{SameAs}
 use Rattle.accept.specs.Accept.{is_wide}
 use Rattle.accept.specs.Call.{corners_at}

@@ -1,6 +1,7 @@
 use Rattle.laws.specs.Kit.{false≢true, rules}
 use Rattle.definition.specs.Floats.{◌⊕◌, ◌≼◌, f64, 0·0}
-use Rattle.rounding.specs.Halves.{smallest, largest, half_zero, half_size}
+use Rattle.rounding.specs.Halves.{smallest, largest}
+use Rattle.rounding.proofs.Halves.{half_zero, half_size}
 use Rattle.plane.proofs.lengths.half_of.Goals as goal
 
 pub returns-then-x : goal.returns-then-x

@@ -2,7 +2,7 @@ use Rattle.laws.specs.Kit.{◌∙◌, ap, rules, Float}
 use Rattle.definition.specs.Floats.{◌⊗◌, f64, 0·5}
 use Rattle.definition.specs.Plane.{norm}
 use Rattle.plane.specs.Vectors.{vec}
-use Rattle.rounding.specs.Halves.{half_length}
+use Rattle.rounding.proofs.Halves.{half_length}
 use Rattle.plane.proofs.lengths.norm_by.Goals as goal
 
 pub returns-then-half_of-2 : goal.returns-then-half_of-2

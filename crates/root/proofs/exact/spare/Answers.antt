@@ -1,7 +1,7 @@
 -- `root::exact::spare` meets its contract, by the law of leading zeros. Assumes nothing.
 use Rattle.laws.specs.Kit.{arith}
 use lib.Count.{leading_le}
-use Rattle.rounding.specs.Shift.{leading}
+use Rattle.rounding.proofs.Shift.{leading}
 use Rattle.root.proofs.exact.spare.Goals as goal
 
 pub overflow_sub-result : goal.overflow_sub-result
