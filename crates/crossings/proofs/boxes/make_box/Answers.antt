@@ -27,5 +27,9 @@ returns c =
     let t = x in
     let a = t.args in
     let b = x.box_of-b.result in
-    let w' = o.put_box.new.w in record { keeps = keeps_noted a.w.now w' a.s a.p a.a b.left.node b.right.node b.low.node b.high.node t.requires.can_note o.put_box.ensures; is = λ k m h. known_noted a.w.now w' a.q.now a.s a.p a.n k m h a.a b t.requires.can_note o.put_box.ensures (x.box_of-b.ensures k m h)
-            (f.all_fine.ensures i.if-not-all_fine.false) (near_known a.w.now a.s a.p m h.rep a.a (omega (arith, h.count, t.requires.a_lt_n))); noted = λ e. more_noted a.w.now w' a.s a.p a.a b.left.node b.right.node b.low.node b.high.node t.requires.can_note o.put_box.ensures }
+    let w' = o.put_box.new.w in record {
+      keeps = keeps_noted a.w.now w' a.s a.p a.a b.left.node b.right.node b.low.node b.high.node t.requires.can_note o.put_box.ensures;
+      is = λ k m h. known_noted a.w.now w' a.q.now a.s a.p a.n k m h a.a b t.requires.can_note o.put_box.ensures (x.box_of-b.ensures k m h)
+          (f.all_fine.ensures i.if-not-all_fine.false) (near_known a.w.now a.s a.p m h.rep a.a (omega (arith, h.count, t.requires.a_lt_n)));
+      noted = λ e. more_noted a.w.now w' a.s a.p a.a b.left.node b.right.node b.low.node b.high.node t.requires.can_note o.put_box.ensures;
+    }

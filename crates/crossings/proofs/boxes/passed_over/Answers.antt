@@ -26,10 +26,13 @@ returns-then-note_of-ge4 c =
     let o = i2 in
     let i1 = o in
     let t = i1 in
-    let a = t.args in record { keeps = keeps_refl a.w.now (mesh_end a.s a.p); is = λ k m h. (
+    let a = t.args in record {
+      keeps = keeps_refl a.w.now (mesh_end a.s a.p);
+      is = λ k m h. (
         h,
         λ e. away a.w.now a.q.now a.s a.p a.n k m h a.a t.requires.a_lt_n (omega (arith, o.note_of.ensures, i2.if-note_of-ge4.true)) a.l (c.far_off.ensures e),
-      ) }
+      );
+    }
 
 pub make_box-requires : goal.make_box-requires
 make_box-requires c =
@@ -56,11 +59,14 @@ returns-then-make_box c =
     let i3 = c in
     let b = i3 in
     let t = b in
-    let a = t.args in record { keeps = b.make_box.ensures.keeps; is = λ k m h.
+    let a = t.args in record {
+      keeps = b.make_box.ensures.keeps;
+      is = λ k m h.
           let h' = b.make_box.ensures.is k m h in (
             h',
             λ e. away b.make_box.new.w a.q.now a.s a.p a.n k m h' a.a t.requires.a_lt_n (b.make_box.ensures.noted i3.if-make_box.true) a.l (c.far_off-then-make_box.ensures e),
-          ) }
+          );
+    }
 
 pub returns : goal.returns
 returns c = let b = c in record { keeps = b.make_box.ensures.keeps; is = λ k m h. (b.make_box.ensures.is k m h, λ e. absurd (false≢true e)) }

@@ -36,10 +36,13 @@ pub returns-then-b-n : goal.returns-then-b-n
 returns-then-b-n c =
     let q = c in
     let l = q in
-    let a = l.args in record { keeps = keeps_trans a.w.now l.loop-a.w q.least_near-b.new.w (mesh_end a.s a.p) l.loop-a.invariant.1 q.least_near-b.ensures.keeps; is = λ m k.
+    let a = l.args in record {
+      keeps = keeps_trans a.w.now l.loop-a.w q.least_near-b.new.w (mesh_end a.s a.p) l.loop-a.invariant.1 q.least_near-b.ensures.keeps;
+      is = λ m k.
           let y = l.loop-a.invariant.2 m k in
           let z = q.least_near-b.ensures.is m y.0 in
-          (z.0, λ f. first_at a.w.now a.s a.p a.n a.u a.v m k.rep l.loop-a.a q.least_near-b.result (y.1 f) z.1 c.if-b-n.true) }
+          (z.0, λ f. first_at a.w.now a.s a.p a.n a.u a.v m k.rep l.loop-a.a q.least_near-b.result (y.1 f) z.1 c.if-b-n.true);
+    }
 
 pub loop-a-preserved : goal.loop-a-preserved
 loop-a-preserved c =
@@ -58,9 +61,12 @@ loop-a-preserved c =
 pub returns : goal.returns
 returns c =
     let l = c in
-    let a = l.args in record { keeps = l.loop-a.invariant.1; is = λ m k.
+    let a = l.args in record {
+      keeps = l.loop-a.invariant.1;
+      is = λ m k.
           let y = l.loop-a.invariant.2 m k in
-          (y.0, λ f. first_none a.w.now a.s a.p a.n a.u a.v m k.rep l.loop-a.a (y.1 f) k.count c.loop-a-test.false) }
+          (y.0, λ f. first_none a.w.now a.s a.p a.n a.u a.v m k.rep l.loop-a.a (y.1 f) k.count c.loop-a-test.false);
+    }
 
 pub shape_of-w : goal.shape_of-w
 shape_of-w c = c.loop-a.invariant.1.len

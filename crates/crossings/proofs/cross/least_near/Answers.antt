@@ -9,13 +9,16 @@ pub returns-then-passed_over : goal.returns-then-passed_over
 returns-then-passed_over c =
     let o = c in
     let t = o in
-    let a = t.args in record { keeps = o.passed_over.ensures.keeps; is = λ m k.
+    let a = t.args in record {
+      keeps = o.passed_over.ensures.keeps;
+      is = λ m k.
           let z = o.passed_over.ensures.is a.bucket m k in
           let f = node_of m a.n a.q.now (drawn a.w.now a.q.now a.s a.p a.n a.bucket m k).are in (
             z.0,
             least_away a.bucket m k.side a.n a.u a.v a.a (point_at a.q.now a.u) (point_at a.q.now a.v) (f a.u t.requires.segment.first) (f a.v t.requires.segment.second)
                 a.l t.requires.limits (z.1 c.if-passed_over.true),
-          ) }
+          );
+    }
 
 pub least_beside-requires : goal.least_beside-requires
 least_beside-requires c =

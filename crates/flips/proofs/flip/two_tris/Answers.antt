@@ -28,11 +28,15 @@ next_owner-requires c =
     let e = n in
     let f = e in
     let t = f in
-    let a = t.args in record { at = (
+    let a = t.args in record {
+      at = (
         _,
         at2 a.w.now a.s a.p a.u a.v t.requires.rep.0 f.first_owner-a.result (f.first_owner-a.ensures t.requires.rep.0 t.requires.rep.1) e.if-a-s.false
             n.next_owner-b.result n.next_owner-b.ensures,
-      ); edge = t.requires.edge; c_bound = c.if-b-s.false }
+      );
+      edge = t.requires.edge;
+      c_bound = c.if-b-s.false;
+    }
 
 pub returns-then-next_owner-s : goal.returns-then-next_owner-s
 returns-then-next_owner-s c = λ m r.
