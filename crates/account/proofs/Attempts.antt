@@ -15,19 +15,7 @@ use Rattle.account.proofs.LiveTris.{live_tris_is}
 use Rattle.account.proofs.Finished.{behind, tris_number}
 use Rattle.account.specs.Walks.{Goes, Ends}
 use Rattle.account.proofs.Walks.{Walk, rounds_end_so}
-
--- ---- a state that goes on, and one that a limit ended
--- at most so many attempts, and no limit
-pub record Going (most : ℕ) (st : State) : Type 0 where
-  pub made : st.counts.attempts ≤ most
-  pub no_limit : st.counts.limit ≡ 0
-
--- A limit ended the run: the attempt that it stopped is counted.
--- It is the limit on attempts, or, with no more attempts than theirs, that on live triangles.
-pub record Limited (most given : ℕ) (st : State) : Type 0 where
-  pub counted : st.counts.attempts ≤ most + 1
-  pub limit : st.counts.limit ≡ 1
-  pub which_one : (st.counts.attempts ≡ most + 1) ⊎ ((st.counts.attempts ≤ most) × (max_triangles given < live_tris st.mesh))
+use Rattle.account.specs.Attempts.{Going, Limited}
 
 -- the counts that an attempt adds
 same_refused : (c : Counts) (n : Spent) (why : Refusal) → ((c ⊞ spending n ⊞ refused_by why).attempts ≡ c.attempts) × ((c ⊞ spending n ⊞ refused_by why).limit ≡ c.limit)
@@ -133,38 +121,3 @@ module _ (s : Settings) (lk : Edge → Bool) (ts : List Tri) (ps : List Node) wh
   -- one that want of lent memory ended began no more
   pub begun_within : (w : Want) (st : State) → rounds_of ≡ stopped w st → st.counts.attempts ≤ s.attempts
   begun_within w st e = let g : Going s.attempts st = subst (λ p. Ends (Going s.attempts) (Limited s.attempts (length ts)) p) e ending in g.made
-
--- A run that the limit on attempts ended reports exactly one more.
--- A run that a limit ended with fewer attempts has more leftover triangles than their limit.
-pub result_limit : (s : Settings) (lk : Edge → Bool) (ts : List Tri) (ps : List Node) (r : Result) → run_front s lk ts ps ≡ ran r → r.counts.limit ≡ 1
-    → (r.counts.attempts ≡ s.attempts + 1) ⊎ ((r.counts.attempts ≤ s.attempts) × (max_triangles (length ts) < length r.triangles))
-unfolding result
-result_limit s lk ts ps r e f =
-    elim (at_the_limit s lk ts ps r e f) [
-      | inl h ↦ inl h
-      | inr h ↦
-          let m = h.0.mesh in
-          let u : length r.triangles ≡ length (triangles m) = ap (λ r. length r.triangles) h.1 in
-          inr (h.2, omega (arith, h.3, u, live_tris_is m, same_length (tris_of m.live) (triangles m) (triangles_same m)))
-    ]
-
--- ---- a call
--- A call that the limit on attempts ended reports exactly one more than that limit.
--- A call that a limit ended with fewer attempts has more leftover triangles than theirs.
-pub limit_of_call : (most : ℕ) (a : Asked) (l : Lent) (c : Counts) (n : Lengths) → (call_within most a l).answer ≡ finished c n → c.limit ≡ 1
-    → (c.attempts ≡ most + 1) ⊎ ((c.attempts ≤ most) × (4 * a.count + 100 < n.triangles))
-unfolding settings_within lengths max_triangles
-limit_of_call most a l c n done e =
-    let b = behind most a l c n done in
-    let k = b.counts_are in
-    let t = tris_number a l b.passed in
-    elim (result_limit (settings_within most (length l.trace) a) (given_locks a l) (given_tris a l) (given_points a l) b.run b.ended (sym (ap (λ z. z.limit) k) ∙ e)) [
-      | inl h ↦ inl (omega (arith, ap (λ z. z.attempts) k, h, t))
-      | inr h ↦ inr (omega (arith, ap (λ z. z.attempts) k, h.0), omega (arith, h.1, ap (λ z. z.triangles) b.lengths_are, t))
-    ]
-
--- A call that the usual limit on attempts ended reports 200 times the triangles plus 10,001.
-pub limit_exact : (a : Asked) (l : Lent) (c : Counts) (n : Lengths) → (call a l).answer ≡ finished c n → c.limit ≡ 1
-    → (c.attempts ≡ 200 * a.count + 10001) ⊎ ((c.attempts ≤ 200 * a.count + 10000) × (4 * a.count + 100 < n.triangles))
-unfolding call max_attempts
-limit_exact a l c n done e = elim (limit_of_call (200 * a.count + 10000) a l c n done e) [ inl h ↦ inl (omega arith) | inr h ↦ inr h ]

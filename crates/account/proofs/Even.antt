@@ -8,7 +8,7 @@ use Rattle.laws.specs.Lists.{In, in_left, in_right, in_either}
 use Rattle.account.proofs.Rearranged.{number, same_in_tris}
 use Rattle.account.specs.Triangles.{Has, Shares, Corners}
 use Rattle.account.proofs.Triangles.{turned, has_test, test_has, has_at}
-use Rattle.account.specs.Even.{AllEven, Closed, odd, parity, xor}
+use Rattle.account.specs.Even.{AllEven, Closed, odd, parity, xor, Swaps}
 
 pub xor_assoc : (a b c : Bool) → xor a (xor b c) ≡ xor (xor a b) c
 xor_assoc true true true = refl
@@ -43,15 +43,6 @@ same_odd xs ys h c = odd_number c xs ∙ ap parity (h c) ∙ sym (odd_number c y
 -- evenness does not depend on the order
 pub same_even : (xs ys : List Tri) → Rearranged xs ys → AllEven xs → AllEven ys
 same_even xs ys l h c e = sym (same_odd xs ys l c) ∙ h c (λ s t i j g. e s t (same_in_tris xs ys l s i) (same_in_tris xs ys l t j) g)
-
--- the olds give way to the news
-pub record Swaps (rest olds news : List Tri) (k : Tri → Bool) (c : Tri → Bool) : Type 0 where
-  pub value : Bool
-  pub new : (t : Tri) → In t news → c t ≡ value
-  pub old : (t : Tri) → In t olds → k t ≡ true
-  pub kept : (t : Tri) → In t rest → k t ≡ true → c t ≡ value
-  pub near : (s t : Tri) → In s rest → In t olds → Shares s t → c s ≡ value
-  pub number : odd (λ t. value) olds ≡ odd (λ t. value) news
 
 module _ (rest olds news : List Tri) (k : Tri → Bool) where
   back : (Tri → Bool) → Bool → Tri → Bool

@@ -12,10 +12,12 @@ use Rattle.laws.specs.Lists.{known}
 use Rattle.account.proofs.Slices.{read_quads}
 use Rattle.account.proofs.Finished.{behind}
 use Rattle.account.specs.Walks.{Ends}
-use Rattle.account.proofs.Attempts.{Going, Limited, ending}
+use Rattle.account.specs.Attempts.{Going, Limited}
+use Rattle.account.proofs.Attempts.{ending}
 use Rattle.account.specs.Smaller.{First}
 use Rattle.account.proofs.Smaller.{limited_to, smaller_finished}
 use Rattle.account.specs.Jobs.{FinishedFirst, Handed, Reaches, all_charged, in_job, in_turn, job_start, state_after}
+use Rattle.account.proofs.JobRefused.{refused_first}
 
 -- its rounds
 abbrev mesh_rounds : Job → Asked → Lent → Progress
@@ -53,12 +55,6 @@ going_on j h =
     let c = or_none (eqb j.meshes 0 || ltb most_meshes j.meshes || leb j.meshes j.done) (eqb j.allowance 0) b.0 in
     let d = or_none (eqb j.meshes 0 || ltb most_meshes j.meshes) (leb j.meshes j.done) c.0 in
     leb-false j.meshes j.done d.1
-
--- 16 comes before every other refusal, whatever the mesh states and lends:
--- no slice is touched, nothing is charged, and the state is handed back as it was
-pub refused_first : (j : Job) (a : Asked) (l : Lent) → bad_job j ≡ true → job j a l ≡ record { returned = untouched 16 l; charged = 0; next = j }
-unfolding job
-refused_first j a l h = rw h refl
 
 -- a mesh is charged no more than it is entitled to, and hands on the rest
 pub job_handed : (j : Job) (a : Asked) (l : Lent) → bad_job j ≡ false → Handed j (job j a l)

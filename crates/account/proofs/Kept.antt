@@ -16,7 +16,8 @@ use Rattle.account.proofs.Quads.{quads_rated}
 use Rattle.account.specs.Births.{all_replaced}
 use Rattle.account.proofs.Births.{left_number}
 use Rattle.account.proofs.Placed.{quads_in_rounds}
-use Rattle.account.proofs.Attempts.{without_limit, result_limit}
+use Rattle.account.proofs.Attempts.{without_limit}
+use Rattle.account.proofs.Limits.{result_limit}
 use Rattle.account.proofs.Trials.{trials_within}
 use Rattle.account.proofs.Invariants.{lists_fit}
 use Rattle.account.specs.Geometry.{Geometry, AllWithin, SoundQuad}

@@ -56,8 +56,10 @@ pub mod Floods
 pub mod Rounds
 pub mod Walks
 pub mod Attempts
+pub mod Limits
 pub mod Trials
 pub mod Smaller
+pub mod JobRefused
 pub mod Jobs
 pub mod Previews
 pub mod Listed
@@ -66,4 +68,5 @@ pub mod Meshes
 pub mod Invariants
 pub mod Reach
 -- a trace and its replay
+pub mod Redone
 pub mod Redo

@@ -53,3 +53,4 @@ pub mod Meshes
 pub mod Reach
 -- a trace and its replay
 pub mod Redo
+pub mod Attempts
