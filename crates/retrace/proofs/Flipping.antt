@@ -218,6 +218,7 @@ record Owner (m : Mesh) (q : Quad) : Type 0 where
 
 quad_of : (c : Cell) (q : Quad) → In q (quad_in c) → c ≡ quad q
 unfolding quad_in
+quad_of (quad k) q (inr x') = elim x' [ ]
 quad_of (tri t) q j = absurd j
 quad_of (quad k) q (inl e) = ap quad (sym e)
 

@@ -24,6 +24,7 @@ out_below a (x ∷ l) h = (λ e. omega (arith, h.0), out_below a l h.1)
 
 -- a live cell's slot was given out
 pub slot_given : (k : ℕ) (l : List Live) (x : Live) → Below k (slots l) → In x l → x.slot < k
+slot_given k [] x b x4 = elim x4 [ ]
 slot_given k (y ∷ l) x b (inl e) = subst (λ (z : Live). z.slot < k) (sym e) b.0
 slot_given k (y ∷ l) x b (inr i) = slot_given k l x b.1 i
 
@@ -134,4 +135,5 @@ unfolding set_cell with_live without new_live live_tri is_tri
 still_tri m i j t h x k e = elim (in_either x (without i m.live) (new_live i (tri t) ∷ []) k) [
   | inl a ↦ h x (in_filter _ m.live a).0 e
   | inr (inl a) ↦ ap live_tri a
+  | inr (inr x3) ↦ elim x3 [ ]
 ]
