@@ -28,7 +28,6 @@ use Rattle.insertion.specs.Places.{PlaceIs}
 use Rattle.insertion.specs.declared.insert.Place.TheVariants as places
 use Rattle.candidates.specs.Choice.{CanChoose, Spare}
 use Rattle.side_nodes.specs.Sides.{CanSeek, Goes, ListedAt, LeftAt, sides_mesh, SidesAre, SidesTo}
-use Rattle.side_nodes.specs.declared.side.Found.{Found}
 use Rattle.side_nodes.specs.declared.side.Found.TheVariants as founds
 use Rattle.side_nodes.specs.declared.side.Side.{Side}
 
