@@ -56,7 +56,7 @@ returns c = λ m xs h t.
     let a = (start f).args in
     let n = f.read_nodes-t.result in
     let g = o.meet_ring-k.ensures m xs h in
-    met_both a.w.now o.meet_ring-k.last.0 d.meet_ring.new.w a.s a.p o.meet_ring-k.result d.meet_ring.result m xs t.t n.x n.y n.z o.wide.result v.wide-2.result
+    met_both a.w.now o.meet_ring-k.new.w d.meet_ring.new.w a.s a.p o.meet_ring-k.result d.meet_ring.result m xs t.t n.x n.y n.z o.wide.result v.wide-2.result
     (nodes f m xs h t) o.wide.ensures v.wide-2.ensures g (d.meet_ring.ensures m (xs ++ g.new) g.state)
 
 pub meet_tri_spec : {M : Type 1} → statement M

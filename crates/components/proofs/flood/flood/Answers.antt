@@ -4,7 +4,7 @@ use Rattle.components.proofs.Floods.{begin_can, begin_more, begun_flood, flooded
 use Rattle.components.proofs.flood.flood.Goals as goal
 
 pub append-requires : goal.append-requires
-append-requires c = let q = c.requires in begin_can q.2 q.3 q.4
+append-requires c = let q = c.requires in let e = begin_can q.2 q.3 q.4 in record { can_list = e.0; can_list_2 = e.1 }
 
 pub overflow_add-n : goal.overflow_add-n
 overflow_add-n c =

@@ -28,8 +28,8 @@ module _ (l : tie.At-loop-i invariant_loop decreases_loop) (m : Mesh) (xs : List
   listed = cleared_listed (cleared l).clear_marks.ensures hs
 
   -- those marked so far
-  so_far : let a = (start (cleared l)).args in Marking (cleared l).clear_marks.last.0 l.loop-i.w a.s a.p a.n l.loop-i.i m xs
-  so_far = l.loop-i.inv.4 m xs listed (cleared_none (cleared l).clear_marks.ensures hs.rep u)
+  so_far : let a = (start (cleared l)).args in Marking (cleared l).clear_marks.new.w l.loop-i.w a.s a.p a.n l.loop-i.i m xs
+  so_far = l.loop-i.invariant.4 m xs listed (cleared_none (cleared l).clear_marks.ensures hs.rep u)
 
 clear_marks_requires : tie.Need-clear_marks-requires invariant_loop decreases_loop
 clear_marks_requires c κs =
@@ -84,7 +84,7 @@ returns c = λ m xs hs u.
     let f = marking_end (listed l.before m xs hs u) (so_far l.before m xs hs u) c.loop-i-test.false l.loop-i.invariant.2 in
     record {
       state = f.state;
-      aside = aside_trans a.w.now d.clear_marks.last.0 l.loop-i.w a.s a.p (cleared_aside a.w.now d.clear_marks.last.0 a.s a.p a.used d.clear_marks.ensures) f.aside;
+      aside = aside_trans a.w.now d.clear_marks.new.w l.loop-i.w a.s a.p (cleared_aside a.w.now d.clear_marks.new.w a.s a.p a.used d.clear_marks.ensures) f.aside;
     }
 
 pub mark_listed_spec : {M : Type 1} → statement M

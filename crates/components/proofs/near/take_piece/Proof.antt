@@ -40,17 +40,17 @@ so_far l m region xs h t out =
     l.loop-t.invariant.4 m region xs h.rest (tri_live (start (listed (begun l))).args.i t.t) (flooding_at (first (begun l) m xs h.state t out)) h.parts h.len
 
 -- of the mesh that is known to be there
-known : (l : tie.At-loop-t invariant_loop decreases_loop) → let t = start (listed (begun l)) in let a = t.args in let q = t.pre in
+known : (l : tie.At-loop-t invariant_loop decreases_loop) → let t = start (listed (begun l)) in let a = t.args in let q = t.requires in
     Spreading (begun l).spread-first.new.w l.loop-t.w a.s a.p l.loop-t.count l.loop-t.head l.loop-t.t q.0 q.1 q.2 (tri_live a.i q.4.t)
 known l = let q = (start (listed (begun l))).requires in so_far l q.0 q.1 q.2 q.3 q.4 q.5
 
 -- one stretch more
-stretched : (v : tie.After-spread-on invariant_loop decreases_loop) → let l = v in let t = start (listed (begun l.before.before.before.before)) in let a = t.args in let q = t.pre in
+stretched : (v : tie.After-spread-on invariant_loop decreases_loop) → let l = v in let t = start (listed (begun l.before.before.before.before)) in let a = t.args in let q = t.requires in
     Flooding l.loop-t.w v.spread-on.new.w a.s a.p v.spread-on.result.count v.spread-on.result.head q.0 q.2 (tri_live a.i q.4.t)
 stretched v =
     let l = v in
     let t = start (listed (begun l.before.before.before.before)) in
-    v.spread-on.ensures.0 t.pre.0 t.pre.2 (tri_live t.args.i t.pre.4.t) (flooding_at (known l.before.before.before.before).flood)
+    v.spread-on.ensures.0 t.requires.0 t.requires.2 (tri_live t.args.i t.requires.4.t) (flooding_at (known l.before.before.before.before).flood)
 
 -- ---- the first stretch
 append_requires : tie.Need-append-requires invariant_loop decreases_loop
@@ -89,7 +89,7 @@ loop_holds c =
 
 -- ---- the loop
 same_length : tie.Need-shape_of-w-then-head-count invariant_loop decreases_loop
-same_length c = let l = c in l.loop-t.invariant.0 ∙ (begun l.before.before).spread-first.auto.w ∙ (listed (begun l.before.before)).append.kept.0
+same_length c = let l = c in l.loop-t.invariant.0 ∙ (begun l.before.before).spread-first.auto.w ∙ (listed (begun l.before.before)).append.auto.w
 
 returns : tie.Need-returns-then-head-count invariant_loop decreases_loop
 returns c = λ m region xs h t out.
@@ -110,7 +110,7 @@ spread_requires_2 c κs =
     let e = c in
     let l = e in
     let t = start (listed (begun l.before.before.before)) in
-    ((t.pre.0, t.pre.2, tri_live t.args.i t.pre.4.t, flooding_at (known l.before.before.before).flood), (e.if-head-count.false, omega (arith, l.loop-t.invariant.1)))
+    ((t.requires.0, t.requires.2, tri_live t.args.i t.requires.4.t, flooding_at (known l.before.before.before).flood), (e.if-head-count.false, omega (arith, l.loop-t.invariant.1)))
 
 beside_requires_2 : tie.Need-beside-t-requires-in-loop-t invariant_loop decreases_loop
 beside_requires_2 c κs =
@@ -140,7 +140,7 @@ loop_again c =
     )
 
 same_length_2 : tie.Need-shape_of-w invariant_loop decreases_loop
-same_length_2 c = let l = c in l.loop-t.invariant.0 ∙ (begun l.before).spread-first.auto.w ∙ (listed (begun l.before)).append.kept.0
+same_length_2 c = let l = c in l.loop-t.invariant.0 ∙ (begun l.before).spread-first.auto.w ∙ (listed (begun l.before)).append.auto.w
 
 returns_2 : tie.Need-returns invariant_loop decreases_loop
 returns_2 c = λ m region xs h t out.

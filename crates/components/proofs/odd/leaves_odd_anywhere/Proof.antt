@@ -21,7 +21,7 @@ abbrev marked : tie.At-loop-i invariant_loop decreases_loop → tie.After-mark_l
 marked l = l.before.before.before
 
 -- the components taken of the mesh that is known to be there
-known : (l : tie.At-loop-i invariant_loop decreases_loop) → let t = start (marked l) in Evens (marked l).mark_listed.new.w l.loop-i.w t.args.s t.args.p l.loop-i.k l.loop-i.i t.pre.0 t.pre.1
+known : (l : tie.At-loop-i invariant_loop decreases_loop) → let t = start (marked l) in Evens (marked l).mark_listed.new.w l.loop-i.w t.args.s t.args.p l.loop-i.k l.loop-i.i t.requires.0 t.requires.1
 known l = let q = (start (marked l)).requires in l.loop-i.invariant.3 q.0 q.1 ((marked l).mark_listed.ensures q.0 q.1 q.2 q.3).state q.3
 
 mark_listed_requires : tie.Need-mark_listed-requires invariant_loop decreases_loop
