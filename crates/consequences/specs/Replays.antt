@@ -330,7 +330,8 @@ module _ (most : ℕ) (a : Asked) (l : Lent) (b : Stopped most a l) (lent : 0 < 
       let ts = given_tris a l in
       let ps = given_points a l in
       let first = start s lk ts ps in
-      let end = stopped_in _ _ b.want b.points b.quads b.words (front_loop (most + 2) s (length ts) first)
+      let redoable = Redoable (settings (as_asked t)) (new_mesh (settings (as_asked t)) (λ e. false) ts ps).bucket first.mesh in
+      let end = stopped_in (λ st es. redoable st.mesh st.quads) (λ st. redoable st.mesh st.quads) b.want b.points b.quads b.words (front_loop (most + 2) s (length ts) first)
       (front_loop_ok s _ _ _ (rule a l exit n t k w most (length l.trace) lk) (most + 2) (length ts) first
       (start_valid s lk ts ps (given_proper a l b.passed), start_redoable s (settings (as_asked t)) _ lk ts ps)) b.ended in
       let h = so_far k (result end.0) (replay t k) (ends_in a l exit n t k w s lk end.0 lent (stopped_words ∙ end.4) end.1) in

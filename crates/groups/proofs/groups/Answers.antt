@@ -1,5 +1,5 @@
 -- The edges are put into places and sorted, the triangles joined along them, and counted by root.
-use Rattle.laws.specs.Kit.{arith, rules}
+use Rattle.laws.specs.Kit.{arith}
 use Rattle.groups.proofs.Together.{sortable, runnable, labels, grouped}
 use Rattle.groups.proofs.groups.Goals as goal
 

@@ -1,5 +1,5 @@
 -- Put, then sorted.
-use Rattle.laws.specs.Kit.{arith, rules}
+use Rattle.laws.specs.Kit.{arith}
 use Rattle.filing.proofs.Files.{filed_places}
 use Rattle.filing.proofs.meshes.file_triangles.Goals as goal
 

@@ -1,5 +1,5 @@
 -- What the counts and points leave the same is decided by what follows.
-use Rattle.laws.specs.Kit.{refl, sym, ◌∙◌, ap, not, arith, rules, not-true, not-false}
+use Rattle.laws.specs.Kit.{refl, sym, ◌∙◌, ap, arith}
 use Rattle.filing.specs.Filing.{is_same}
 use Rattle.filing.proofs.Files.{given_differ, points_differ, count_differ, tris_decide}
 use Rattle.filing.proofs.meshes.order_meshes.Goals as goal
@@ -10,7 +10,7 @@ returns-then-first_given-second_given c = record { order = c.order_numbers.ensur
 pub returns-then-not-is_same : goal.returns-then-not-is_same
 returns-then-not-is_same c =
     let o = c.order_points-o.ensures in
-    let d = ap is_same (sym o) ∙ not-true _ (sym (ap not c.is_same.ensures) ∙ c.if-not-is_same.true) in
+    let d = ap is_same (sym o) ∙ sym c.is_same.ensures ∙ c.if-not-is_same.true in
     record { order = o ∙ points_differ _ _ _ _ _ _ _ _ c.if-first_given-second_given.false d; first = refl; second = refl }
 
 pub returns-then-first_count-second_count : goal.returns-then-first_count-second_count

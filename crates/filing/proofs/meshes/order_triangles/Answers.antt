@@ -1,5 +1,5 @@
 -- Both filed, then compared place by place.
-use Rattle.laws.specs.Kit.{◌∙◌, arith, rules}
+use Rattle.laws.specs.Kit.{◌∙◌}
 use Rattle.filing.proofs.Files.{places_order}
 use Rattle.filing.proofs.meshes.order_triangles.Goals as goal
 

@@ -1,5 +1,5 @@
 -- The code's two comparisons are the definition's.
-use Rattle.laws.specs.Kit.{sym, ◌∙◌, rules}
+use Rattle.laws.specs.Kit.{sym, ◌∙◌}
 use Rattle.definition.specs.Floats.{◌≺◌}
 use Rattle.filing.specs.Filing.{order_floats}
 use Rattle.filing.proofs.orders.order_floats.Goals as goal

@@ -1,8 +1,7 @@
-use Rattle.laws.specs.Kit.{◌≡◌, sym, ◌∙◌, ap, ◌-◌, ◌≤◌, arith, rules}
+use Rattle.laws.specs.Kit.{◌≡◌, ◌-◌, ◌≤◌}
 use Rattle.sorting.specs.Places.{key_at}
-use Rattle.filing.specs.Filing.{is_same, order_numbers}
-use Rattle.filing.specs.Totals.{equal_is}
-use Rattle.filing.proofs.Marks.{differ, whole, rest, rows_start, rows_decide, rows_go_on, rows_end}
+use Rattle.filing.specs.Filing.{order_numbers}
+use Rattle.filing.proofs.Marks.{whole, rest}
 use Rattle.filing.proofs.orders.order_keys.Given as goal
 
 abbrev pub invariant-loop-i : goal.invariant-loop-i

@@ -1,9 +1,9 @@
 -- The points passed are the same: the order is that of what follows.
-use Rattle.laws.specs.Kit.{◌≡◌, sym, ◌∙◌, ap, not, ◌-◌, ◌≤◌, arith, rules, not-true, not-false}
+use Rattle.laws.specs.Kit.{sym, ◌∙◌, arith}
 use Rattle.definition.specs.Lists.{below}
 use Rattle.definition.specs.Call.{point_at, first_points}
 use Rattle.filing.specs.Filing.{order_points}
-use Rattle.filing.proofs.Marks.{whole, rest, rows_start, rows_decide, rows_go_on, rows_end}
+use Rattle.filing.proofs.Marks.{rows_start, rows_decide, rows_go_on, rows_end}
 use Rattle.filing.proofs.orders.order_points.Goals as goal
 
 pub loop-i-init : goal.loop-i-init
@@ -14,7 +14,7 @@ unfolding first_points below
 returns-then-not-same_point c =
     let t = c in
     let g = t in
-    let d = not-true _ (sym (ap not t.same_point.ensures) ∙ t.if-not-same_point.true) in
+    let d = sym t.same_point.ensures ∙ t.if-not-same_point.true in
     c.order_point.ensures ∙ rows_decide order_points (point_at _) (point_at _) _ g.loop-i.i (omega arith) g.loop-i.invariant.1 d
 
 pub loop-i-preserved : goal.loop-i-preserved

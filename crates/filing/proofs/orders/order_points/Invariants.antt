@@ -1,8 +1,7 @@
-use Rattle.laws.specs.Kit.{◌≡◌, sym, ◌∙◌, ap, not, ◌-◌, ◌≤◌, arith, rules, not-true, not-false}
-use Rattle.definition.specs.Lists.{below}
-use Rattle.definition.specs.Call.{point_at, first_points}
+use Rattle.laws.specs.Kit.{◌≡◌, ◌-◌, ◌≤◌}
+use Rattle.definition.specs.Call.{point_at}
 use Rattle.filing.specs.Filing.{order_points}
-use Rattle.filing.proofs.Marks.{whole, rest, rows_start, rows_decide, rows_go_on, rows_end}
+use Rattle.filing.proofs.Marks.{whole, rest}
 use Rattle.filing.proofs.orders.order_points.Given as goal
 
 abbrev pub invariant-loop-i : goal.invariant-loop-i

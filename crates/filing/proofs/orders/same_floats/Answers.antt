@@ -1,5 +1,5 @@
 -- Neither is below the other.
-use Rattle.laws.specs.Kit.{sym, ◌∙◌, ap, not, rules, lt}
+use Rattle.laws.specs.Kit.{sym, ◌∙◌, ap, not, lt}
 use Rattle.definition.specs.Floats.{◌≺◌}
 use Rattle.filing.specs.Filing.{order_floats}
 use Rattle.filing.proofs.Marks.{later_same}

@@ -1,6 +1,6 @@
 -- The root stays that of i, on the way up.
 use Rattle.laws.specs.Kit.{arith}
-use Rattle.groups.proofs.Roots.{Finding, find_start, find_down, find_next, find_less, find_end}
+use Rattle.groups.proofs.Roots.{find_start, find_down, find_next, find_less, find_end}
 use Rattle.groups.proofs.forest.find.Goals as goal
 
 pub loop-p-init : goal.loop-p-init

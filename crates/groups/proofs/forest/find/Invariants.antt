@@ -1,5 +1,4 @@
-use Rattle.laws.specs.Kit.{arith}
-use Rattle.groups.proofs.Roots.{Finding, find_start, find_down, find_next, find_less, find_end}
+use Rattle.groups.proofs.Roots.{Finding}
 use Rattle.groups.proofs.forest.find.Given as goal
 
 abbrev pub invariant-loop-p : goal.invariant-loop-p

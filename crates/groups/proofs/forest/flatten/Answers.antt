@@ -1,7 +1,6 @@
 -- Those passed name their roots.
-use Rattle.laws.specs.Kit.{◌≡◌, ◌∙◌, ℕ, ◌-◌, ◌<◌, ◌≤◌, arith, get_or}
+use Rattle.laws.specs.Kit.{◌∙◌, arith}
 use borrow.Author.Count.{below_more}
-use Rattle.groups.specs.Forest.{root, Kept}
 use Rattle.groups.proofs.Roots.{kept_self, kept_then, flat_here}
 use Rattle.groups.proofs.forest.flatten.Goals as goal
 

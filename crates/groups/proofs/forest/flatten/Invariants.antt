@@ -1,7 +1,5 @@
-use Rattle.laws.specs.Kit.{◌≡◌, ◌∙◌, ℕ, ◌-◌, ◌<◌, ◌≤◌, arith, get_or}
-use borrow.Author.Count.{below_more}
+use Rattle.laws.specs.Kit.{◌≡◌, ℕ, ◌-◌, ◌<◌, ◌≤◌, get_or}
 use Rattle.groups.specs.Forest.{root, Kept}
-use Rattle.groups.proofs.Roots.{kept_self, kept_then, flat_here}
 use Rattle.groups.proofs.forest.flatten.Given as goal
 
 abbrev pub invariant-loop-i : goal.invariant-loop-i

@@ -1,5 +1,5 @@
 -- The parent's parent is stored.
-use Rattle.laws.specs.Kit.{sym, ◌∙◌, ap, subst, arith, rules, get_or, set, get_or-set_same}
+use Rattle.laws.specs.Kit.{sym, ◌∙◌, ap, subst, arith, get_or, set, get_or-set_same}
 use Rattle.groups.specs.Forest.{Halved}
 use Rattle.groups.proofs.Roots.{halved}
 use Rattle.groups.proofs.forest.halve.Goals as goal

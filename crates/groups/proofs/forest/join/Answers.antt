@@ -1,5 +1,4 @@
 -- The roots are found, and linked.
-use Rattle.laws.specs.Kit.{rules}
 use Rattle.groups.proofs.Roots.{first_root, second_root, roots_low, joined_roots}
 use Rattle.groups.proofs.forest.join.Goals as goal
 

@@ -1,5 +1,4 @@
 -- Joined where the edges are one.
-use Rattle.laws.specs.Kit.{rules}
 use Rattle.groups.proofs.Links.{joined, unjoined}
 use Rattle.groups.proofs.forest.join_equal.Goals as goal
 

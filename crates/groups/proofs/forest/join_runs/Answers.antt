@@ -2,7 +2,7 @@
 use Rattle.laws.specs.Kit.{sym, subst, ◌-◌, ◌<◌, arith}
 use mathlib.Core.Path.{subst₂}
 use Rattle.groups.specs.Joins.{tri_of, Joined}
-use Rattle.groups.proofs.Links.{Running, run_start, run_next, run_end}
+use Rattle.groups.proofs.Links.{run_start, run_next, run_end}
 use Rattle.groups.proofs.forest.join_runs.Goals as goal
 
 pub loop-i-init : goal.loop-i-init

@@ -1,7 +1,5 @@
-use Rattle.laws.specs.Kit.{sym, subst, ◌-◌, ◌<◌, arith}
-use mathlib.Core.Path.{subst₂}
-use Rattle.groups.specs.Joins.{tri_of, Joined}
-use Rattle.groups.proofs.Links.{Running, run_start, run_next, run_end}
+use Rattle.laws.specs.Kit.{◌-◌}
+use Rattle.groups.proofs.Links.{Running}
 use Rattle.groups.proofs.forest.join_runs.Given as goal
 
 abbrev pub invariant-loop-i : goal.invariant-loop-i

@@ -1,5 +1,5 @@
 -- The greater root is hung under the lesser.
-use Rattle.laws.specs.Kit.{arith, rules}
+use Rattle.laws.specs.Kit.{arith}
 use Rattle.groups.proofs.Roots.{hung}
 use Rattle.groups.proofs.forest.link.Goals as goal
 

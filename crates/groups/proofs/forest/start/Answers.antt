@@ -1,5 +1,5 @@
 -- Those passed name themselves.
-use Rattle.laws.specs.Kit.{◌≡◌, refl, ◌∙◌, ℕ, ◌-◌, ◌<◌, ◌≤◌, arith, length, get_or, length-set, get_or-set_same, get_or-set_other}
+use Rattle.laws.specs.Kit.{refl, ◌∙◌, arith, length-set, get_or-set_same, get_or-set_other}
 use borrow.Author.Count.{below_more}
 use Rattle.groups.proofs.Roots.{root_of}
 use Rattle.groups.proofs.forest.start.Goals as goal

@@ -1,5 +1,5 @@
 -- The lesser node comes first.
-use Rattle.laws.specs.Kit.{rules, lt-ltb, le-ltb}
+use Rattle.laws.specs.Kit.{lt-ltb, le-ltb}
 use Rattle.groups.specs.Edges.{edge_of}
 use Rattle.groups.proofs.places.put_edge.Goals as goal
 

@@ -1,7 +1,6 @@
 -- The places passed have the numbers of their edges.
-use Rattle.laws.specs.Kit.{◌≡◌, refl, ◌∙◌, ap, ℕ, ◌-◌, ◌/◌, ◌<◌, ◌≤◌, arith, not-suc-le-zero, length, get_or}
+use Rattle.laws.specs.Kit.{refl, ◌∙◌, ap, ◌/◌, arith, not-suc-le-zero, get_or}
 use borrow.Author.Count.{below_more}
-use Rattle.sorting.specs.Places.{key_at}
 use Rattle.balance.specs.Codes.{next, side_at}
 use Rattle.balance.proofs.Corners.{next_within}
 use Rattle.groups.specs.Edges.{tagged}

@@ -1,8 +1,6 @@
-use Rattle.laws.specs.Kit.{◌≡◌, refl, ◌∙◌, ap, ℕ, ◌-◌, ◌/◌, ◌<◌, ◌≤◌, arith, not-suc-le-zero, length, get_or}
-use borrow.Author.Count.{below_more}
+use Rattle.laws.specs.Kit.{◌≡◌, ℕ, ◌-◌, ◌/◌, ◌<◌, ◌≤◌, length}
 use Rattle.sorting.specs.Places.{key_at}
-use Rattle.balance.specs.Codes.{next, side_at}
-use Rattle.balance.proofs.Corners.{next_within}
+use Rattle.balance.specs.Codes.{side_at}
 use Rattle.groups.specs.Edges.{tagged}
 use Rattle.groups.proofs.places.put_edges.Given as goal
 

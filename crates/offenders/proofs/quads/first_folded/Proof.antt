@@ -6,7 +6,6 @@ use Prim.Native.Nat.{ℕ, ◌-◌, ◌≤◌, ◌<◌}
 use native.Mathlib.Nat.{not-suc-le-zero}
 use native.Mathlib.Omega.{arith}
 use borrow.Author.Count.{below_more}
-use borrow.Author.Tests.{not-true, not-false}
 use Rattle.definition.specs.Exact.{exact_cross, AboveZero, TurnsLeft}
 use Rattle.definition.specs.Account.{All}
 use Rattle.exact.specs.Sides.{SameAs}
@@ -17,55 +16,55 @@ use Rattle.offenders.specs.Cells.{corners_in, names_four, near_four, each_at, co
 use Rattle.offenders.proofs.quads.first_folded.Statement.{statement}
 use Rattle.offenders.proofs.quads.first_folded.Tie as tie
 
-abbrev invariant_loop : tie.invariant-loop
+abbrev invariant_loop : tie.invariant-loop-i
 invariant_loop points quads n i₀ i = (i ≤ n) × ((k : ℕ) → k < i → All TurnsLeft (corners_in points (corners_at quads k)))
 
-abbrev decreases_loop : tie.decreases-loop
+abbrev decreases_loop : tie.decreases-loop-i
 decreases_loop points quads n i₀ i = n - i
 
-abbrev start : tie.At-loop invariant_loop decreases_loop → tie.Start invariant_loop decreases_loop
+abbrev start : tie.At-loop-i invariant_loop decreases_loop → tie.Start invariant_loop decreases_loop
 start c = c.before.before.before
 
-loop_holds : tie.Need-loop-init invariant_loop decreases_loop
-loop_holds c = (omega arith, λ k h. absurd (not-suc-le-zero h))
-
-four_of_requires : tie.Need-four-of-requires invariant_loop decreases_loop
-four_of_requires c κs =
-    let s = start c.before in
-    names_four s.pre.0 s.args.n s.args.points.now s.args.quads.now s.pre.1 c.before.loop.i c.loop_test.true
-
-convex_requires : tie.Need-convex-requires invariant_loop decreases_loop
-convex_requires c κs = near_four _ _ _ c.four_of.ensures
-
 -- the test is of the points of the slice
-tested : (c : tie.After-convex invariant_loop decreases_loop) → let g = c.before.before.before in let a = (start g).args in
-    SameAs (c.convex.result ≡ true) (All TurnsLeft (corners_in a.points.now (corners_at a.quads.now g.loop.i)))
+tested : (c : tie.After-convex invariant_loop decreases_loop) → let g = c in let a = (start g.before.before.before).args in
+    SameAs (c.convex.result ≡ true) (All TurnsLeft (corners_in a.points.now (corners_at a.quads.now g.loop-i.i)))
 tested c =
-    let g = c.before.before.before in
-    let a = (start g).args in
-    let k = each_at a.points.now (corners_at a.quads.now g.loop.i) c.before.four_of.result c.before.four_of.ensures (λ u v. AboveZero (exact_cross u v)) in
+    let g = c in
+    let a = (start g.before.before.before).args in
+    let k = each_at a.points.now (corners_at a.quads.now g.loop-i.i) c.four_of-q.result c.four_of-q.ensures (λ u v. AboveZero (exact_cross u v)) in
     (λ e. k.0 (c.convex.ensures.0 e), λ h. c.convex.ensures.1 (k.1 h))
 
-returns : tie.Need-returns invariant_loop decreases_loop
+loop_holds : tie.Need-loop-i-init invariant_loop decreases_loop
+loop_holds c = (omega arith, λ k h. absurd (not-suc-le-zero h))
+
+four_of_requires : tie.Need-four_of-q-requires invariant_loop decreases_loop
+four_of_requires c κs =
+    let s = start c.before in
+    names_four s.requires.0 s.args.n s.args.points.now s.args.quads.now s.requires.1 c.loop-i.i c.loop-i-test.true
+
+convex_requires : tie.Need-convex-requires invariant_loop decreases_loop
+convex_requires c κs = near_four _ _ _ c.four_of-q.ensures
+
+returns : tie.Need-returns-then-not-convex invariant_loop decreases_loop
 returns c =
     λ m h j e.
-    let g = c.before.before.before.before in
-    let a = (start g).args in
+    let g = c in
+    let a = (start g.before.before.before.before).args in
     stops_here (is_convex j) (corners_at a.quads.now) (λ k. All TurnsLeft (corners_in a.points.now (corners_at a.quads.now k))) a.n
-    (convex_is m a.n a.points.now a.quads.now h j e) g.loop.i g.loop.invariant.0 g.loop.invariant.1 c.before.before.before.loop_test.true _ (tested c.before) (not-true _ c.if1.true)
+    (convex_is m a.n a.points.now a.quads.now h j e) g.loop-i.i g.loop-i.invariant.0 g.loop-i.invariant.1 c.loop-i-test.true _ (tested c.before) c.if-not-convex.true
 
-loop_again : tie.Need-loop-preserved invariant_loop decreases_loop
+loop_again : tie.Need-loop-i-preserved invariant_loop decreases_loop
 loop_again c =
-    let g = c.before.before.before.before in
-    (omega arith, below_more _ _ g.loop.invariant.1 ((tested c.before).0 (not-false _ c.if1.false)))
+    let g = c in
+    (omega arith, below_more _ _ g.loop-i.invariant.1 ((tested c.before).0 c.if-not-convex.false))
 
-returns_2 : tie.Need-returns-2 invariant_loop decreases_loop
+returns_2 : tie.Need-returns invariant_loop decreases_loop
 returns_2 c =
     λ m h j e.
-    let g = c.before in
-    let a = (start g).args in
+    let g = c in
+    let a = (start g.before).args in
     ends_here (is_convex j) (corners_at a.quads.now) (λ k. All TurnsLeft (corners_in a.points.now (corners_at a.quads.now k))) a.n
-    (convex_is m a.n a.points.now a.quads.now h j e) g.loop.i g.loop.invariant.0 g.loop.invariant.1 c.loop_test.false
+    (convex_is m a.n a.points.now a.quads.now h j e) g.loop-i.i g.loop-i.invariant.0 g.loop-i.invariant.1 c.loop-i-test.false
 
 pub first_folded_spec : {M : Type 1} → statement M
 first_folded_spec =

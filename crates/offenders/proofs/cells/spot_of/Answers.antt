@@ -1,0 +1,13 @@
+-- `offenders::cells::spot_of` meets its contract. Assumes nothing.
+use mathlib.Core.Path.{◌∙◌, ap}
+use lib.ListN.{get_or}
+use Rattle.definition.specs.Call.{point_at}
+use Rattle.plane.specs.Points.{ground}
+use Rattle.offenders.specs.Cells.{stands_for}
+use Rattle.offenders.proofs.cells.spot_of.Goals as goal
+
+pub returns : goal.returns
+returns c =
+    let s = c in
+    let ps = s.args.points.now in
+    stands_for ps (get_or s.args.cells.now s.args.k 0) _ (c.at.ensures ∙ ap (λ a. ground (point_at ps a)) c.wide.ensures) s.requires.near
