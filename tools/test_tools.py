@@ -884,7 +884,7 @@ class Running(unittest.TestCase):
         """What is not built is passed over with its name, and has failed where it was asked for."""
         status, said = self.run_test()
         self.assertEqual(status, 0)
-        self.assertIn('\n  program: target/bin/sedgepick is not there\n', said)
+        self.assertIn('\n  program: crates/sedgepick/out/sedgepick is not there\n', said)
         self.assertEqual([self.run_test(name)[0] for name in ('program', 'roots', 'bindings', 'python')], [1] * 4)
 
     def test_names(self):
