@@ -36,7 +36,7 @@ use plane::vectors::{Vec, from_to, norm};
 use rules::Quality;
 use side_candidates::blocks::box_walls;
 use side_candidates::inside::keep_walls;
-use side_candidates::sides::{ahead, in_view};
+use side_candidates::sides::{ahead, in_view_boxed};
 
 // Side nodes are looked for within the set's high factor and this many targets more.
 pub const SIDE_MARGIN: f64 = 0.8;
@@ -141,7 +141,7 @@ fn is_choice(
     if !ahead(aim.quality, aim.normal, d, aim.target) {
         return false;
     }
-    in_view(w, q, s, p, k, h, size, aim.end, aim.other, v)
+    in_view_boxed(w, q, s, p, k, h, size, aim.end, aim.other, v)
 }
 
 // The side nodes, all in the span g, ascending, come to b; how many they are.

@@ -184,6 +184,7 @@ with_trace l ws =
 -- no condition holds
 none_held : (xs : List (ℕ × Bool)) → find (λ c. c.1) xs ≡ none → (k : ℕ) (b : Bool) → In (k, b) xs → b ≡ false
 unfolding find
+none_held [] e k b i = elim i [ ]
 none_held ((j, true) ∷ ys) e k b i = no_some (j, true) (sym e)
 none_held ((j, false) ∷ ys) e k b (inl f) = ap (λ c. c.1) f
 none_held ((j, false) ∷ ys) e k b (inr i) = none_held ys e k b i

@@ -94,6 +94,8 @@ points_agree (p ∷ ps) (q ∷ qs) h k e =
 
 agree_points : (ps qs : List Node) → All Placed ps → All Placed qs → Agree ps qs → order_lists order_points ps qs ≡ Same
 unfolding order_lists order_points
+agree_points (p ∷ ps) [] h k a = elim a [ ]
+agree_points [] (q ∷ qs) h k a = elim a [ ]
 agree_points [] [] h k a = refl
 agree_points (p ∷ ps) (q ∷ qs) h k a =
     same_then (then (order_floats p.x q.x) (order_floats p.y q.y)) (order_lists order_points ps qs)
@@ -103,6 +105,8 @@ agree_points (p ∷ ps) (q ∷ qs) h k a =
     (agree_points ps qs h.1 k.1 a.1)
 
 agree_length : (ps qs : List Node) → Agree ps qs → length ps ≡ length qs
+agree_length (p ∷ ps) [] a = elim a [ ]
+agree_length [] (q ∷ qs) a = elim a [ ]
 agree_length [] [] a = refl
 agree_length (p ∷ ps) (q ∷ qs) a = ap suc (agree_length ps qs a.1)
 

@@ -167,6 +167,7 @@ module _ (m : Mesh) (ok : Valid m) (u : ℕ) where
 
   pairwise_part : (l : List ℕ) → In u l → Pairwise (λ e f. e ≢ f) (flat_map (front_at m) l) → Pairwise (λ e f. e ≢ f) (front_at m u)
   unfolding flat_map
+  pairwise_part [] x'' h = elim x'' [ ]
   pairwise_part (x ∷ l) (inl q) h = subst (λ (y : ℕ). Pairwise (λ (e f : Edge). e ≢ f) (front_at m y)) (sym q) (pairwise_left (front_at m x) (flat_map (front_at m) l) h)
   pairwise_part (x ∷ l) (inr i) h = pairwise_part l i (pairwise_right (front_at m x) (flat_map (front_at m) l) h)
 

@@ -29,10 +29,12 @@ unfolding contains
 in_contains vs v i = in_any (eqb v) vs (v, i, eq-eqb v v refl)
 
 pairs_in : (u v : ℕ) (vs : List ℕ) → In v vs → In (u, v) (pairs u vs)
+pairs_in u v [] x' = elim x' [ ]
 pairs_in u v (x ∷ vs) (inl e) = inl (ap (λ (z : ℕ). (u, z)) e)
 pairs_in u v (x ∷ vs) (inr i) = inr (pairs_in u v vs i)
 
 in_pairs : (u v : ℕ) (vs : List ℕ) → In (u, v) (pairs u vs) → In v vs
+in_pairs u v [] x' = elim x' [ ]
 in_pairs u v (x ∷ vs) (inl e) = inl (ap (λ (d : Edge). d.1) e)
 in_pairs u v (x ∷ vs) (inr i) = inr (in_pairs u v vs i)
 

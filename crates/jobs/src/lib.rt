@@ -2,10 +2,11 @@
 // The state is a value; each mesh has slices of its own.
 #![tactic(auto)]
 
+ghost use Rattle.definition.specs.Job.{job_limit, job};
 ghost use Rattle.refusals.specs.Stated.{asked};
 ghost use Rattle.allowances.specs.States.{job_of};
-ghost use Rattle.mesher.specs.Promise.{lent_of};
-ghost use Rattle.jobs.specs.Jobs.{PromisedMesh};
+ghost use Rattle.mesher.specs.Promise.{lent_of, KeptAccountWithin, KeptJoints, KeptArea};
+ghost use Rattle.jobs.specs.Jobs.{JobReturns};
 
 use allowances::{Job, bad_job, handed_on, limit_of};
 use mesher::Answer;
@@ -36,9 +37,27 @@ pub fn run_mesh(
     state: Job,
     stated: Stated,
 ) -> Mesh
-    ensures { PromisedMesh (job_of state) (asked stated)
-        (lent_of points.old triangles.now joints.now quads.old triangles_out.old components.old work.old float_work.old trace.old)
+    ensures job_returns { JobReturns
+        (job (job_of state)
+        (asked stated)
+        (lent_of points.old triangles.now joints.now quads.old triangles_out.old components.old work.old float_work.old trace.old))
         result
+        (lent_of points.new triangles.now joints.now quads.new triangles_out.new components.new work.new float_work.new trace.new) }
+    ensures kept_account_within { KeptAccountWithin
+        (job_limit (job_of state) (asked stated))
+        (asked stated)
+        (lent_of points.old triangles.now joints.now quads.old triangles_out.old components.old work.old float_work.old trace.old)
+        result.answer
+        (lent_of points.new triangles.now joints.now quads.new triangles_out.new components.new work.new float_work.new trace.new) }
+    ensures kept_joints { KeptJoints
+        (asked stated)
+        (lent_of points.old triangles.now joints.now quads.old triangles_out.old components.old work.old float_work.old trace.old)
+        result.answer
+        (lent_of points.new triangles.now joints.now quads.new triangles_out.new components.new work.new float_work.new trace.new) }
+    ensures kept_area { KeptArea
+        (asked stated)
+        (lent_of points.old triangles.now joints.now quads.old triangles_out.old components.old work.old float_work.old trace.old)
+        result.answer
         (lent_of points.new triangles.now joints.now quads.new triangles_out.new components.new work.new float_work.new trace.new) }
 {
     if bad_job(state) {

@@ -2,10 +2,10 @@
 -- with the numbers of a finished run in a slice of their own.
 use Rattle.std.specs.Prelude.{◌≡◌, cond, List, ℕ, ◌<◌, ◌≤◌, eqb, length, Float}
 use Rattle.definition.specs.Numbers.{Quality}
-use Rattle.definition.specs.Call.{Asked, Lent, onto}
+use Rattle.definition.specs.Call.{Asked, Lent, call, onto}
 use Rattle.refusals.specs.Refusals.{first_refusal}
 use Rattle.mesher.specs.declared.Answer.{Answer}
-use Rattle.mesher.specs.Promise.{Promised}
+use Rattle.mesher.specs.Promise.{Returns, KeptAccount, KeptJoints, KeptArea}
 use Rattle.answer_numbers.specs.Runs.{numbers, up_to_4}
 
 -- a quality set by its five numbers
@@ -21,7 +21,10 @@ handed r old = cond (eqb r.refusal 0) (onto (numbers r) old) old
 -- With room for the numbers: r is all that the definition's call answers,
 -- k is its number, and the slice has its numbers.
 pub record Roomy (a : Asked) (l : Lent) (old : List ℕ) (k : ℕ) (new : List ℕ) (exit : Lent) (r : Answer) : Type 0 where
-  pub promised : Promised a l r exit
+  pub returns : Returns (call a l) r exit
+  pub keeps : KeptAccount a l r exit
+  pub joints : KeptJoints a l r exit
+  pub area : KeptArea a l r exit
   pub number : k ≡ r.refusal
   pub answer : new ≡ handed r old
 

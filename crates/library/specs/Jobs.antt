@@ -2,9 +2,10 @@
 -- with the state in a slice of its own and the attempts charged behind it.
 use Rattle.std.specs.Prelude.{◌≡◌, true, false, List, [], ◌∷◌, ℕ, ◌<◌, ◌≤◌, length}
 use Rattle.definition.specs.Call.{Asked, Lent, onto}
-use Rattle.definition.specs.Job.{bad_job}
+use Rattle.definition.specs.Job.{bad_job, job_limit, job}
+use Rattle.mesher.specs.Promise.{KeptAccountWithin, KeptJoints, KeptArea}
 use Rattle.jobs.specs.declared.Mesh.{Mesh}
-use Rattle.jobs.specs.Jobs.{PromisedMesh}
+use Rattle.jobs.specs.Jobs.{JobReturns}
 use Rattle.answer_numbers.specs.Jobs.{state_in}
 use Rattle.library.specs.Exported.{handed}
 
@@ -15,7 +16,10 @@ job_numbers m = m.next.meshes ∷ m.next.allowance ∷ m.next.done ∷ m.next.le
 -- A mesh that is run or refused as a call is: m is all that the definition's job answers, k is its number,
 -- and the slices have its numbers.
 pub record Meshed (a : Asked) (l : Lent) (js old : List ℕ) (k : ℕ) (ks new : List ℕ) (exit : Lent) (m : Mesh) : Type 0 where
-  pub promised : PromisedMesh (state_in js) a l m exit
+  pub returns : JobReturns (job (state_in js) a l) m exit
+  pub keeps : KeptAccountWithin (job_limit (state_in js) a) a l m.answer exit
+  pub joints : KeptJoints a l m.answer exit
+  pub area : KeptArea a l m.answer exit
   pub number : k ≡ m.answer.refusal
   pub state : ks ≡ onto (job_numbers m) js
   pub answer : new ≡ handed m.answer old

@@ -30,11 +30,13 @@ use Rattle.live_regions.proofs.Steps.{tri_top}
 
 listed_has : (x : Live) (l : List Live) → Has x l → listed x.slot l ≡ true
 unfolding any in_slot
+listed_has x [] x'' = elim x'' [ ]
 listed_has x (y ∷ l) here = rw (eq-eqb x.slot x.slot refl)
 listed_has x (y ∷ l) (there h) = rw (listed_has x l h) (or-true (eqb x.slot y.slot))
 
 filter_has : (f : Live → Bool) (x : Live) (l : List Live) → f x ≡ true → Has x l → Has x (filter f l)
 unfolding filter
+filter_has f x [] e x3 = elim x3 [ ]
 filter_has f x (y ∷ l) e here = rw (filter_yes f x l e) here
 filter_has f x (y ∷ l) e (there h) = go (f y) refl (filter_has f x l e h)
   where

@@ -12,7 +12,7 @@ ghost use Rattle.live_regions.specs.Squares.{Tell};
 ghost use Rattle.live_regions.specs.Visit.{out_after, stack_after};
 
 use crate::reach::{Squares, square, telling};
-use crate::stack::{empty, list_one, push_around, push_one, take, top};
+use crate::stack::{empty, list_one, push_around_either, push_one, take, top};
 use cells::find::node;
 use plane::points::{Spot, at};
 use plane::vectors::{between, norm};
@@ -94,7 +94,7 @@ fn step(
 {
     let b = take(w, s, p, i);
     if is_near(w, q, s, p, i, x, y, r, t) {
-        let f = push_around(w, s, p, i, b, n >= MANY);
+        let f = push_around_either(w, s, p, i, b, n >= MANY);
         list_one(w, s, p, n, i, f);
         return n + 1;
     }

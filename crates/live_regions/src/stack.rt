@@ -240,8 +240,15 @@ fn counted(shared: bool, k: u32) -> u32
     k
 }
 
-// The owners of the edges of the triangle x in slot i are pushed, edge after edge, unless its mark n told that they were; the mark that tells its walls.
-pub fn push_around(w: &mut [u32], s: usize, p: usize, i: usize, n: u32, many: bool) -> u32
+// Like `push_around`, around the better end of each edge, which is looked for where `many` triangles are in reach.
+pub fn push_around_either(
+    w: &mut [u32],
+    s: usize,
+    p: usize,
+    i: usize,
+    n: u32,
+    many: bool,
+) -> u32
     requires can_push_all { (m : Mesh) × (out : List Live) × (seen : List Live) × (st : List Live) × (t : TriIn m i) × CanPushAll w.old s p i n m out seen st t.t }
     requires i_lt_s { i < s }
     ensures { (m : Mesh) (out seen st : List Live) (x : Live) (t : TriIn m i) → CanPushAll w.old s p i n m out seen st t.t → x ≡ new_live i (tri t.t) → AroundTo w.old w.new s p result m out seen st x }
@@ -253,6 +260,15 @@ pub fn push_around(w: &mut [u32], s: usize, p: usize, i: usize, n: u32, many: bo
     let b = counted(push_new(w, s, p, i, y, z, n / 2 % 2, many), 2);
     let c = counted(push_new(w, s, p, i, z, x, n / 4 % 2, many), 4);
     8 + a + b + c
+}
+
+// The owners of the edges of the triangle x in slot i are pushed, edge after edge, unless its mark n told that they were; the mark that tells its walls.
+pub fn push_around(w: &mut [u32], s: usize, p: usize, i: usize, n: u32) -> u32
+    requires can_push_all { (m : Mesh) × (out : List Live) × (seen : List Live) × (st : List Live) × (t : TriIn m i) × CanPushAll w.old s p i n m out seen st t.t }
+    requires i_lt_s { i < s }
+    ensures { (m : Mesh) (out seen st : List Live) (x : Live) (t : TriIn m i) → CanPushAll w.old s p i n m out seen st t.t → x ≡ new_live i (tri t.t) → AroundTo w.old w.new s p result m out seen st x }
+{
+    push_around_either(w, s, p, i, n, false)
 }
 
 // The slot on top of the stack; s: there is none.

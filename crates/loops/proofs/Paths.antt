@@ -64,6 +64,7 @@ unfolding without_edge has_edge_in
 without_it e left = fails _ (λ t. let r = any_in (same_edge e) (without_edge e left) t in never _ r.2 (not-true (same_edge e r.0) (in_filter (λ f. not (same_edge e f)) left r.1).1))
 
 without_less : (e : Edge) (left : List Edge) → In e left → suc (length (without_edge e left)) ≤ length left
+without_less e [] x' = elim x' [ ]
 without_less e (f ∷ l) (inl q) = let z : length (without_edge e (f ∷ l)) ≡ length (without_edge e l) = ap length (drop_it e f l (ap (same_edge e) (sym q) ∙ same_self e)) in omega (arith, z, without_few e l)
 without_less e (f ∷ l) (inr i) = elim (which (same_edge e f)) [
   | inl h ↦ let z : length (without_edge e (f ∷ l)) ≡ length (without_edge e l) = ap length (drop_it e f l h) in omega (arith, z, without_few e l)
@@ -71,6 +72,7 @@ without_less e (f ∷ l) (inr i) = elim (which (same_edge e f)) [
 ]
 
 edge_fits : (n : ℕ) (l : List Edge) (e : Edge) → Edges n l → In e l → (e.0 < e.1) × (e.1 < n)
+edge_fits n [] e h x'' = elim x'' [ ]
 edge_fits n (f ∷ l) e h (inl q) = subst (λ (z : Edge). (z.0 < z.1) × (z.1 < n)) (sym q) (h.0, h.1)
 edge_fits n (f ∷ l) e h (inr i) = edge_fits n l e h.3 i
 

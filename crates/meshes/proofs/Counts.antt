@@ -28,6 +28,7 @@ out_without i [] o = refl
 out_without i (x ∷ l) o = slot_miss i x l o.0 ∙ ap (λ (k : List Live). x ∷ k) (out_without i l o.1)
 
 tris_without : (l : List Live) (x : Live) → Distinct (slots l) → Has x l → length (filter live_tri (without x.slot l)) + one_if (live_tri x) ≡ length (filter live_tri l)
+tris_without [] x d x4 = elim x4 [ ]
 tris_without (y ∷ l) x d here =
     let e : without x.slot (x ∷ l) ≡ l = slot_hit x.slot x l refl ∙ out_without x.slot l d.0 in
     rw e (omega (arith, tri_more x l))
@@ -36,6 +37,7 @@ tris_without (y ∷ l) x d (there h) =
     rw (slot_miss x.slot y l n) (omega (arith, tri_more y (without x.slot l), tri_more y l, tris_without l x d.1 h))
   where
     out_slot : (i : ℕ) (k : List Live) → Out i (slots k) → Has x k → x.slot ≢ i
+    out_slot i [] o x7 = elim x7 [ ]
     out_slot i (z ∷ k) o here = o.0
     out_slot i (z ∷ k) o (there g) = out_slot i k o.1 g
 

@@ -16,6 +16,7 @@ slots_of [] h = tt
 slots_of (x ∷ l) h = (λ y i. out l h.0 y i, slots_of l h.1)
   where
     out : (k : List Live) → rings.Out x.slot (slots k) → (y : Live) → In y k → x.slot ≢ y.slot
+    out [] o y x5 q = elim x5 [ ]
     out (z ∷ k) o y (inl e) q = o.0 (sym (ap (λ (t : Live). t.slot) e) ∙ sym q)
     out (z ∷ k) o y (inr i) q = out k o.1 y i q
 

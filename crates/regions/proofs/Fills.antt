@@ -194,7 +194,7 @@ agrees_is q m a b c d f xs area ea expected ee sum es off eo most em =
 -- ---- the region
 
 module _ (w w' : List ℕ) (s p n seed : ℕ) (m : Mesh) (a b c d : ℕ) (r : Rep w s p m) (t : TriIn m seed) where
-  abbrev flooded : Option (List Live)
+  abbrev pub flooded : Option (List Live)
   flooded = flood m.used m (quad_edges (new_quad a b c d)) [] (tri_live seed t.t ∷ [])
 
   region_is : region m seed (new_quad a b c d) ≡ if_filled m (new_quad a b c d) flooded

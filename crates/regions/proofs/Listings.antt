@@ -66,6 +66,7 @@ tris_snoc [] x h t = (t, tt)
 tris_snoc (y ∷ l) x h t = (h.0, tris_snoc l x h.1 t)
 
 pub has_snoc : (P : Live → Type 0) (l : List Live) (x : Live) → ((y : Live) → Has y l → P y) → P x → (y : Live) → Has y (l ++ x ∷ []) → P y
+has_snoc P [] x f k y (there h) = elim h [ ]
 has_snoc P [] x f k y here = k
 has_snoc P (z ∷ l) x f k y here = f z here
 has_snoc P (z ∷ l) x f k y (there h) = has_snoc P l x (λ v e. f v (there e)) k y h

@@ -64,6 +64,7 @@ module _ (w₀ w : List ℕ) (s p n i : ℕ) (l : i < s) (r : CanMark w₀ s p n
       go k q (differ e) = rw (ne_eqb k i e) (other (marks_at s p + k) (λ z. omega (arith, q, r.few)) (λ z. e (omega arith)) ∙ h.marks k q)
 
       only : (m : Mesh) (t : TriIn m i) (x : Live) → Has x (tri_live i t.t ∷ []) → Has x m.live
+      only m t x (Rattle.cells.specs.Rep.there x4) = elim x4 [ ]
       only m t x here = t.has
 
       alone : (m : Mesh) → Rep w₀ s p m → m.used ≡ n → (t : TriIn m i) → State w' s p 1 m (tri_live i t.t ∷ [])

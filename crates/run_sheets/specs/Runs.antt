@@ -20,7 +20,7 @@ use Rattle.laws.specs.Cells.{points_length}
 use Rattle.laws.specs.Slices.{quads_length}
 use Rattle.refusals.specs.Refusals.{first_refusal, passed, call_runs, call_refused}
 use Rattle.mesher.specs.declared.Answer.{Answer}
-use Rattle.mesher.specs.Promise.{number_of, lengths_in, Returns, KeptAccountWithin, Promised}
+use Rattle.mesher.specs.Promise.{number_of, lengths_in, Returns, KeptAccountWithin, KeptAccount}
 use Rattle.sheet_steps.specs.Values.{worst_in}
 use Rattle.sheet.specs.declared.answers.Sheet.{Sheet}
 use Rattle.sheet.specs.Promise as filing
@@ -117,6 +117,6 @@ module _ (most : ℕ) (a : Asked) (l exit : Lent) (r : Answer) (run : FinishedRu
       }
 
 -- A call of `run_front` that came back without a refusal is such a run, by its contract.
-pub run_finished : (a : Asked) (l exit : Lent) (r : Answer) → Promised a l r exit → r.refusal ≡ 0 → FinishedRun (max_attempts a.count) a l r exit
+pub run_finished : (a : Asked) (l exit : Lent) (r : Answer) → Returns (call a l) r exit → KeptAccount a l r exit → r.refusal ≡ 0 → FinishedRun (max_attempts a.count) a l r exit
 unfolding call
-run_finished a l exit r p e = record { returns = p.returns; keeps = p.account; no_refusal = e }
+run_finished a l exit r h k e = record { returns = h; keeps = k; no_refusal = e }

@@ -69,6 +69,16 @@ more true M E true N F true K G P L Q R h e f = omega (arith, mul-le-mul_right (
 
 add_le : (x y a : Float) → T (le x y) → Real (add binary64 x a) → Real (add binary64 y a) → T (le (add binary64 x a) (add binary64 y a))
 unfolding le add is_nan
+add_le (fin s m e) (fin t n d) nan h i j = elim i [ ]
+add_le (fin s m e) (inf true) (fin u k g) h i j = elim h [ ]
+add_le (fin s m e) (inf t) nan h i j = elim i [ ]
+add_le (fin s m e) nan a h i j = elim h [ ]
+add_le (inf false) (fin t n d) (fin u k g) h i j = elim h [ ]
+add_le (inf false) (inf true) (fin u k g) h i j = elim h [ ]
+add_le (inf false) nan (fin u k g) h i j = elim h [ ]
+add_le (inf s) nan (inf u) h i j = elim h [ ]
+add_le (inf s) y nan h i j = elim i [ ]
+add_le nan y a h i j = elim h [ ]
 add_le (inf s) (inf t) (inf u) h i j = go s t u i j
   where
     go : (s t u : Bool) → Real (add binary64 (inf s) (inf u)) → Real (add binary64 (inf t) (inf u)) → T (le (add binary64 (inf s) (inf u)) (add binary64 (inf t) (inf u)))
@@ -170,11 +180,17 @@ signs false m e true n d p h = absurd (omega (arith, le→at_most false m e true
 turned : (s t : Bool) → T (le (inf s) (inf t)) → T (le (inf (not t)) (inf (not s)))
 unfolding le
 turned true true h = tt
+turned false true h = elim h [ ]
 turned true false h = tt
 turned false false h = tt
 
 keeps_fin : (m : ℕ) (e : ℤ) → Keeps (fin false m e)
 unfolding ◌⊗◌ mul is_nan le
+keeps_fin m e (fin s n d) (inf true) h i j = elim h [ ]
+keeps_fin m e (fin s n d) nan h i j = elim h [ ]
+keeps_fin m e (inf false) (fin t n d) h i j = elim h [ ]
+keeps_fin m e (inf s) nan h i j = elim h [ ]
+keeps_fin m e nan y h i j = elim h [ ]
 keeps_fin m e (inf s) (inf t) h i j = rw (picked (eqb m 0) (inf (unlike false s)) i, like_false s, like_false t) h
 keeps_fin m e (inf true) (fin t n d) h i j = rw (picked (eqb m 0) (inf true) i) (lowest (round binary64 (unlike false t) (m * up e * (n * up d)) (down e * down d)) j)
 keeps_fin m e (fin s n d) (inf false) h i j = rw (picked (eqb m 0) (inf false) j) (highest (round binary64 (unlike false s) (m * up e * (n * up d)) (down e * down d)) i)
@@ -185,6 +201,11 @@ keeps_fin m e (fin s n d) (fin t k g) h i j =
 
 turns_fin : (m : ℕ) (e : ℤ) → Turns (fin true m e)
 unfolding ◌⊗◌ mul is_nan le
+turns_fin m e (fin s n d) (inf true) h i j = elim h [ ]
+turns_fin m e (fin s n d) nan h i j = elim h [ ]
+turns_fin m e (inf false) (fin t n d) h i j = elim h [ ]
+turns_fin m e (inf s) nan h i j = elim h [ ]
+turns_fin m e nan y h i j = elim h [ ]
 turns_fin m e (inf s) (inf t) h i j = rw (picked (eqb m 0) (inf (unlike true s)) i, like_true s, like_true t) (turned s t h)
 turns_fin m e (inf true) (fin t n d) h i j = rw (picked (eqb m 0) (inf false) i) (highest (round binary64 (unlike true t) (m * up e * (n * up d)) (down e * down d)) j)
 turns_fin m e (fin s n d) (inf false) h i j = rw (picked (eqb m 0) (inf true) j) (lowest (round binary64 (unlike true s) (m * up e * (n * up d)) (down e * down d)) i)
@@ -195,6 +216,11 @@ turns_fin m e (fin s n d) (fin t k g) h i j =
 
 keeps_inf : Keeps (inf false)
 unfolding ◌⊗◌ mul is_nan le
+keeps_inf (fin s n d) (inf true) h i j = elim h [ ]
+keeps_inf (fin s n d) nan h i j = elim h [ ]
+keeps_inf (inf false) (fin t n d) h i j = elim h [ ]
+keeps_inf (inf s) nan h i j = elim h [ ]
+keeps_inf nan y h i j = elim h [ ]
 keeps_inf (inf s) (inf t) h i j = rw (like_false s, like_false t) h
 keeps_inf (inf true) (fin t n d) h i j = rw (picked (eqb n 0) (inf (unlike false t)) j) (lowest (inf (unlike false t)) tt)
 keeps_inf (fin s n d) (inf false) h i j = rw (picked (eqb n 0) (inf (unlike false s)) i) (highest (inf (unlike false s)) tt)
@@ -205,6 +231,11 @@ keeps_inf (fin s n d) (fin t k g) h i j =
 
 turns_inf : Turns (inf true)
 unfolding ◌⊗◌ mul is_nan le
+turns_inf (fin s n d) (inf true) h i j = elim h [ ]
+turns_inf (fin s n d) nan h i j = elim h [ ]
+turns_inf (inf false) (fin t n d) h i j = elim h [ ]
+turns_inf (inf s) nan h i j = elim h [ ]
+turns_inf nan y h i j = elim h [ ]
 turns_inf (inf s) (inf t) h i j = rw (like_true s, like_true t) (turned s t h)
 turns_inf (inf true) (fin t n d) h i j = rw (picked (eqb n 0) (inf (unlike true t)) j) (highest (inf (unlike true t)) tt)
 turns_inf (fin s n d) (inf false) h i j = rw (picked (eqb n 0) (inf (unlike true s)) i) (lowest (inf (unlike true s)) tt)
@@ -342,6 +373,13 @@ numerator_down s a true b P L h e = omega arith
 
 not_under_sub : (x y : Float) → T (le y x) → T (lt (x ⊖ y) 0·0) → ⊥
 unfolding le lt ◌⊖◌ sub add neg
+not_under_sub (fin s m e) (inf false) h l = elim h [ ]
+not_under_sub (fin s m e) nan h l = elim h [ ]
+not_under_sub (inf true) (fin t n d) h l = elim h [ ]
+not_under_sub (inf true) (inf false) h l = elim h [ ]
+not_under_sub (inf true) nan h l = elim h [ ]
+not_under_sub (inf false) nan h l = elim h [ ]
+not_under_sub nan y h l = elim l [ ]
 not_under_sub (inf false) (inf false) h l = l
 not_under_sub (inf false) (inf true) h l = not_above_high l
 not_under_sub (inf true) (inf true) h l = l
@@ -355,6 +393,13 @@ not_under_sub (fin s m e) (fin t n d) h l =
 
 not_over_sub : (x y : Float) → T (le x y) → T (lt 0·0 (x ⊖ y)) → ⊥
 unfolding le lt ◌⊖◌ sub add neg
+not_over_sub (fin s m e) (inf true) h l = elim h [ ]
+not_over_sub (fin s m e) nan h l = elim h [ ]
+not_over_sub (inf true) nan h l = elim h [ ]
+not_over_sub (inf false) (fin t n d) h l = elim h [ ]
+not_over_sub (inf false) (inf true) h l = elim h [ ]
+not_over_sub (inf false) nan h l = elim h [ ]
+not_over_sub nan y h l = elim h [ ]
 not_over_sub (inf false) (inf false) h l = not_below_nan 0·0 l
 not_over_sub (inf true) (inf false) h l = not_below_low l
 not_over_sub (inf true) (inf true) h l = not_below_nan 0·0 l

@@ -179,6 +179,22 @@ pub fn segment_inside(
     s: usize,
     p: usize,
     n: usize,
+    a: usize,
+    b: usize,
+) -> bool
+    requires { (m : Mesh) × (region : List Live) × InHand w.now q.now s p n m region × Ends m a b }
+    ensures { (m : Mesh) (region : List Live) → InHand w.now q.now s p n m region → Ends m a b → result ≡ segment_inside m a b (walls m region) }
+{
+    cells_open(w, q, s, p, n, 0, n, a, b)
+}
+
+// Like `segment_inside`, for a region in blocks with boxes; no box is tried where it has fewer triangles than a block.
+pub fn segment_inside_boxed(
+    w: &[u32],
+    q: &[f64],
+    s: usize,
+    p: usize,
+    n: usize,
     h: &[f64],
     size: usize,
     a: usize,
@@ -188,7 +204,7 @@ pub fn segment_inside(
     ensures { (m : Mesh) (region : List Live) → Fence w.now q.now s p n h.now size m region → Ends m a b → result ≡ segment_inside m a b (walls m region) }
 {
     if n < size {
-        return cells_open(w, q, s, p, n, 0, n, a, b);
+        return segment_inside(w, q, s, p, n, a, b);
     }
     blocks_open(w, q, s, p, n, h, size, a, b)
 }

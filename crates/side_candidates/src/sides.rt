@@ -5,10 +5,10 @@ ghost use Rattle.definition.specs.Cells.{Live, Mesh, has_node};
 ghost use Rattle.definition.specs.Candidates.{ahead};
 ghost use Rattle.plane.specs.Vectors.{vec};
 ghost use Rattle.rules.specs.Settings.{quality_of};
-ghost use Rattle.side_candidates.specs.Hand.{fenced, Ends, in_view};
+ghost use Rattle.side_candidates.specs.Hand.{InHand, fenced, Ends, in_view};
 ghost use Rattle.side_candidates.specs.Blocks.{Fence};
 
-use crate::inside::segment_inside;
+use crate::inside::{segment_inside, segment_inside_boxed};
 use plane::floats::abs;
 use plane::vectors::{Vec, dot, norm};
 use rules::Quality;
@@ -45,6 +45,29 @@ pub fn in_view(
     s: usize,
     p: usize,
     k: usize,
+    a: usize,
+    other: usize,
+    v: usize,
+) -> bool
+    requires { (m : Mesh) × (region : List Live) × InHand w.now q.now s p k m (filter (fenced m) region) × Ends m a v }
+    ensures { (m : Mesh) (region : List Live) → InHand w.now q.now s p k m (filter (fenced m) region) → Ends m a v → any (has_node v) region ≡ true → result ≡ in_view m a other region v }
+{
+    if v == a {
+        return false;
+    }
+    if v == other {
+        return false;
+    }
+    segment_inside(w, q, s, p, k, a, v)
+}
+
+// Like `in_view`, for triangles in blocks with boxes.
+pub fn in_view_boxed(
+    w: &[u32],
+    q: &[f64],
+    s: usize,
+    p: usize,
+    k: usize,
     h: &[f64],
     size: usize,
     a: usize,
@@ -60,5 +83,5 @@ pub fn in_view(
     if v == other {
         return false;
     }
-    segment_inside(w, q, s, p, k, h, size, a, v)
+    segment_inside_boxed(w, q, s, p, k, h, size, a, v)
 }

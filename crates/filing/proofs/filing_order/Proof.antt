@@ -9,57 +9,44 @@ use Rattle.filing.proofs.Files.{cleared}
 use Rattle.filing.proofs.filing_order.Statement.{statement}
 use Rattle.filing.proofs.filing_order.Tie as tie
 
-abbrev start : tie.After-refusal2 → tie.Start
-start c = c.before.before.before.before.before.before.before.before.before.before
+abbrev start : tie.After-refusal-second → tie.Start
+start c = c.before.before.before.before.before.before.before.before
 
-abbrev first_mesh : tie.After-refusal2 → Mesh
+abbrev first_mesh : tie.After-refusal-second → Mesh
 first_mesh c = let a = (start c).args in mesh a.first_given a.first_count a.first_points.now a.first_triangles.now a.first_work.now
 
-abbrev second_mesh : tie.After-refusal2 → Mesh
+abbrev second_mesh : tie.After-refusal-second → Mesh
 second_mesh c = let a = (start c).args in mesh a.second_given a.second_count a.second_points.now a.second_triangles.now a.second_work.now
 
-passed_first : (c : tie.Else1) → number_of (refused (first_mesh c.before)) ≡ 0
-passed_first c = sym c.before.before.before.refusal.ensures ∙ c.if1.false
+passed_first : (c : tie.Else-first-ne0) → number_of (refused (first_mesh c.before)) ≡ 0
+passed_first c = sym c.refusal-first.ensures ∙ c.if-first-ne0.false
 
-passed_second : (c : tie.Else2) → number_of (refused (second_mesh c.before.before)) ≡ 0
-passed_second c = sym c.before.before.refusal2.ensures ∙ c.if2.false
+passed_second : (c : tie.Else-second-ne0) → number_of (refused (second_mesh c.before.before)) ≡ 0
+passed_second c = sym c.refusal-second.ensures ∙ c.if-second-ne0.false
 
-returns : tie.Need-returns
-returns c = first_refused _ _ _ c.before.before.before.refusal.ensures c.if1.true
+returns : tie.Need-returns-then-first-ne0
+returns c = first_refused _ _ _ c.refusal-first.ensures c.if-first-ne0.true
 
-returns_2 : tie.Need-returns-2
-returns_2 c = second_refused _ _ (passed_first c.before) _ c.before.before.refusal2.ensures c.if2.true
+returns_2 : tie.Need-returns-then-second-ne0
+returns_2 c = second_refused _ _ (passed_first c.before) _ c.refusal-second.ensures c.if-second-ne0.true
 
-order_meshes_requires : tie.Need-order-meshes-requires
-order_meshes_requires c κs = let p = c.before.before in (readable _ (passed_first p.before), readable _ (passed_second p))
+order_meshes_requires : tie.Need-order_meshes-order-requires
+order_meshes_requires c κs = let p = c in (readable _ (passed_first p.before.before.before), readable _ (passed_second p.before.before))
 
-returns_3 : tie.Need-returns-3
+returns_3 : tie.Need-returns
 unfolding filed input
 returns_3 c =
-    let second = c.before.before in
-    let first = second.before.before.before.before in
-    let o = first.before.before.before.before.before.before in
-    let p = o.before.before.before in
-    let e = o.order_meshes.ensures.order in
-    let v = first.clear_words.ensures ∙ cleared _ _ o.order_meshes.ensures.first in
-    let w = second.clear_words2.ensures ∙ cleared _ _ o.order_meshes.ensures.second in
-    (λ i. returned (Filed (e i)) (v i) (w i)) ∙ sym (both_filed _ _ (passed_first p.before) (passed_second p))
+    let second = c in
+    let first = second in
+    let o = first in
+    let p = o in
+    let e = o.order_meshes-order.ensures.order in
+    let v = first.clear_words.ensures ∙ cleared _ _ o.order_meshes-order.ensures.first in
+    let w = second.clear_words-2.ensures ∙ cleared _ _ o.order_meshes-order.ensures.second in
+    (λ i. returned (Filed (e i)) (v i) (w i)) ∙ sym (both_filed _ _ (passed_first p.before.before.before.before.before.before.before.before.before.before.before.before.before.before.before.before) (passed_second p.before.before.before.before.before.before.before.before.before.before.before.before.before.before.before))
 
 pub filing_order_spec : {M : Type 1} → statement M
 filing_order_spec =
     tie.close
     (tie.spec
-    (λ c κs. search rules)
-    (λ c κs. search rules)
-    (λ c. search rules)
-    (λ c. search rules)
-    returns
-    (λ c. search rules)
-    (λ c. search rules)
-    returns_2
-    order_meshes_requires
-    (λ c κs. search rules)
-    (λ c κs. search rules)
-    (λ c. search rules)
-    (λ c. search rules)
-    returns_3)
+    (λ c κs. search rules) (λ c κs. search rules) (λ c. search rules) (λ c. search rules) returns (λ c. search rules) (λ c. search rules) returns_2 order_meshes_requires (λ c κs. search rules) (λ c κs. search rules) (λ c. search rules) (λ c. search rules) returns_3)

@@ -5,8 +5,8 @@ use Rattle.refusals.proofs.ranges.Goals as goal
 
 pub returns-then-low-c : goal.returns-then-low-c
 unfolding ranges ◌≼◌
-returns-then-low-c c = rw c.if-low-c.taken
+returns-then-low-c c = rw c.if-low-c.true
 
 pub returns : goal.returns
 unfolding ranges ◌≼◌
-returns c = rw c.if-low-c.left
+returns c = rw c.if-low-c.false

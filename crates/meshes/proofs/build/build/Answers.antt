@@ -78,8 +78,8 @@ loop-i-preserved c =
     let x = c.loop-i in
     let q = c.push_tri in (
       omega (arith, c.loop-i-test.true),
-      keeps_trans _ x.w q.new.0 (mesh_end a.s a.p) x.invariant.1 q.ensures.keeps,
-      build_more a.w.now a.s a.p a.triangles.now a.n a.g x.i c.wide-a.result c.wide-b.result c.wide-c.result t.requires c.loop-i-test.true c.wide-a.ensures c.wide-b.ensures c.wide-c.ensures x.w q.new.0 x.invariant.2 q.ensures,
+      keeps_trans _ x.w q.new.w (mesh_end a.s a.p) x.invariant.1 q.ensures.keeps,
+      build_more a.w.now a.s a.p a.triangles.now a.n a.g x.i c.wide-a.result c.wide-b.result c.wide-c.result t.requires c.loop-i-test.true c.wide-a.ensures c.wide-b.ensures c.wide-c.ensures x.w q.new.w x.invariant.2 q.ensures,
     )
 
 pub shape_of-w : goal.shape_of-w

@@ -14,4 +14,4 @@ returns c =
     let t = z in
     let a = t.args in
     empty_done a.w.now z.clear_first.new.w y.clear_range.new.w x.clear_range-2.new.w o.open.new.w a.s a.p n.notes_at.result b.even_at.result
-    n.notes_at.ensures b.even_at.ensures t.requires z.clear_first.ensures y.clear_range.ensures x.clear_range-2.ensures o.open.ensures
+    n.notes_at.ensures b.even_at.ensures t.requires z.clear_first.ensures (y.clear_range.ensures.only, y.clear_range.ensures.by_index) (x.clear_range-2.ensures.only, x.clear_range-2.ensures.by_index) o.open.ensures

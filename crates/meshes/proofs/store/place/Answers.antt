@@ -11,8 +11,8 @@ link-requires c =
     let a = t.args in
     let f = t.requires in
     let g = c.forget in
-    let h = forget_filling a.w.now g.new.0 a.s a.p f.n a.i a.a f.m f.ns (omega (arith, f.many, f.few)) g.ensures f.is in
-    place_can g.new.0 a.s a.p f.n a.i a.k a.a f.m f.ns h f.many f.few f.node
+    let h = forget_filling a.w.now g.new.w a.s a.p f.n a.i a.a f.m f.ns (omega (arith, f.many, f.few)) g.ensures f.is in
+    place_can g.new.w a.s a.p f.n a.i a.k a.a f.m f.ns h f.many f.few f.node
 
 pub shape_of-w : goal.shape_of-w
 shape_of-w c =
@@ -27,8 +27,8 @@ returns c =
     let e = fronts_at a.s a.p in
     record {
       is = λ n m ns f z.
-          let h = forget_filling a.w.now g.new.0 a.s a.p n a.i a.a m ns (omega (arith, z, t.requires.few)) g.ensures f in
-          place_done g.new.0 a.s a.p n a.i a.k a.a m ns h z t.requires.few t.requires.node q.new.0 q.ensures g.ensures.none;
-      keeps = keeps_trans a.w.now g.new.0 q.new.0 e g.ensures.keeps
-          (place_keeps g.new.0 q.new.0 a.s a.p a.i a.k a.a t.requires.is.inside t.requires.few q.ensures);
+          let h = forget_filling a.w.now g.new.w a.s a.p n a.i a.a m ns (omega (arith, z, t.requires.few)) g.ensures f in
+          place_done g.new.w a.s a.p n a.i a.k a.a m ns h z t.requires.few t.requires.node q.new.w q.ensures g.ensures.none;
+      keeps = keeps_trans a.w.now g.new.w q.new.w e g.ensures.keeps
+          (place_keeps g.new.w q.new.w a.s a.p a.i a.k a.a t.requires.is.inside t.requires.few q.ensures);
     }

@@ -19,15 +19,15 @@ put_tri-requires c =
     let cell = tri_of_nodes a.a a.b a.c in
     let g = c.forget_even in
     let one : 1 ≤ a.s = omega (arith, t.requires.2.free) in
-    let r = forgotten_rep a.w.now g.new.0 a.s a.p one g.ensures t.requires.0 t.requires.1 in
-    record { by_index = (t.requires.0, suc a.i, r, push_put g.new.0 a.s a.p a.i t.requires.0 cell r t.requires.2); uneven = forgotten_none a.w.now g.new.0 a.s a.p one g.ensures t.requires.1.room }
+    let r = forgotten_rep a.w.now g.new.w a.s a.p one g.ensures t.requires.0 t.requires.1 in
+    record { by_index = (t.requires.0, suc a.i, r, push_put g.new.w a.s a.p a.i t.requires.0 cell r t.requires.2); uneven = forgotten_none a.w.now g.new.w a.s a.p one g.ensures t.requires.1.room }
 
 pub shape_of-w : goal.shape_of-w
 shape_of-w c =
     let t = c in
     let a = t.args in
     let g = c.forget_even in
-    c.put_tri.ensures.keeps.len ∙ forgotten_length a.w.now g.new.0 a.s a.p (omega (arith, t.requires.2.free)) g.ensures
+    c.put_tri.ensures.keeps.len ∙ forgotten_length a.w.now g.new.w a.s a.p (omega (arith, t.requires.2.free)) g.ensures
 
 pub returns : goal.returns
 returns c =
@@ -39,7 +39,7 @@ returns c =
     let one : 1 ≤ a.s = omega (arith, t.requires.2.free) in
     record {
       rep = λ m r o.
-          let z = forgotten_rep a.w.now g.new.0 a.s a.p one g.ensures m r in
-          push_is a.s a.p a.i m cell _ o (q.rep m (suc a.i) z (push_put g.new.0 a.s a.p a.i m cell z o));
-      keeps = keeps_trans a.w.now g.new.0 c.put_tri.new.w (mesh_end a.s a.p) (forgotten_keeps a.w.now g.new.0 a.s a.p one g.ensures) q.keeps;
+          let z = forgotten_rep a.w.now g.new.w a.s a.p one g.ensures m r in
+          push_is a.s a.p a.i m cell _ o (q.rep m (suc a.i) z (push_put g.new.w a.s a.p a.i m cell z o));
+      keeps = keeps_trans a.w.now g.new.w c.put_tri.new.w (mesh_end a.s a.p) (forgotten_keeps a.w.now g.new.w a.s a.p one g.ensures) q.keeps;
     }

@@ -16,14 +16,14 @@ take_out-requires c =
     let a = t.args in
     let g = c.forget_even in
     let one : 1 ≤ a.s = omega (arith, t.requires.i_lt_s) in
-    record { rep = (t.requires.rep.0, forgotten_rep a.w.now g.new.0 a.s a.p one g.ensures t.requires.rep.0 t.requires.rep.1); i_lt_s = t.requires.i_lt_s; uneven = forgotten_none a.w.now g.new.0 a.s a.p one g.ensures t.requires.rep.1.room }
+    record { rep = (t.requires.rep.0, forgotten_rep a.w.now g.new.w a.s a.p one g.ensures t.requires.rep.0 t.requires.rep.1); i_lt_s = t.requires.i_lt_s; uneven = forgotten_none a.w.now g.new.w a.s a.p one g.ensures t.requires.rep.1.room }
 
 pub shape_of-w : goal.shape_of-w
 shape_of-w c =
     let t = c in
     let a = t.args in
     let g = c.forget_even in
-    c.take_out.ensures.keeps.len ∙ forgotten_length a.w.now g.new.0 a.s a.p (omega (arith, t.requires.i_lt_s)) g.ensures
+    c.take_out.ensures.keeps.len ∙ forgotten_length a.w.now g.new.w a.s a.p (omega (arith, t.requires.i_lt_s)) g.ensures
 
 pub returns : goal.returns
 returns c =
@@ -33,6 +33,6 @@ returns c =
     let q = c.take_out.ensures in
     let one : 1 ≤ a.s = omega (arith, t.requires.i_lt_s) in
     record {
-      rep = λ m r y. q.rep m (forgotten_rep a.w.now g.new.0 a.s a.p one g.ensures m r) y;
-      keeps = keeps_trans a.w.now g.new.0 c.take_out.new.w (mesh_end a.s a.p) (forgotten_keeps a.w.now g.new.0 a.s a.p one g.ensures) q.keeps;
+      rep = λ m r y. q.rep m (forgotten_rep a.w.now g.new.w a.s a.p one g.ensures m r) y;
+      keeps = keeps_trans a.w.now g.new.w c.take_out.new.w (mesh_end a.s a.p) (forgotten_keeps a.w.now g.new.w a.s a.p one g.ensures) q.keeps;
     }

@@ -30,7 +30,7 @@ put_tri-requires c =
     let m = t.requires.0 in
     let one : 1 ≤ a.s = omega (arith, t.requires.1.used, t.requires.2.given) in
     let r = b.ensures.rep m t.requires.1 tt in
-    record { by_index = (remove_cell m a.i, m.used, forgotten_rep b.new.0 g.new.0 a.s a.p one g.ensures (remove_cell m a.i) r, set_put a.s a.i m cell t.requires.1.used t.requires.2); uneven = forgotten_none b.new.0 g.new.0 a.s a.p one g.ensures r.room }
+    record { by_index = (remove_cell m a.i, m.used, forgotten_rep b.new.w g.new.w a.s a.p one g.ensures (remove_cell m a.i) r, set_put a.s a.i m cell t.requires.1.used t.requires.2); uneven = forgotten_none b.new.w g.new.w a.s a.p one g.ensures r.room }
 
 pub shape_of-w : goal.shape_of-w
 shape_of-w c =
@@ -38,7 +38,7 @@ shape_of-w c =
     let a = t.args in
     let b = c.remove_cell in
     let g = c.forget_even in
-    c.put_tri.ensures.keeps.len ∙ forgotten_length b.new.0 g.new.0 a.s a.p (omega (arith, t.requires.1.used, t.requires.2.given)) g.ensures ∙ b.ensures.keeps.len
+    c.put_tri.ensures.keeps.len ∙ forgotten_length b.new.w g.new.w a.s a.p (omega (arith, t.requires.1.used, t.requires.2.given)) g.ensures ∙ b.ensures.keeps.len
 
 pub returns : goal.returns
 returns c =
@@ -51,6 +51,6 @@ returns c =
     let one : 1 ≤ a.s = omega (arith, t.requires.1.used, t.requires.2.given) in
     let e = mesh_end a.s a.p in
     record {
-      rep = λ m r o. set_is a.s a.i m cell _ a.p (q.rep (remove_cell m a.i) m.used (forgotten_rep b.new.0 g.new.0 a.s a.p one g.ensures (remove_cell m a.i) (b.ensures.rep m r tt)) (set_put a.s a.i m cell r.used o));
-      keeps = keeps_trans a.w.now g.new.0 _ e (keeps_trans a.w.now b.new.0 g.new.0 e b.ensures.keeps (forgotten_keeps b.new.0 g.new.0 a.s a.p one g.ensures)) q.keeps;
+      rep = λ m r o. set_is a.s a.i m cell _ a.p (q.rep (remove_cell m a.i) m.used (forgotten_rep b.new.w g.new.w a.s a.p one g.ensures (remove_cell m a.i) (b.ensures.rep m r tt)) (set_put a.s a.i m cell r.used o));
+      keeps = keeps_trans a.w.now g.new.w _ e (keeps_trans a.w.now b.new.w g.new.w e b.ensures.keeps (forgotten_keeps b.new.w g.new.w a.s a.p one g.ensures)) q.keeps;
     }

@@ -98,7 +98,7 @@ unlink-requires c =
     let g = c.forget in
     let m = t.requires.rep.0 in
     lift_can a.w.now a.s a.p a.i m t.requires.rep.1 t.requires.i_lt_s x.w x.k (x.invariant.2 m t.requires.rep.1) (omega (arith, c.wide-n.ensures, c.loop-k-test.true))
-    g.new.0 y.result y.ensures g.ensures
+    g.new.w y.result y.ensures g.ensures
 
 pub overflow_add-k : goal.overflow_add-k
 overflow_add-k c =
@@ -118,11 +118,11 @@ loop-k-preserved c =
     let q = c.unlink in
     let e = fronts_at a.s a.p in (
       omega (arith, c.loop-k-test.true),
-      keeps_trans a.w.now x.w q.new.0 e x.invariant.1
-          (keeps_trans x.w g.new.0 q.new.0 e g.ensures.keeps
-          (keeps_kept g.new.0 q.new.0 (rings_at a.s) (codes a.s a.p) e (omega arith) q.ensures.kept)),
+      keeps_trans a.w.now x.w q.new.w e x.invariant.1
+          (keeps_trans x.w g.new.w q.new.w e g.ensures.keeps
+          (keeps_kept g.new.w q.new.w (rings_at a.s) (codes a.s a.p) e (omega arith) q.ensures.kept)),
       λ m r. lift_more a.w.now a.s a.p a.i m r t.requires.i_lt_s x.w x.k (x.invariant.2 m r) (omega (arith, c.wide-n.ensures, c.loop-k-test.true))
-          g.new.0 y.result y.ensures g.ensures q.new.0 q.ensures,
+          g.new.w y.result y.ensures g.ensures q.new.w q.ensures,
     )
 
 pub bounds-w-i-2 : goal.bounds-w-i-2

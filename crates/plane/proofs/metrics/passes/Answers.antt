@@ -16,4 +16,4 @@ pub returns-in-Measured : goal.returns-in-Measured
 unfolding metrics_of_enum
 returns-in-Measured c =
     λ y e f.
-    c.good2.ensures ∙ passes_by y _ _ e f ∙ sym (ap (λ (m : Metrics). passes y (metrics_of_enum m)) c.in-Measured.is)
+    c.good.ensures ∙ passes_by y _ _ e f ∙ sym (ap (λ (m : Metrics). passes y (metrics_of_enum m)) c.in-Measured.is)

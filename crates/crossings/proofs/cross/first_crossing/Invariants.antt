@@ -1,0 +1,14 @@
+use Rattle.laws.specs.Kit.{◌∙◌, ◌-◌, ◌≤◌, arith, rules}
+use Rattle.definition.specs.Cells.{Mesh}
+use Rattle.laws.specs.Frames.{Keeps, keeps_refl, keeps_trans}
+use Rattle.cells.specs.Layout.{mesh_end}
+use Rattle.crossings.specs.Cross.{Known, NoneBelow}
+use Rattle.crossings.proofs.Crosses.{none_more, first_at, first_none}
+use Rattle.crossings.proofs.cross.first_crossing.Given as goal
+
+abbrev pub invariant-loop-a : goal.invariant-loop-a
+invariant-loop-a l =
+    (l.a ≤ l.n) × Keeps l.initial.w l.w (mesh_end l.s l.p) × ((m : Mesh) → Known l.initial.w l.q l.s l.p l.n l.bucket m → Known l.w l.q l.s l.p l.n l.bucket m × (NoneBelow m l.u l.v l.from → NoneBelow m l.u l.v l.a))
+
+abbrev pub decreases-loop-a : goal.decreases-loop-a
+decreases-loop-a l = l.n - l.a

@@ -1,0 +1,6 @@
+-- The word at the number of the edge.
+use Rattle.laws.specs.Kit.{rules}
+use Rattle.edges.proofs.first_on.Goals as goal
+
+pub returns : goal.returns
+returns c = cc c.wide.ensures

@@ -1,0 +1,12 @@
+use Rattle.laws.specs.Kit.{◌≡◌, sym, ◌∙◌, ap, ◌-◌, ◌≤◌, arith, rules}
+use Rattle.sorting.specs.Places.{key_at}
+use Rattle.filing.specs.Filing.{is_same, order_numbers}
+use Rattle.filing.specs.Totals.{equal_is}
+use Rattle.filing.proofs.Marks.{differ, whole, rest, rows_start, rows_decide, rows_go_on, rows_end}
+use Rattle.filing.proofs.orders.order_keys.Given as goal
+
+abbrev pub invariant-loop-i : goal.invariant-loop-i
+invariant-loop-i l = (l.i ≤ l.n) × (whole order_numbers (key_at l.a) (key_at l.b) l.n ≡ rest order_numbers (key_at l.a) (key_at l.b) l.n l.i)
+
+abbrev pub decreases-loop-i : goal.decreases-loop-i
+decreases-loop-i l = l.n - l.i

@@ -1,0 +1,12 @@
+use Rattle.laws.specs.Kit.{◌≡◌, sym, ◌∙◌, ap, not, ◌-◌, ◌≤◌, arith, rules, not-true, not-false}
+use Rattle.definition.specs.Lists.{below}
+use Rattle.definition.specs.Call.{point_at, first_points}
+use Rattle.filing.specs.Filing.{order_points}
+use Rattle.filing.proofs.Marks.{whole, rest, rows_start, rows_decide, rows_go_on, rows_end}
+use Rattle.filing.proofs.orders.order_points.Given as goal
+
+abbrev pub invariant-loop-i : goal.invariant-loop-i
+invariant-loop-i l = (l.i ≤ l.n) × (whole order_points (point_at l.a) (point_at l.b) l.n ≡ rest order_points (point_at l.a) (point_at l.b) l.n l.i)
+
+abbrev pub decreases-loop-i : goal.decreases-loop-i
+decreases-loop-i l = l.n - l.i

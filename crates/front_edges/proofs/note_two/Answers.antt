@@ -1,0 +1,37 @@
+-- Both other ends, then the note's word.
+use Rattle.laws.specs.Kit.{◌∙◌, ◌+◌, ◌*◌, ◌<◌, arith, length, get_or, set, length-set}
+use Rattle.front_edges.proofs.Noting.{can_mark, two_written}
+use Rattle.front_edges.proofs.note_two.Goals as goal
+
+pub bounds-w-i-2 : goal.bounds-w-i-2
+bounds-w-i-2 c =
+    let t = c in
+    let a = t.args in
+    let h : c.fronts_at.result + 2 * a.u + 1 < length a.w.now = omega (arith, c.fronts_at.ensures, t.requires.low, t.requires.mark.room.fits) in
+    simp length-set h
+
+pub mark-requires : goal.mark-requires
+mark-requires c =
+    let f = c in
+    let v = f in
+    let t = v in
+    let a = t.args in
+    let i = f.fronts_at.result + 2 * a.u in
+    let j = v.front_v_at.result + a.k in record {
+      can_mark = can_mark (set a.w.now i (get_or a.w.now j 0)) a.s a.p a.u (i + 1) (get_or a.w.now (j + 1) 0)
+          (can_mark a.w.now a.s a.p a.u i (get_or a.w.now j 0) t.requires.mark (omega (arith, f.fronts_at.ensures))) (omega (arith, f.fronts_at.ensures));
+      n_bound = omega arith;
+    }
+
+pub shape_of-w : goal.shape_of-w
+shape_of-w c = c.mark.auto.w ∙ (simp length-set)
+
+pub returns : goal.returns
+returns c =
+    let o = c in
+    let f = o in
+    let v = f in
+    let t = v in
+    let a = t.args in
+    two_written a.w.now a.s a.p a.u a.k t.requires.mark t.requires.low f.fronts_at.result v.front_v_at.result f.fronts_at.ensures v.front_v_at.ensures o.mark.new.w
+    o.mark.ensures

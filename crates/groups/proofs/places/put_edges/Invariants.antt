@@ -1,0 +1,13 @@
+use Rattle.laws.specs.Kit.{◌≡◌, refl, ◌∙◌, ap, ℕ, ◌-◌, ◌/◌, ◌<◌, ◌≤◌, arith, not-suc-le-zero, length, get_or}
+use borrow.Author.Count.{below_more}
+use Rattle.sorting.specs.Places.{key_at}
+use Rattle.balance.specs.Codes.{next, side_at}
+use Rattle.balance.proofs.Corners.{next_within}
+use Rattle.groups.specs.Edges.{tagged}
+use Rattle.groups.proofs.places.put_edges.Given as goal
+
+abbrev pub invariant-loop-j : goal.invariant-loop-j
+invariant-loop-j l = (l.j ≤ l.m) × (length l.w ≡ length l.initial.w) × ((i : ℕ) → i < l.j → key_at l.w i ≡ tagged (side_at l.triangles 3 i) (i / 3))
+
+abbrev pub decreases-loop-j : goal.decreases-loop-j
+decreases-loop-j l = l.m - l.j

@@ -1,0 +1,37 @@
+use mathlib.Core.Path.{sym}
+use mathlib.Core.Bool.{and-false, and-true}
+use Rattle.definition.specs.Floats.{◌⊗◌, ◌⊖◌, ◌≺◌, 0·25, 2·5, f64}
+use Rattle.definition.specs.Numbers.{side_along, side_across}
+use Rattle.definition.specs.Candidates.{ahead}
+use Rattle.plane.specs.Vectors.{vec}
+use borrow.Author.Rules.{rules}
+use Rattle.side_candidates.proofs.sides.ahead.Goals as goal
+
+pub returns-then-along-target : goal.returns-then-along-target
+unfolding ahead side_along side_across ◌⊗◌ ◌⊖◌ ◌≺◌ 0·25 2·5 f64 vec
+returns-then-along-target c =
+    rw (← c.dot-along.ensures, c.if-along-target.true, and-false)
+
+pub returns-then-abs-along : goal.returns-then-abs-along
+unfolding ahead side_along side_across ◌⊗◌ ◌⊖◌ ◌≺◌ 0·25 2·5 f64 vec
+returns-then-abs-along c =
+    let b = c in
+    let e1 = b in
+    let d = e1 in
+    rw (← d.dot-along.ensures, ← b.abs.ensures, e1.if-along-target.false, c.if-abs-along.true, and-false)
+
+pub returns-then-far-y : goal.returns-then-far-y
+unfolding ahead side_along side_across ◌⊗◌ ◌⊖◌ ◌≺◌ 0·25 2·5 f64 vec
+returns-then-far-y c =
+    rw (← c.norm-far.ensures, c.if-far-y.true)
+
+pub returns : goal.returns
+unfolding ahead side_along side_across ◌⊗◌ ◌⊖◌ ◌≺◌ 0·25 2·5 f64 vec
+returns c =
+    let e3 = c in
+    let n = e3 in
+    let e2 = n in
+    let b = e2 in
+    let e1 = b in
+    let d = e1 in
+    rw (← n.norm-far.ensures, ← d.dot-along.ensures, ← b.abs.ensures, e1.if-along-target.false, e2.if-abs-along.false, e3.if-far-y.false) (sym (and-true _))
