@@ -640,6 +640,7 @@ class Docs(unittest.TestCase):
         ]:
             with self.subTest(kind):
                 self.noticed(DOCS.check_names, 'docs/READING.md', old, new, 'no %s in the tree' % re.escape(new.strip('`')))
+        self.noticed(DOCS.check_names, 'CONTRIBUTING.md', '`Rattle.laws.specs.Kit`', '`Rattle.laws.specs.Kits`', 'no Rattle.laws.specs.Kits in the tree')
         self.noticed(DOCS.check_names, 'docs/CHECK-TIME.md', '`rules/set_ignored`', '`rules/set_minded`', 'no rules/set_minded in the tree')
         self.noticed(DOCS.check_names, 'docs/GRID.md', '`--grid`', '`--grids`', 'no --grids in the tree')
         self.noticed(DOCS.check_names, 'docs/LIBRARY.md', '`sedgepick_sheet`', '`sedgepick_sheets`', 'no sedgepick_sheets in the tree')
