@@ -24,7 +24,7 @@ use Rattle.live_regions.proofs.Scratches.{scratch_rep}
 use Rattle.side_candidates.specs.Hand.{InHand, fenced, KeptTo}
 use Rattle.edge_candidates.specs.Wishes.{Besides, AddedTo, CanList, Wished, WishedTo}
 use Rattle.edge_candidates.specs.declared.wishes.Wish.{Wish}
-use Rattle.edge_candidates.proofs.Givers.{besides_refl, besides_set, besides_trans}
+use Rattle.edge_candidates.proofs.Givers.{besides_refl, besides_set}
 use Rattle.edge_candidates.proofs.Nears.{wished_kept}
 use Rattle.candidates.specs.Choice.{CanChoose, Spare, ChosenTo, CanScan, CanPick, ScannedTo}
 use Rattle.candidates.specs.Spans.{Spans}

@@ -198,6 +198,7 @@ apart_mid [] l b h = h.1
 apart_mid (x ∷ a) l b h = (λ k i. h.0 k (in_mid k a l b i), apart_mid a l b h.1)
 
 split_in : {A : Type 0} (x : A) (xs : List A) → In x xs → (a : List A) × (b : List A) × (xs ≡ a ++ x ∷ b)
+split_in {A = A} x [] x'' = elim x'' [ ]
 split_in x (y ∷ ys) (inl e) = ([], ys, ap (λ z. z ∷ ys) (sym e))
 split_in x (y ∷ ys) (inr i) = let r = split_in x ys i in (y ∷ r.0, r.1, ap (λ z. y ∷ z) r.2)
 

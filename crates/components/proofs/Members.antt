@@ -15,12 +15,14 @@ use Rattle.components.specs.Flood.{cell_tri, body, tri_live, At, Beside}
 -- ---- the two words for membership
 
 pub has_in : (x : Live) (l : List Live) → Has x l → In x l
+has_in x [] x'' = elim x'' [ ]
 has_in x (y ∷ l) here = inl refl
 has_in x (y ∷ l) (there h) = inr (has_in x l h)
 
 -- ---- by slots
 
 pub out_not : (i : ℕ) (x : Live) (l : List Live) → Out i (slots l) → In x l → x.slot ≢ i
+out_not i x [] o x4 q = elim x4 [ ]
 out_not i x (y ∷ l) o (inl e) q = o.0 (ap (λ (z : Live). z.slot) (sym e) ∙ q)
 out_not i x (y ∷ l) o (inr h) q = out_not i x l o.1 h q
 
@@ -30,6 +32,7 @@ any_has i l h = let r = any_in (in_slot i) l h in (r.0, r.1, sym (eqb-true i r.0
 
 -- two cells of a list with distinct slots that have one slot are one
 pub same_slot : (l : List Live) (x y : Live) → Distinct (slots l) → In x l → In y l → x.slot ≡ y.slot → x ≡ y
+same_slot [] x y d x6 _ q = elim x6 [ ]
 same_slot (z ∷ l) x y d (inl e) (inl f) q = e ∙ sym f
 same_slot (z ∷ l) x y d (inl e) (inr j) q = absurd (out_not z.slot y l d.0 j (sym q ∙ ap (λ (v : Live). v.slot) e))
 same_slot (z ∷ l) x y d (inr i) (inl f) q = absurd (out_not z.slot x l d.0 i (q ∙ ap (λ (v : Live). v.slot) f))
@@ -37,6 +40,7 @@ same_slot (z ∷ l) x y d (inr i) (inr j) q = same_slot l x y d.1 i j q
 
 -- of a list of two parts with distinct slots no cell is in both
 pub parts_apart : (l k : List Live) (x : Live) → Distinct (slots (l ++ k)) → In x l → In x k → ⊥
+parts_apart [] k x d x5 j = elim x5 [ ]
 parts_apart (y ∷ l) k x d (inl e) j = out_not y.slot x (l ++ k) d.0 (in_right x l k j) (ap (λ (v : Live). v.slot) e)
 parts_apart (y ∷ l) k x d (inr i) j = parts_apart l k x d.1 i j
 
@@ -47,6 +51,7 @@ out_from i (x ∷ l) h = (h x (inl refl), out_from i l (λ y j. h y (inr j)))
 -- ---- triangles
 
 pub tris_at : (l : List Live) → Tris l → (x : Live) → In x l → live_tri x ≡ true
+tris_at [] h x x4 = elim x4 [ ]
 tris_at (y ∷ l) h x (inl e) = ap live_tri e ∙ h.0
 tris_at (y ∷ l) h x (inr i) = tris_at l h.1 x i
 

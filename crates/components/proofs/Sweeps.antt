@@ -44,6 +44,7 @@ in_joined [] y i = absurd i
 in_joined (k ∷ ks) y i = elim (in_either y (joined ks) k i) [ inl j ↦ (let r = in_joined ks y j in (r.0, inr r.1, r.2)) | inr j ↦ (k, inl refl, j) ]
 
 pub joined_in : (ks : List (List Live)) (k : List Live) (y : Live) → In k ks → In y k → In y (joined ks)
+joined_in [] k y x'' j = elim x'' [ ]
 joined_in (l ∷ ks) k y (inl e) j = in_right y (joined ks) l (subst (λ (z : List Live). In y z) e j)
 joined_in (l ∷ ks) k y (inr i) j = in_left y (joined ks) l (joined_in ks k y i j)
 
@@ -170,6 +171,7 @@ unfolding left_over without_all
 over_distinct m region d = distinct_filter live_tri (filter (λ x. not (among region x)) m.live) (distinct_filter (λ x. not (among region x)) m.live d)
 
 distinct_piece : (ks : List (List Live)) (k : List Live) → Distinct (slots (joined ks)) → In k ks → Distinct (slots k)
+distinct_piece [] k d x'' = elim x'' [ ]
 distinct_piece (l ∷ ks) k d (inl e) = subst (λ (v : List Live). Distinct (slots v)) (sym e) (distinct_right (joined ks) l d)
 distinct_piece (l ∷ ks) k d (inr i) = distinct_piece ks k (distinct_left (joined ks) l d) i
 

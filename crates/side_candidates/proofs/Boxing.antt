@@ -1,16 +1,14 @@
 -- Bounds and boxes: what is in one stays in it when it is widened.
 use mathlib.Core.Path.{◌≡◌, refl, sym, ap, ◌∙◌, subst}
 use mathlib.Core.Logic.{◌⊎◌, inl, inr}
-use mathlib.Core.Bool.{Bool, true, false, not, ◌&&◌, ◌||◌, false≢true}
-use mathlib.Core.List.{List, [], ◌∷◌}
-use Prim.Native.Nat.{ℕ, zero, suc, ◌+◌, ◌*◌, ◌/◌, ◌%◌, ◌≤◌, ◌<◌}
+use mathlib.Core.Bool.{Bool, true, false, ◌||◌}
+use Prim.Native.Nat.{ℕ}
 use native.Mathlib.Omega.{arith}
 use native.Mathlib.Decide.{dec_lt}
 use lib.Dec.{T}
-use lib.ListN.{length, get_or}
 use lib.Ieee.{Float, nan, inf, fin, is_nan, binary64, lt, eq, le, neg, add, sub, div, of_bits}
 use Rattle.definition.specs.Floats.{◌⊖◌, ◌⊗◌, ◌≺◌, ◌≼◌, 0·0, f64}
-use Rattle.definition.specs.Plane.{Node, Edge, cross, side, parts, segments_cross}
+use Rattle.definition.specs.Plane.{Node, cross, side, parts, segments_cross}
 use Rattle.definition.specs.Lists.{all}
 use Rattle.definition.specs.Cells.{Tri, Mesh, node_at, key, touches, tri_edges}
 use Rattle.definition.specs.Candidates.{shared_by_tris, passes_by}
@@ -18,11 +16,11 @@ use Rattle.laws.specs.Bools.{of_T, to_T, refuted, which, TLeft}
 use Rattle.laws.specs.Cells.{key_up, key_back}
 use Rattle.rounding.specs.Order.{through_le, real_left, real_right, le_or_lt}
 use Rattle.side_candidates.specs.Hand.{open_edge}
-use Rattle.side_candidates.specs.Blocks.{Real, Low, High, Bounded, Holds, WithinToo, HoldsBoth, Sided, Framed, FramedTo, Leads, by_x, by_y, Ordered, Leftward, Rightward, Beside}
+use Rattle.side_candidates.specs.Blocks.{Real, Low, High, Bounded, Holds, WithinToo, HoldsBoth, Framed, Leads, by_x, by_y, Leftward, Rightward, Beside}
 use Rattle.side_candidates.specs.declared.blocks.Frame.{Frame}
 use Rattle.side_candidates.specs.declared.blocks.Line.{Line}
 use Rattle.side_candidates.proofs.Fences.{open_shared, open_wall, cell_2}
-use Rattle.side_candidates.proofs.Monotone.{sub_le, sub_real, Keeps, Turns, keeps_or_turns, mul_real, Signed, product_signed, signed_sub_up, signed_sub_down}
+use Rattle.side_candidates.proofs.Monotone.{sub_le, sub_real, keeps_or_turns, mul_real, Signed, product_signed, signed_sub_up, signed_sub_down}
 
 -- ---- bounds
 

@@ -1,12 +1,12 @@
 -- The four stores of a box.
-use mathlib.Core.Path.{◌≡◌, refl, sym, ap, ◌∙◌}
+use mathlib.Core.Path.{◌≡◌, ◌∙◌}
 use mathlib.Core.List.{List}
 use Prim.Native.Nat.{ℕ, ◌+◌, ◌*◌, ◌<◌}
 use native.Mathlib.Omega.{arith}
 use lib.ListN.{length, get_or, set, length-set}
 use lib.Seq.{get_or-set_same, get_or-set_other}
 use lib.Ieee.{Float, nan}
-use Rattle.side_candidates.specs.Blocks.{frame_at, PutTo}
+use Rattle.side_candidates.specs.Blocks.{PutTo}
 use Rattle.side_candidates.specs.declared.blocks.Frame.{Frame}
 
 abbrev with_four : List Float → ℕ → Frame → List Float

@@ -15,7 +15,7 @@ use Rattle.cells.specs.Layout.{marks_at, list_at}
 use Rattle.cells.specs.Rep.{Rep, slots}
 use Rattle.cells.proofs.Slots.{rep_held}
 use Rattle.live_regions.specs.Walls.{wall_mark}
-use Rattle.live_regions.specs.Stack.{Inner, Noted, Lent, LiveTo}
+use Rattle.live_regions.specs.Stack.{Lent, LiveTo}
 use Rattle.live_regions.proofs.Steps.{TopTri, tri_top}
 use Rattle.side_candidates.specs.Hand.{InHand, open_edge}
 pub use Rattle.side_candidates.specs.Blocks.{Scan, Passing}

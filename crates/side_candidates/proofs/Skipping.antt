@@ -9,9 +9,8 @@ use native.Mathlib.Omega.{arith}
 use lib.ListN.{length, get_or}
 use lib.Ieee.{Float}
 use Rattle.definition.specs.Cells.{Cell, tri, quad, Tri, Live, Mesh, new_live, node_at}
-use Rattle.definition.specs.Candidates.{walls, segment_inside}
 use Rattle.laws.specs.Lists.{Stored}
-use Rattle.rings.specs.Rings.{Out, Distinct}
+use Rattle.rings.specs.Rings.{Distinct}
 use Rattle.cells.specs.Layout.{list_at, marks_at}
 use Rattle.cells.specs.Rep.{Has, here, there, Pts, TriIn, slots}
 use Rattle.definition.specs.Call.{point_at}
@@ -19,7 +18,7 @@ use Rattle.plane.specs.Points.{node_of}
 use Rattle.cells.proofs.Slots.{out_has}
 use Rattle.live_regions.specs.Walls.{wall_mark}
 use Rattle.side_candidates.specs.Hand.{InHand, Ends}
-use Rattle.side_candidates.specs.Blocks.{slot_at, frame_at, FramedFrom, BlockIn, BoxedTo, PutTo, Scan, Boxed, Boxes, Leads, Beside, Passing, open_cell, Through, CanPass, CanSkip, Framed}
+use Rattle.side_candidates.specs.Blocks.{slot_at, frame_at, FramedFrom, BoxedTo, PutTo, Scan, Boxed, Boxes, Leads, Beside, Passing, open_cell, Through, Framed}
 use Rattle.side_candidates.specs.declared.blocks.Frame.{Frame}
 use Rattle.side_candidates.specs.declared.blocks.Line.{Line}
 use Rattle.side_candidates.proofs.Scans.{Spot, scan_start, scan_here, passing_more, passing_end, spot_open, spot_walls}

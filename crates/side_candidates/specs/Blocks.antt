@@ -3,7 +3,7 @@ use Rattle.std.specs.Prelude.{◌≡◌, ◌⊎◌, Bool, true, false, not, List
 use Rattle.std.specs.Float.{nan}
 use Rattle.std.specs.Float.Ieee.{is_nan}
 use Rattle.definition.specs.Floats.{◌⊖◌, ◌⊗◌, ◌≼◌}
-use Rattle.definition.specs.Plane.{Node, Edge}
+use Rattle.definition.specs.Plane.{Node}
 use Rattle.definition.specs.Lists.{all}
 use Rattle.definition.specs.Cells.{Tri, Live, Mesh, node_at, key, edges}
 use Rattle.definition.specs.Candidates.{shared_by_tris, walls, segment_inside}

@@ -8,83 +8,83 @@ use Rattle.components.proofs.Markings.{cleared_none, cleared_listed, Marking, ma
 use Rattle.components.proofs.marks.mark_listed.Statement.{statement}
 use Rattle.components.proofs.marks.mark_listed.Tie as tie
 
-abbrev invariant_loop : tie.invariant-loop
+abbrev invariant_loop : tie.invariant-loop-i
 invariant_loop w₀ s p used n i₀ w i =
     (length w ≡ length w₀) × (n ≤ s) × (i ≤ n) × (s ≤ 2 ^ 32)
     × ((m : Mesh) (xs : List Live) → Listed w₀ s p n m xs → Marked w₀ s p 0 m [] → Marking w₀ w s p n i m xs)
 
-abbrev decreases_loop : tie.decreases-loop
+abbrev decreases_loop : tie.decreases-loop-i
 decreases_loop w₀ s p used n i₀ w i = n - i
 
-clear_marks_requires : tie.Need-clear-marks-requires invariant_loop decreases_loop
-clear_marks_requires c κs =
-    let t = c.before.before in
-    record { fits = omega (arith, t.requires.2.rep.room.fits); small = t.requires.2.rep.room.small; few = omega (arith, t.requires.2.rep.used, t.requires.3) }
-
-abbrev start : tie.After-clear-marks invariant_loop decreases_loop → tie.Start invariant_loop decreases_loop
+abbrev start : tie.After-clear_marks invariant_loop decreases_loop → tie.Start invariant_loop decreases_loop
 start d = d.before.before.before
 
-abbrev cleared : tie.At-loop invariant_loop decreases_loop → tie.After-clear-marks invariant_loop decreases_loop
+abbrev cleared : tie.At-loop-i invariant_loop decreases_loop → tie.After-clear_marks invariant_loop decreases_loop
 cleared l = l.before.before.before
 
-module _ (l : tie.At-loop invariant_loop decreases_loop) (m : Mesh) (xs : List Live) (hs : let a = (start (cleared l)).args in Listed a.w.now a.s a.p a.n m xs) (u : m.used ≡ (start (cleared l)).args.used) where
+module _ (l : tie.At-loop-i invariant_loop decreases_loop) (m : Mesh) (xs : List Live) (hs : let a = (start (cleared l)).args in Listed a.w.now a.s a.p a.n m xs) (u : m.used ≡ (start (cleared l)).args.used) where
   -- listed still, where no mark is
-  listed : let a = (start (cleared l)).args in Listed (cleared l).clear_marks.new.0 a.s a.p a.n m xs
+  listed : let a = (start (cleared l)).args in Listed (cleared l).clear_marks.new.w a.s a.p a.n m xs
   listed = cleared_listed (cleared l).clear_marks.ensures hs
 
   -- those marked so far
-  so_far : let a = (start (cleared l)).args in Marking (cleared l).clear_marks.last.0 l.loop.w a.s a.p a.n l.loop.i m xs
-  so_far = l.loop.inv.4 m xs listed (cleared_none (cleared l).clear_marks.ensures hs.rep u)
+  so_far : let a = (start (cleared l)).args in Marking (cleared l).clear_marks.last.0 l.loop-i.w a.s a.p a.n l.loop-i.i m xs
+  so_far = l.loop-i.inv.4 m xs listed (cleared_none (cleared l).clear_marks.ensures hs.rep u)
 
-loop_holds : tie.Need-loop-init invariant_loop decreases_loop
+clear_marks_requires : tie.Need-clear_marks-requires invariant_loop decreases_loop
+clear_marks_requires c κs =
+    let t = c in
+    record { fits = omega (arith, t.requires.2.rep.room.fits); small = t.requires.2.rep.room.small; few = omega (arith, t.requires.2.rep.used, t.requires.3) }
+
+loop_holds : tie.Need-loop-i-init invariant_loop decreases_loop
 loop_holds c =
-    let q = (start c.before.before).pre in
+    let q = (start c.before.before).requires in
     (refl, omega (arith, few q.2, q.2.rep.used), omega arith, omega (arith, q.2.rep.room.small), λ m xs h k. marking_start h k)
 
-listed_requires : tie.Need-listed-requires invariant_loop decreases_loop
+listed_requires : tie.Need-listed-j-requires invariant_loop decreases_loop
 listed_requires c κs =
-    let i = c.before in
-    let l = i.before in
-    let q = (start (cleared l)).pre in
-    marking_can (listed l q.0 q.1 q.2 q.3) (so_far l q.0 q.1 q.2 q.3) i.loop_test.true l.loop.invariant.1
+    let i = c in
+    let l = i in
+    let q = (start (cleared l.before)).requires in
+    marking_can (listed l.before q.0 q.1 q.2 q.3) (so_far l.before q.0 q.1 q.2 q.3) i.loop-i-test.true l.loop-i.invariant.1
 
 append_requires : tie.Need-append-requires invariant_loop decreases_loop
 append_requires c κs =
-    let v = c.before in
-    let i = v.before.before in
-    let l = i.before in
-    let q = (start (cleared l)).pre in
-    let h = listed l q.0 q.1 q.2 q.3 in
-    let g = so_far l q.0 q.1 q.2 q.3 in
-    upcoming_can h g i.loop_test.true (upcoming h g i.loop_test.true v.listed.ensures)
+    let v = c in
+    let i = v in
+    let l = i in
+    let q = (start (cleared l.before.before.before)).requires in
+    let h = listed l.before.before.before q.0 q.1 q.2 q.3 in
+    let g = so_far l.before.before.before q.0 q.1 q.2 q.3 in
+    upcoming_can h g i.loop-i-test.true (upcoming h g i.loop-i-test.true v.listed-j.ensures)
 
-loop_again : tie.Need-loop-preserved invariant_loop decreases_loop
+loop_again : tie.Need-loop-i-preserved invariant_loop decreases_loop
 loop_again c =
-    let o = c.before.before in
-    let v = o.before.before in
-    let i = v.before.before in
-    let l = i.before in (
-      o.append.auto.0 ∙ l.loop.invariant.0,
-      l.loop.invariant.1,
-      omega (arith, i.loop_test.true),
-      l.loop.invariant.3,
+    let o = c in
+    let v = o in
+    let i = v in
+    let l = i in (
+      o.append.auto.w ∙ l.loop-i.invariant.0,
+      l.loop-i.invariant.1,
+      omega (arith, i.loop-i-test.true),
+      l.loop-i.invariant.3,
       λ m xs h k.
-          let g = l.loop.invariant.4 m xs h k in
-          marking_on h g i.loop_test.true (upcoming h g i.loop_test.true v.listed.ensures) o.append.ensures l.loop.invariant.1,
+          let g = l.loop-i.invariant.4 m xs h k in
+          marking_on h g i.loop-i-test.true (upcoming h g i.loop-i-test.true v.listed-j.ensures) o.append.ensures l.loop-i.invariant.1,
     )
 
-same_length : tie.Need-same-length invariant_loop decreases_loop
-same_length c = let l = c.before in l.loop.invariant.0 ∙ (cleared l).clear_marks.auto.0
+same_length : tie.Need-shape_of-w invariant_loop decreases_loop
+same_length c = let l = c in l.loop-i.invariant.0 ∙ (cleared l.before).clear_marks.auto.w
 
 returns : tie.Need-returns invariant_loop decreases_loop
 returns c = λ m xs hs u.
-    let l = c.before in
-    let d = cleared l in
+    let l = c in
+    let d = cleared l.before in
     let a = (start d).args in
-    let f = marking_end (listed l m xs hs u) (so_far l m xs hs u) c.loop_test.false l.loop.invariant.2 in
+    let f = marking_end (listed l.before m xs hs u) (so_far l.before m xs hs u) c.loop-i-test.false l.loop-i.invariant.2 in
     record {
       state = f.state;
-      aside = aside_trans a.w.now d.clear_marks.last.0 l.loop.w a.s a.p (cleared_aside a.w.now d.clear_marks.last.0 a.s a.p a.used d.clear_marks.ensures) f.aside;
+      aside = aside_trans a.w.now d.clear_marks.last.0 l.loop-i.w a.s a.p (cleared_aside a.w.now d.clear_marks.last.0 a.s a.p a.used d.clear_marks.ensures) f.aside;
     }
 
 pub mark_listed_spec : {M : Type 1} → statement M

@@ -1,11 +1,11 @@
 -- The loop's invariant: the walls of the cells up to place i lie in the box. The measure is how many cells are left.
-use mathlib.Core.Path.{◌≡◌, ap, sym, ◌∙◌, subst}
+use mathlib.Core.Path.{◌≡◌, ap, ◌∙◌, subst}
 use mathlib.Core.List.{List}
 use Prim.Native.Nat.{ℕ, ◌-◌, ◌+◌, ◌*◌, ◌≤◌, ◌<◌, ◌^◌}
 use native.Mathlib.Omega.{arith}
 use lib.ListN.{get_or}
 use borrow.Author.Rules.{rules}
-use Rattle.definition.specs.Cells.{Live, Mesh, Tri, tri, new_live}
+use Rattle.definition.specs.Cells.{Live, Mesh, tri, new_live}
 use Rattle.cells.specs.Rep.{TriIn}
 use Rattle.cells.proofs.Slots.{sizes}
 use Rattle.live_regions.specs.Walls.{wall_mark}
@@ -87,7 +87,7 @@ loop_again c =
     let l = at_loop d.before.before in
     let a = (start d.before.before).args in
     let r = c.with_cell-b.result in (
-      omega (arith, l.loop-i.inv.0),
+      omega (arith, l.loop-i.invariant.0),
       omega (arith, d.loop-i-test.true),
       λ m g h.
           let e : (t : TriIn m d.wide-c.result) → get_or a.w.now (l.marks_at-marks.result + d.wide-c.result) 0 ≡ wall_mark m (new_live d.wide-c.result (tri t.t)) =
@@ -97,7 +97,7 @@ loop_again c =
           let f : (t : TriIn m d.wide-c.result) → Framed m r t.t = λ t. (c.with_cell-b.ensures m h.rep h.pts t (e t)).walls in
           framed_more m l.loop-i.b r g a.j l.loop-i.i
           (λ t z. framed_also m l.loop-i.b r t (c.with_cell-b.ensures m h.rep h.pts u (e u)).keeps z)
-          (subst (λ (v : ℕ). (t : TriIn m v) → Framed m r t.t) s f) (l.loop-i.inv.2 m g h),
+          (subst (λ (v : ℕ). (t : TriIn m v) → Framed m r t.t) s f) (l.loop-i.invariant.2 m g h),
     )
 
 returns : tie.Need-returns invariant_loop decreases_loop

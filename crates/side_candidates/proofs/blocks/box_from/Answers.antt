@@ -1,5 +1,4 @@
 use native.Mathlib.Omega.{arith}
-use borrow.Author.Rules.{rules}
 use Rattle.side_candidates.proofs.blocks.box_from.Goals as goal
 
 pub returns-then-n-k : goal.returns-then-n-k
@@ -14,4 +13,4 @@ overflow_add-k c =
     omega (arith, t.requires.k_lt_n.0, t.requires.k_lt_n.1, t.requires.in_hand.2.few, t.requires.in_hand.2.rep.room.small)
 
 pub block_box-requires-2 : goal.block_box-requires-2
-block_box-requires-2 c = let t = c in (t.requires.in_hand, (omega arith, omega (arith, t.requires.k_lt_n.0, c.if-n-k.false)))
+block_box-requires-2 c = record { in_hand = c.requires.in_hand; j_le_k = (omega arith, omega (arith, c.requires.k_lt_n.0, c.if-n-k.false)) }

@@ -1,7 +1,4 @@
-use mathlib.Core.Path.{◌≡◌}
 use mathlib.Core.Logic.{inl, inr}
-use native.Mathlib.Omega.{arith}
-use borrow.Author.Rules.{rules}
 use Rattle.definition.specs.Floats.{◌⊖◌, ◌⊗◌}
 use Rattle.side_candidates.proofs.blocks.is_beside.Goals as goal
 

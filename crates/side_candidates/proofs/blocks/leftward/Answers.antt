@@ -1,4 +1,3 @@
-use mathlib.Core.Path.{sym}
 use mathlib.Core.Bool.{false≢true}
 use Rattle.definition.specs.Floats.{◌≼◌}
 use Rattle.side_candidates.proofs.blocks.leftward.Goals as goal

@@ -1,10 +1,8 @@
-use mathlib.Core.Path.{◌≡◌, ap, ◌∙◌}
+use mathlib.Core.Path.{ap, ◌∙◌}
 use lib.Ieee.{Float}
-use borrow.Author.Rules.{rules}
 use Rattle.definition.specs.Call.{point_at}
 use Rattle.definition.specs.Floats.{◌⊖◌}
 use Rattle.plane.specs.Points.{spot_x, spot_y}
-use Rattle.side_candidates.specs.Blocks.{Leads}
 use Rattle.side_candidates.proofs.blocks.line_of.Goals as goal
 
 pub returns : goal.returns

@@ -1,11 +1,10 @@
 use mathlib.Core.Path.{◌≡◌, ap, sym, ◌∙◌}
-use mathlib.Core.Bool.{Bool, not}
+use mathlib.Core.Bool.{not}
 use Prim.Native.Nat.{ℕ, ◌<◌}
 use native.Mathlib.Omega.{arith}
 use lib.ListN.{length}
 use borrow.Author.Rules.{rules}
 use Rattle.definition.specs.Call.{point_at}
-use Rattle.definition.specs.Plane.{Node}
 use Rattle.definition.specs.Cells.{Mesh, node_at}
 use Rattle.plane.specs.Points.{node_of}
 use Rattle.cells.specs.Rep.{Rep, Pts, TriIn}

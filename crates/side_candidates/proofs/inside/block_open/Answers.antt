@@ -1,7 +1,5 @@
-use mathlib.Core.Path.{◌≡◌, refl, sym, ◌∙◌}
-use Prim.Native.Nat.{ℕ, ◌-◌, ◌+◌}
+use Prim.Native.Nat.{◌-◌, ◌+◌}
 use native.Mathlib.Omega.{arith}
-use borrow.Author.Rules.{rules}
 use Rattle.definition.specs.Candidates.{walls, segment_inside}
 use Rattle.side_candidates.proofs.Skipping.{skip_block, through_end}
 use Rattle.side_candidates.proofs.inside.block_open.Goals as goal

@@ -1,21 +1,14 @@
 -- The loop's invariant: the cells up to place k pass, which is the end of block j, or all do. The measure is how many cells are left.
-use mathlib.Core.Path.{◌≡◌, refl, sym, ap, ◌∙◌}
-use mathlib.Core.Bool.{Bool, true, false}
+use mathlib.Core.Path.{◌≡◌, refl, ◌∙◌}
+use mathlib.Core.Bool.{true}
 use mathlib.Core.List.{List}
-use Prim.Native.Nat.{ℕ, ◌-◌, ◌+◌, ◌*◌, ◌≤◌, ◌<◌}
+use Prim.Native.Nat.{◌-◌, ◌*◌, ◌≤◌}
 use native.Mathlib.Omega.{arith}
-use lib.ListN.{length}
-use borrow.Author.Rules.{rules}
-use borrow.Author.Tests.{not-true, not-false}
-use Rattle.definition.specs.Call.{point_at}
-use Rattle.definition.specs.Cells.{Live, Mesh, node_at}
+use Rattle.definition.specs.Cells.{Live, Mesh}
 use Rattle.definition.specs.Candidates.{walls, segment_inside}
-use Rattle.plane.specs.Points.{node_of}
-use Rattle.cells.specs.Rep.{Pts}
 use Rattle.cells.proofs.Points.{node_within}
 use Rattle.side_candidates.specs.Hand.{Ends}
-use Rattle.side_candidates.specs.Blocks.{Fence, Leads, Through, CanSkip}
-use Rattle.side_candidates.specs.declared.blocks.Line.{Line}
+use Rattle.side_candidates.specs.Blocks.{Fence, Through, CanSkip}
 use Rattle.side_candidates.proofs.Scans.{passing_start}
 use Rattle.side_candidates.proofs.Skipping.{through_start, through_is, leads_at}
 use Rattle.side_candidates.proofs.inside.blocks_open.Statement.{statement}

@@ -12,7 +12,6 @@ use Rattle.side_candidates.specs.Blocks.{open_cell, Passing, CanPass}
 use Rattle.side_candidates.proofs.Scans.{Spot, scan_here, passing_stop, passing_more, spot_walls, spot_open}
 use Rattle.side_candidates.proofs.Skipping.{through_start, through_stop}
 use borrow.Author.Rules.{rules}
-use borrow.Author.Tests.{not-true, not-false}
 use Rattle.side_candidates.proofs.inside.cells_open.Statement.{statement}
 use Rattle.side_candidates.proofs.inside.cells_open.Tie as tie
 

@@ -24,7 +24,7 @@ invariant_loop w₀ s p k at marks r₀ i₀ w r i =
 abbrev decreases_loop : tie.decreases-loop-i
 decreases_loop w₀ s p k at marks r₀ i₀ w r i = k - i
 
-place_inside : (c : tie.After-slice_known-in-loop-i-1 invariant_loop decreases_loop) → c.list_at-at.result + c.loop-i.i < length c.loop-i.w
+place_inside : tie.Need-bounds-w-at invariant_loop decreases_loop
 place_inside c =
     let i = c in
     let l = i in
@@ -52,7 +52,7 @@ module _ (c : tie.After-wide invariant_loop decreases_loop) (q : List Float) (m 
       let a = (top c).args in
       let l = (at_loop c).loop-i in
       scan_here a.w.now a.s a.p a.k l.i (slot c) m so_far.rest h.rep so_far.scan c.loop-i-test.true
-      (keeping_word a.w.now q a.s a.p a.k m g h l.w l.i l.r so_far l.inv.0 l.inv.1 (slot c) (ap (λ (z : ℕ). get_or l.w (z + l.i) 0) (at_loop c).list_at-at.ensures))
+      (keeping_word a.w.now q a.s a.p a.k m g h l.w l.i l.r so_far l.invariant.0 l.invariant.1 (slot c) (ap (λ (z : ℕ). get_or l.w (z + l.i) 0) (at_loop c).list_at-at.ensures))
 
 mark_inside : (c : tie.After-wide invariant_loop decreases_loop) → (at_loop c).marks_at-marks.result + c.wide.result < length (at_loop c).loop-i.w
 mark_inside c =
@@ -67,7 +67,7 @@ mark_read c q m g h =
     let a = (top c).args in
     let l = (at_loop c).loop-i in
     let e : (at_loop c).marks_at-marks.result + c.wide.result ≡ marks_at a.s a.p + slot c = omega (arith, (at_loop c).marks_at-marks.ensures, c.wide.ensures) in
-    keeping_mark a.w.now q a.s a.p a.k m g h l.w l.i l.r (so_far c q m g h) l.inv.0 l.inv.1 (slot c) (spot c q m g h)
+    keeping_mark a.w.now q a.s a.p a.k m g h l.w l.i l.r (so_far c q m g h) l.invariant.0 l.invariant.1 (slot c) (spot c q m g h)
     (get_or l.w ((at_loop c).marks_at-marks.result + c.wide.result) 0) (ap (λ (z : ℕ). get_or l.w z 0) e)
 
 -- a place before it
@@ -76,7 +76,7 @@ front_inside c =
     let n = c in
     let t = top n.before.before in
     let l = (at_loop n.before.before).loop-i in
-    omega (arith, (at_loop n.before.before).list_at-at.ensures, n.loop-i-test.true, t.requires.3.few, t.requires.3.rep.room.fits, l.inv.0, l.inv.1)
+    omega (arith, (at_loop n.before.before).list_at-at.ensures, n.loop-i-test.true, t.requires.3.few, t.requires.3.rep.room.fits, l.invariant.0, l.invariant.1)
 
 -- ---- sums
 place_fits : (c : tie.In-loop-i invariant_loop decreases_loop) → (c.list_at-at.result + c.loop-i.i) * 4 < 2 ^ 63
@@ -113,12 +113,12 @@ loop_again c =
     let a = (top n.before.before).args in
     let x = (at_loop n.before.before).loop-i in
     let e = (at_loop n.before.before).list_at-at.ensures in (
-      length-set x.w ((at_loop n.before.before).list_at-at.result + x.r) (slot n.before.before) ∙ x.inv.0,
-      omega (arith, x.inv.1),
+      length-set x.w ((at_loop n.before.before).list_at-at.result + x.r) (slot n.before.before) ∙ x.invariant.0,
+      omega (arith, x.invariant.1),
       omega (arith, n.loop-i-test.true),
       λ q m g h.
           subst (λ (z : ℕ). Keeping a.w.now (set x.w (z + x.r) (slot n.before.before)) a.s a.p a.k (x.i + 1) (x.r + 1) m g) (sym e)
-          (keeping_hit a.w.now q a.s a.p a.k m g h x.w x.i x.r (so_far n.before.before q m g h) x.inv.0 x.inv.1 (slot n.before.before) (spot n.before.before q m g h) (λ z. c.if-f-ne8.true (mark_read n.before.before q m g h ∙ z)) n.loop-i-test.true),
+          (keeping_hit a.w.now q a.s a.p a.k m g h x.w x.i x.r (so_far n.before.before q m g h) x.invariant.0 x.invariant.1 (slot n.before.before) (spot n.before.before q m g h) (λ z. c.if-f-ne8.true (mark_read n.before.before q m g h ∙ z)) n.loop-i-test.true),
     )
 
 loop_again_2 : tie.Need-loop-i-preserved invariant_loop decreases_loop
@@ -126,10 +126,10 @@ loop_again_2 c =
     let n = c in
     let a = (top n.before.before).args in
     let x = (at_loop n.before.before).loop-i in (
-      x.inv.0,
-      omega (arith, x.inv.1),
+      x.invariant.0,
+      omega (arith, x.invariant.1),
       omega (arith, n.loop-i-test.true),
-      λ q m g h. keeping_miss a.w.now q a.s a.p a.k m g h x.w x.i x.r (so_far n.before.before q m g h) x.inv.0 x.inv.1 (slot n.before.before) (spot n.before.before q m g h) (sym (mark_read n.before.before q m g h) ∙ c.if-f-ne8.false),
+      λ q m g h. keeping_miss a.w.now q a.s a.p a.k m g h x.w x.i x.r (so_far n.before.before q m g h) x.invariant.0 x.invariant.1 (slot n.before.before) (spot n.before.before q m g h) (sym (mark_read n.before.before q m g h) ∙ c.if-f-ne8.false),
     )
 
 returns : tie.Need-returns invariant_loop decreases_loop

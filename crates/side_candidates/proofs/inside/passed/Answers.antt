@@ -1,5 +1,4 @@
 use mathlib.Core.Bool.{false≢true}
-use borrow.Author.Rules.{rules}
 use Rattle.side_candidates.proofs.inside.passed.Goals as goal
 
 pub returns-then-j-h : goal.returns-then-j-h

@@ -4,7 +4,6 @@ use Rattle.definition.specs.Floats.{◌⊗◌, ◌⊖◌, ◌≺◌, 0·25, 2·5
 use Rattle.definition.specs.Numbers.{side_along, side_across}
 use Rattle.definition.specs.Candidates.{ahead}
 use Rattle.plane.specs.Vectors.{vec}
-use borrow.Author.Rules.{rules}
 use Rattle.side_candidates.proofs.sides.ahead.Goals as goal
 
 pub returns-then-along-target : goal.returns-then-along-target

@@ -1,0 +1,31 @@
+use Rattle.laws.specs.Kit.{◌∙◌, arith, dec_le}
+use Rattle.components.specs.Flood.{tri_live}
+use Rattle.components.proofs.Floods.{begin_can, begin_more, begun_flood, flooded_from, flood_few, flood_end}
+use Rattle.components.proofs.flood.flood.Goals as goal
+
+pub append-requires : goal.append-requires
+append-requires c = let q = c.requires in begin_can q.2 q.3 q.4
+
+pub overflow_add-n : goal.overflow_add-n
+overflow_add-n c =
+    let q = c.requires in
+    omega (arith, begin_more q.2 q.3 q.4, q.2.rep.room.small)
+
+pub spread-all-requires : goal.spread-all-requires
+spread-all-requires c =
+    let d = c in
+    let t = d in
+    let q = t.requires in
+    record { flooding = (q.0, q.1, tri_live t.args.i q.3.t, begun_flood q.2 q.3 q.4 d.append.ensures); from_lt_k = (omega arith, begin_more q.2 q.3 q.4) }
+
+pub shape_of-w : goal.shape_of-w
+shape_of-w c = let o = c in o.spread-all.auto.w ∙ o.append.auto.w
+
+pub returns : goal.returns
+returns c = λ m xs h ti out.
+    let o = c in
+    let d = o in
+    let a = d.args in
+    let g = o.spread-all.ensures.flooding_2 m xs (tri_live a.i ti.t) (begun_flood h ti out d.append.ensures) in
+    flooded_from h ti out d.append.ensures
+    (flood_end g (elim (dec_le a.s o.spread-all.result.head) [ yes l ↦ omega (arith, l, flood_few g) | no l ↦ o.spread-all.ensures.count_le_head (omega (arith, l)) ]))
