@@ -5,7 +5,7 @@
  * cosine of each corner is at most the set's largest cosine plus 1e-9. The order is total on the meshes that it accepts. The functions allocate
  * nothing, keep nothing between calls, and may be called from several threads at once on memory of their own.
  *
- * Link libsedgepick, which tools/install makes, or the bare target/staticlib/liblibrary.a (x86-64, written by `rt staticlib library`); sedgepick_mesh.h has a
+ * Link libsedgepick, which tools/install makes, or the bare target/staticlib/liblibrary.a (x86-64, written by `tools/archive library`); sedgepick_mesh.h has a
  * call that lends the memory itself.
  *
  * Floating point: the definition is IEEE 754 to nearest, with subnormal numbers. In libsedgepick every function sets MXCSR to its default and puts back what the caller had,

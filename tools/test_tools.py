@@ -625,14 +625,14 @@ class Docs(unittest.TestCase):
         self.noticed(DOCS.check_links, 'docs/GRID.md', '(REQUIREMENTS.md#grid-profile)', '(#grid)', 'no heading')
 
     def test_commands(self):
-        self.noticed(DOCS.check_commands, 'CONTRIBUTING.md', 'rt dev rules\n', 'rt dev joints\n', 'no test is named for the command rt dev joints')
+        self.noticed(DOCS.check_commands, 'CONTRIBUTING.md', 'rt check\n', 'rt checks\n', 'no test is named for the command rt checks')
         self.noticed(DOCS.check_commands, 'CONTRIBUTING.md', 'rt must-fail rules\n', '', 'no page has the command rt must-fail rules')
         with unittest.mock.patch.dict(DOCS.COMMANDS, {'rt fmt': {'tools/test': 'rt fmt', 'tools/none': 'x'}}):
             self.assertIn('CONTRIBUTING.md: tools/test or tools/none does not run rt fmt', DOCS.check_commands(self.tree, self.pages))
 
     def test_names(self):
         for kind, old, new in [
-            ('a statement', '`exact-value`', '`exact-values`'),
+            ('a statement', '`exact_value`', '`exact_values`'),
             ('a crate with a function', '`mesher::run_front`', '`mesher::run_fronts`'),
             ('a function', '`segments_cross`', '`segments_crossed`'),
             ('a file', '`root/specs/Nan.antt`', '`root/specs/Nans.antt`'),
@@ -640,6 +640,7 @@ class Docs(unittest.TestCase):
         ]:
             with self.subTest(kind):
                 self.noticed(DOCS.check_names, 'docs/READING.md', old, new, 'no %s in the tree' % re.escape(new.strip('`')))
+        self.noticed(DOCS.check_names, 'CONTRIBUTING.md', '`Rattle.laws.specs.Kit`', '`Rattle.laws.specs.Kits`', 'no Rattle.laws.specs.Kits in the tree')
         self.noticed(DOCS.check_names, 'docs/CHECK-TIME.md', '`rules/set_ignored`', '`rules/set_minded`', 'no rules/set_minded in the tree')
         self.noticed(DOCS.check_names, 'docs/GRID.md', '`--grid`', '`--grids`', 'no --grids in the tree')
         self.noticed(DOCS.check_names, 'docs/LIBRARY.md', '`sedgepick_sheet`', '`sedgepick_sheets`', 'no sedgepick_sheets in the tree')
@@ -647,7 +648,7 @@ class Docs(unittest.TestCase):
 
     def test_statements(self):
         page = 'docs/REQUIREMENTS.md'
-        self.noticed(DOCS.check_statements, page, '`keeps-account` in', '`keeps-accounts` in', 'no keeps-accounts in crates/account/specs/Demand.antt')
+        self.noticed(DOCS.check_statements, page, '`keeps_account` in', '`keeps_accounts` in', 'no keeps_accounts in crates/account/specs/Demand.antt')
         self.noticed(DOCS.check_statements, page, 'crates/account/specs/Demand.antt', 'crates/account/specs/Demands.antt', 'no file crates/account/specs/Demands.antt')
         births = self.pages[page][self.pages[page].index('### Births'):self.pages[page].index('### Trials')]
         self.noticed(DOCS.check_statements, page, births, births[:births.index('Proved:')], 'nothing proves or tests Births')
@@ -702,38 +703,45 @@ class Contributing(unittest.TestCase):
         self.folder = tempfile.mkdtemp()
         self.addCleanup(shutil.rmtree, self.folder)
         for crate in ('definition', 'rules'):
-            shutil.copytree(os.path.join(ROOT, 'crates', crate), os.path.join(self.folder, 'crates', crate))
+            shutil.copytree(os.path.join(ROOT, 'crates', crate), os.path.join(self.folder, 'crates', crate), ignore=shutil.ignore_patterns('out'))
         with open(os.path.join(self.folder, 'crates.txt'), 'w') as file:
             file.write('definition:\nrules: definition\n')
-        self.proof = os.path.join(self.folder, 'crates', 'rules', 'proofs', 'standard_quality', 'Proof.antt')
+        self.crate = os.path.join(self.folder, 'crates', 'rules')
+        self.proof = os.path.join(self.crate, 'proofs', 'standard_quality', 'Answers.antt')
 
     def rt(self, *words):
-        ran = subprocess.run(['rt', *words], cwd=self.folder, stdout=subprocess.PIPE, stderr=subprocess.STDOUT, text=True)
+        ran = subprocess.run(['rt', *words], cwd=self.crate, stdout=subprocess.PIPE, stderr=subprocess.STDOUT, text=True)
         return ran.returncode, ran.stdout
 
     def block(self, kind):
         return re.search('^```%s\n(.*?)^```' % kind, self.page, re.M | re.S).group(1)
+
+    def files(self):
+        return {path: content(path) for path in glob.glob(self.crate + '/**/*', recursive=True) if path.endswith(('.rt', '.antt')) and '/out/' not in path}
 
     def test_from_hole_to_green(self):
         proved = content(self.proof).decode()
         self.assertEqual(self.block('antt'), proved)
         self.assertIn(self.block('rust').rstrip(), content(os.path.join(ROOT, 'crates/rules/src/lib.rt')).decode())
         shutil.rmtree(os.path.dirname(self.proof))
-        status, told = self.rt('dev', 'rules')
-        self.assertEqual(status, 1)
+        status, told = self.rt('check')
+        self.assertEqual(status, 1, told)
         printed = re.search(r'with these lines.*\n((?:    .*\n| *\n)+)', told).group(1)
         self.assertIn('returns c = ?', printed)
         os.mkdir(os.path.dirname(self.proof))
         for text, words, said in [(printed.replace('\n    ', '\n').strip() + '\n', ['--allow-holes'], 'holes=1'), (proved, [], 'logic=proved')]:
             with open(self.proof, 'w') as file:
                 file.write(text)
-            self.assertIn(said, self.rt('dev', 'rules', *words)[1])
-        self.assertEqual(self.rt('fmt', '--check')[0], 0)
-        self.assertEqual(self.rt('check', 'rules')[0], 0)
+            self.assertIn(said, self.rt('check', *words)[1])
+        before = self.files()
+        self.assertEqual((self.rt('fmt')[0], self.files()), (0, before))
+        status, told = self.rt('verdict')
+        self.assertEqual(status, 0, told)
         self.assertIn(self.block('edit'), content(os.path.join(ROOT, 'crates/rules/must-fail/another_standard.edit')).decode())
+        self.crate = self.folder
         status, told = self.rt('must-fail', 'rules')
         self.assertEqual(status, 0, told)
-        self.assertIn('must-fail rules/another_standard: refused', told)
+        self.assertIn('must-fail rules/another_standard.edit: refused', told)
 
 
 class Landings(unittest.TestCase):
@@ -884,7 +892,7 @@ class Running(unittest.TestCase):
         """What is not built is passed over with its name, and has failed where it was asked for."""
         status, said = self.run_test()
         self.assertEqual(status, 0)
-        self.assertIn('\n  program: target/bin/sedgepick is not there\n', said)
+        self.assertIn('\n  program: crates/sedgepick/out/sedgepick is not there\n', said)
         self.assertEqual([self.run_test(name)[0] for name in ('program', 'roots', 'bindings', 'python')], [1] * 4)
 
     def test_names(self):

@@ -1,4 +1,4 @@
-//! Links the static library that `rt staticlib kernels` writes, and takes the patched Rust's metrics, which are private there, out of its text.
+//! Links the static library that `tools/archive kernels` writes, and takes the patched Rust's metrics, which are private there, out of its text.
 //! `KERNELS_BEFORE` may name an earlier such library, to be timed beside it: it is linked under other names.
 
 use std::path::Path;
@@ -46,7 +46,7 @@ fn main() {
     println!("cargo:rerun-if-changed={}", archive.display());
     if !archive.is_file() {
         println!(
-            "cargo:warning=no {}: write it by `rt staticlib kernels`",
+            "cargo:warning=no {}: write it by `tools/archive kernels`",
             archive.display()
         );
     }

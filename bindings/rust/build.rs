@@ -1,5 +1,5 @@
 //! Links the library through the layer that sets the floating point: libsedgepick.a of the folder that SEDGEPICK_LIB names; where that has liblibrary.a alone, as
-//! the folder that `rt staticlib library` writes to, libsedgepick.a is made of it by tools/shared, which needs a C compiler and binutils.
+//! the folder that `tools/archive library` writes to, libsedgepick.a is made of it by tools/shared, which needs a C compiler and binutils.
 
 use std::path::{Path, PathBuf};
 use std::process::Command;
@@ -30,7 +30,7 @@ fn guarded(root: &Path, archive: &Path) -> PathBuf {
     let out = PathBuf::from(std::env::var_os("OUT_DIR").expect("cargo sets OUT_DIR"));
     println!("cargo:rerun-if-changed={}", archive.display());
     if !archive.is_file() {
-        println!("cargo:warning=no {}: write it by `rt staticlib library`, or name in SEDGEPICK_LIB a folder that has it or {GUARDED}", archive.display());
+        println!("cargo:warning=no {}: write it by `tools/archive library`, or name in SEDGEPICK_LIB a folder that has it or {GUARDED}", archive.display());
         return out;
     }
     let made = Command::new(root.join("tools/shared"))

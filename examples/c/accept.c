@@ -1,6 +1,6 @@
 /* Judges two meshes against a square of two triangles: one quad, and the same quad with one corner moved.
  *
- *   rt staticlib library
+ *   tools/archive library
  *   cc -Iinclude examples/c/accept.c target/staticlib/liblibrary.a -o accept && ./accept
  */
 #include <sedgepick.h>

@@ -1,6 +1,6 @@
 /* A mesh, the same mesh listed otherwise, and one that stands behind both.
  *
- *   rt staticlib library
+ *   tools/archive library
  *   cc -Iinclude examples/c/filing.c target/staticlib/liblibrary.a -o filing && ./filing
  */
 #include <sedgepick.h>

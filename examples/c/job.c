@@ -1,6 +1,6 @@
 /* Three slabs under one attempt allowance: a square, a triangle that is refused, a row of four squares.
  *
- *   rt staticlib library
+ *   tools/archive library
  *   cc -Iinclude examples/c/job.c target/staticlib/liblibrary.a -o job && ./job
  */
 #include <sedgepick.h>

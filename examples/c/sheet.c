@@ -1,6 +1,6 @@
 /* The quality sheet of a square and of the same quad turned over, which has no metrics.
  *
- *   rt staticlib library
+ *   tools/archive library
  *   cc -Iinclude examples/c/sheet.c target/staticlib/liblibrary.a -o sheet && ./sheet
  */
 #include <sedgepick.h>

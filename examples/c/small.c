@@ -1,6 +1,6 @@
 /* Every list of one to three different triangles on four points, a line each.
  *
- *   rt staticlib library
+ *   tools/archive library
  *   cc -Iinclude examples/c/small.c target/staticlib/liblibrary.a -o small && ./small
  */
 #include <sedgepick.h>

@@ -1,6 +1,6 @@
 /* The unit square, two triangles, becomes one quad.
  *
- *   rt staticlib library
+ *   tools/archive library
  *   cc -Iinclude examples/c/square.c target/staticlib/liblibrary.a -o square && ./square
  */
 #include <sedgepick.h>

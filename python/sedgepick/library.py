@@ -83,7 +83,7 @@ def open_library() -> ctypes.CDLL:
     path = next((place for place in places() if os.path.exists(place)), None)
     if path is None:
         raise NoLibrary(
-            '%s is not there; looked for: %s. In a checkout `rt staticlib library && tools/shared` '
+            '%s is not there; looked for: %s. In a checkout `tools/archive library && tools/shared` '
             'makes it; %s names another place'
             % (SONAME, ', '.join(places()), VARIABLE)
         )

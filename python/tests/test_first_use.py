@@ -7,17 +7,20 @@ if [ "$1" = version ]; then
     cat "$RT_FOLDER/version"
     exit 0
 fi
-[ "$*" = 'staticlib library' ] || exit 2
+[ "$*" = lib ] && [ "${PWD##*/}" = library ] || exit 2
 echo call >>"$RT_FOLDER/calls"
-echo 'rt: one proved (unchanged since it was last proved)'
-echo 'logic=proved functions=2'
-echo 'rt: two proved (3 s)'
-[ ! -f "$RT_FOLDER/fails" ] || { echo 'rt: library: not proved: a hole'; exit 1; }
-echo 'rt: library proved (2 s)' >&2
-mkdir -p target/staticlib
-cp "$RT_ARCHIVE" target/staticlib/liblibrary.a
+echo 'rt: chose --jobs 2 for one'
+echo 'fn one::one: proved'
+echo 'logic=proved functions=2 sum=0'
+echo 'rt: chose --jobs 2 for two'
+echo 'logic=proved functions=1 sum=0'
+echo 'rt: chose --jobs 2 for library'
+[ ! -f "$RT_FOLDER/fails" ] || { echo 'fn library::library: not proved: a hole'; echo 'logic=not-proved'; exit 1; }
+echo 'logic=proved functions=1 target=x86_64-unknown-linux-gnu sum=0' >&2
+mkdir -p out
+cp "$RT_ARCHIVE" out/liblibrary.a
 '''
-CRATES = '# what is believed\none:\ntwo: one\nother: one\nlibrary: one two\n'
+CRATES = '# what is believed\none:\ntwo: one\nother: one\nlibrary staticlib: one two\n'
 
 
 def setUpModule():
@@ -95,7 +98,7 @@ class FirstUse(unittest.TestCase):
         self.put('kit/fails', '')
         ran = self.run_in('sedgepick-mesh', '--demo')
         self.assertEqual(ran.returncode, 1)
-        self.assertRegex(ran.stderr, 'not proved: a hole\n.*target/library.log has all')
+        self.assertRegex(ran.stderr, 'not proved: a hole\n(?:.*\n)*.*target/library.log has all')
         self.assertFalse(os.path.exists(os.path.join(self.root, 'target/staticlib/library.stamp')))
         self.assertEqual(ran.stdout, '')
 

@@ -4,9 +4,9 @@ import re
 
 ROOT = os.path.dirname(os.path.dirname(os.path.dirname(os.path.abspath(__file__))))
 SPECS = ROOT + '/crates/definition/specs/'
-IEEE = 'add sub mul div neg lt le eq ofBits toBits ieee-round ieee-size'
+IEEE = 'add sub mul div neg lt le eq of_bits to_bits ieee_round ieee_size'
 # the walks over edges, loops and rounds, which a chain of attempts keeps shut
-WALKS = ['front-loop', 'try-edges', 'try-loops', 'round']
+WALKS = ['front_loop', 'try_edges', 'try_loops', 'round']
 
 
 def names():
@@ -21,6 +21,11 @@ def literal(data):
     for c in data.decode('latin1'):
         out += {'\n': '\\n', '"': '\\"', '\\': '\\\\'}.get(c, c)
     return '"' + out + '"'
+
+
+def named(name):
+    """the theorem's name of a stored case: words of the logic are joined by _"""
+    return name.replace('-', '_')
 
 
 def answer(name):

@@ -1,25 +1,21 @@
 #!/usr/bin/env python3
 """runs.py: writes crates/runs/specs from answers/computed.txt: a theorem by one computation for each small answer, and for each stored call."""
-from common import ROOT, answer, call_answer, literal, listed, write
+from common import ROOT, answer, call_answer, literal, listed, named, write
 
 EACH = 20
 HEAD = '''-- Answers of the Rust, each one theorem by computation: `reply` of the input is the output. Made by tools/computed/runs.py from answers/small.
-use mathlib.Core.Path.{_≡_, refl}
-use Rattle·definition.specs.Text.{bytes, reply}
-use Rattle·vectors.specs.Opened.{opened}
+use Rattle.std.specs.Prelude.{◌≡◌, refl}
+use Rattle.definition.specs.Text.{bytes, reply}
+use Rattle.vectors.specs.Opened.{opened}
 '''
 CALLS = '''-- Calls that end for want of lent memory, each one theorem by computation: what is answered, and what every slice holds at exit.
 -- Made by tools/computed/runs.py from answers/calls. At entry the outputs and the work hold numbers of no meaning.
-use mathlib.Core.Path.{_≡_, refl}
-use mathlib.Core.Bool.{false}
-use mathlib.Core.List.{List, [], _∷_, _++_, map}
-use Prim.Native.Nat.{ℕ, _+_, _*_, _-_}
-use lib.ListN.{length, replicate}
-use lib.Ieee.{Float, nan}
-use Rattle·definition.specs.Floats.{f64, 0·0}
-use Rattle·definition.specs.Numbers.{base}
-use Rattle·definition.specs.Call.{Asked, Lent, refusal, call}
-use Rattle·vectors.specs.Opened.{opened}
+use Rattle.std.specs.Prelude.{◌≡◌, refl, false, List, [], ◌∷◌, ◌++◌, map, ℕ, ◌+◌, ◌*◌, ◌-◌, length, replicate, Float}
+use Rattle.std.specs.Float.{nan}
+use Rattle.definition.specs.Floats.{f64, 0·0}
+use Rattle.definition.specs.Numbers.{base}
+use Rattle.definition.specs.Call.{Asked, Lent, refusal, call}
+use Rattle.vectors.specs.Opened.{opened}
 
 -- the slices: points so far with the rest of the capacity, triangles, quads so far with the rest, and what the others hold
 abbrev lent : ℕ → ℕ → List ℕ → List ℕ → List ℕ → ℕ → Float → Lent
@@ -29,10 +25,10 @@ lent capacity slots points triangles quads d f =
       triangles = triangles;
       joints = [];
       quads = quads ++ replicate (8 * slots - length quads) 7;
-      triangles-out = replicate (3 * slots) 7;
+      triangles_out = replicate (3 * slots) 7;
       components = replicate slots 7;
       work = replicate (64 * slots + 8 * capacity) d;
-      float-work = replicate (4 * slots) f;
+      float_work = replicate (4 * slots) f;
       trace = [];
     }
 '''
@@ -50,13 +46,13 @@ def call_theorem(name):
     asked = 'record { given = %d; capacity = %s; count = %d; slots = %s; joints = 0; size = f64 0x%s; stop = %s; quality = base; grid = false }' % (
         len(c['given']) // 3, c['capacity'], len(c['triangles']) // 3, c['slots'], c['size'], c['stop'])
     return '''
-asked-%(n)s : Asked
-asked-%(n)s = %(asked)s
+asked_%(n)s : Asked
+asked_%(n)s = %(asked)s
 
-%(n)s : call asked-%(n)s (%(entry)s) ≡ record { answer = refusal %(number)s; lent = %(left)s }
-unfolding opened asked-%(n)s
+%(n)s : call asked_%(n)s (%(entry)s) ≡ record { answer = refusal %(number)s; lent = %(left)s }
+unfolding opened asked_%(n)s
 %(n)s = refl
-''' % dict(n=name, asked=asked, entry=entry, left=left, number=c['refused'])
+''' % dict(n=named(name), asked=asked, entry=entry, left=left, number=c['refused'])
 
 
 plain, calls = listed(''), listed('call')
@@ -65,9 +61,9 @@ for k, part in enumerate(files):
     text = HEAD
     for name in part:
         given, expected = answer(name)
-        text += '\n%s : reply (bytes %s) ≡ bytes %s\nunfolding opened\n%s = refl\n' % (name, literal(given), literal(expected), name)
+        text += '\n%s : reply (bytes %s) ≡ bytes %s\nunfolding opened\n%s = refl\n' % (named(name), literal(given), literal(expected), named(name))
     write(ROOT + '/crates/runs/specs/Answers%d.antt' % k, text)
 write(ROOT + '/crates/runs/specs/Calls.antt', CALLS + ''.join(call_theorem(c) for c in calls))
 write(ROOT + '/crates/runs/specs/Lib.antt', ''.join('pub mod Answers%d\n' % k for k in range(len(files))) + 'pub mod Calls\n')
-write(ROOT + '/crates/runs/src/lib.rt', '// Small answers of the Rust as theorems of specs/; this crate has no functions.\n')
+write(ROOT + '/crates/runs/src/lib.rt', '// Small answers of the Rust as theorems of specs/; this crate has no functions.\n#![tactic(auto)]\n')
 print(len(plain), 'runs,', len(calls), 'calls')

@@ -8,21 +8,16 @@ mod positions;
 mod runs;
 mod stored;
 
-fn number(n: u64) {
-    io::print_decimal(1, n);
-}
+use std::io;
 
-fn main() {
+fn main(rt: HostRuntime) -> io::Result<()> {
     let three = lists::meshed(3, &stored::THREE);
     let four = lists::meshed(4, &stored::FOUR);
     let five = lists::meshed(5, &stored::FIVE);
     let made = three.made + four.made + five.made;
     let agreed = three.agreed + four.agreed + five.agreed;
-    io::write_all(1, b"lists runs agreed\n");
-    number(made);
-    io::write_all(1, b" ");
-    number(made * runs::SETTINGS as u64);
-    io::write_all(1, b" ");
-    number(agreed * runs::SETTINGS as u64);
-    io::write_all(1, b"\n");
+    let runs_made = made * runs::SETTINGS as u64;
+    let runs_agreed = agreed * runs::SETTINGS as u64;
+    println!(rt; "lists runs agreed")?;
+    println!(rt; "{made} {runs_made} {runs_agreed}")
 }

@@ -4,7 +4,9 @@
 mod cases;
 mod compare;
 
-fn main() {
-    io::print_decimal(1, cases::agreed());
-    io::write_all(1, b"\n");
+use std::io;
+
+fn main(rt: HostRuntime) -> io::Result<()> {
+    let agreed = cases::agreed();
+    println!(rt; "{agreed}")
 }

@@ -1,20 +1,34 @@
 // Reads a mesh as text from standard input, and writes what run_front makes of it, or the number of a refusal.
 #![tactic(auto)]
 
+ghost use Rattle.std.specs.Prelude.{◌≤◌, length, IfOk};
+
 use replies::WRITTEN;
+use std::io;
+use std::io::{Read, Write};
 
 // The bytes that are read: one more than a text may have, so that a longer one is seen to be longer.
 const READ: usize = 8193;
 
-// Standard input and standard output.
-const INPUT: i32 = 0;
+// Reads until the buffer is full or the input ends; how many bytes were read.
+fn read_full<R: Read>(input: &mut R, buf: &mut [u8]) -> io::Result<usize>
+    ensures { IfOk result (λ n. n ≤ length buf.new) }
+{
+    let mut done = 0;
+    while done < buf.len() {
+        let n = input.read(&mut buf[done..])?;
+        if n == 0 {
+            break;
+        }
+        done += n;
+    }
+    Ok(done)
+}
 
-const OUTPUT: i32 = 1;
-
-fn main() {
+fn main(rt: HostRuntime) -> io::Result<()> {
     let mut text = [0u8; READ];
-    let n = io::read_full(INPUT, &mut text);
+    let n = read_full(&mut rt.stdin(), &mut text)?;
     let mut out = [0u8; WRITTEN];
     let m = replies::reply(&text[..n], &mut out);
-    io::write_all(OUTPUT, &out[..m]);
+    rt.stdout().write_all(&out[..m])
 }
