@@ -1,9 +1,9 @@
 -- A triangle turned over has the corners of the triangle, each with its two sides exchanged, and their cosines.
 -- The clause on thin triangles asks the same of the leftover triangles as they are handed in
 -- and of them turned upright.
-use Rattle.laws.specs.Kit.{◌≡◌, refl, sym, ap, ap₂, subst, inl, inr, Bool, true, false, not, ◌&&◌, ◌||◌, ℕ, ◌*◌, ◌^◌, leb, ℤ, List, Float}
+use Rattle.laws.specs.Kit.{refl, sym, ap, ap₂, subst, inl, inr, Bool, true, false, not, ℕ, leb, ℤ, List, Float}
 use Rattle.std.proofs.Common.{mul_comm}
-use Rattle.std.specs.Prelude.{◌+ℤ◌}
+use Rattle.std.specs.Prelude.{◌+ℤ◌, ◌≡◌, ◌&&◌, ◌||◌, ◌*◌, ◌^◌}
 use Rattle.std.proofs.Math.IntN.{*ℤ_comm}
 use Rattle.definition.specs.Lists.{all}
 use Rattle.definition.specs.Floats.{◌≺◌, 1·0}

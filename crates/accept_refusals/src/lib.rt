@@ -1,7 +1,7 @@
 // The refusals that open a call of the acceptance: they read what is handed in, and touch nothing.
 #![tactic(auto)]
 
-mod cells;
+mod lent_cells;
 mod nodes;
 
 ghost use Rattle.std.specs.Prelude.{◌≡◌, not, ◌&&◌};

@@ -5,7 +5,7 @@ ghost use Rattle.definition.specs.Call.{bad_joint};
 ghost use Rattle.accept_refusals.specs.Stated.{unknown, repeated, far, joints_bad, LongCells, LongPoints};
 
 use crate::Stated;
-use crate::cells::{far_in, repeated_corner, repeated_in, unknown_corner, unknown_in};
+use crate::lent_cells::{far_in, repeated_corner, repeated_in, unknown_corner, unknown_in};
 use words::wide;
 
 // 5: a node of a cell is none of its points.

@@ -1,5 +1,6 @@
 -- On the grid of 1 / 1024 a flip keeps the triangles' summed area, and a quad has that of the triangles it replaces.
-use Rattle.laws.specs.Kit.{◌≡◌, sym, ◌∙◌, ap, ap₂, ◌≢◌, ◌⊎◌, inl, inr, not, ◌&&◌, some, ℕ, ◌+◌, ◌≤◌, arith, eqb, List, [], ◌∷◌, ◌++◌}
+use Rattle.std.specs.Prelude.{◌≡◌, ◌≢◌, ◌⊎◌, ◌&&◌, ◌+◌, ◌≤◌, ◌∷◌, ◌++◌}
+use Rattle.laws.specs.Kit.{sym, ◌∙◌, ap, ap₂, inl, inr, not, some, ℕ, arith, eqb, List, []}
 use Rattle.definition.specs.Plane.{Node, Edge, point}
 use Rattle.definition.specs.Cells.{Tri, Quad, Live, Mesh, node_at, all_edges, tris_of}
 use Rattle.definition.specs.Flips.{third, apart, convex_pair}

@@ -1,6 +1,7 @@
 -- How many attempts a run makes: no more than its limit,
 -- and one that the limit on attempts ended counted exactly one more.
-use Rattle.laws.specs.Kit.{◌≡◌, refl, sym, ◌∙◌, ap, subst, ◌⊎◌, inl, inr, Bool, ℕ, ◌+◌, ◌-◌, ◌*◌, ◌<◌, ◌≤◌, arith, ltb, ltb-true, ltb-false, List, length}
+use Rattle.std.specs.Prelude.{◌≡◌, ◌⊎◌, ◌+◌, ◌-◌, ◌*◌, ◌<◌, ◌≤◌}
+use Rattle.laws.specs.Kit.{refl, sym, ◌∙◌, ap, subst, inl, inr, Bool, ℕ, arith, ltb, ltb-true, ltb-false, List, length}
 use Rattle.definition.specs.Numbers.{Settings, max_attempts, max_triangles}
 use Rattle.definition.specs.Counts.{Counts, tally, ◌⊞◌, no_counts, emptied, one_attempt, Spent, spending, at_limit, Refusal, Placement, Shape, Recovery, Region, OddRegion, refused_by, Want}
 use Rattle.definition.specs.Plane.{Node, Edge}

@@ -1,5 +1,6 @@
 -- The classes that the definition joins are the components: they partition the triangles, are connected by chains,
-use Rattle.laws.specs.Kit.{◌≡◌, refl, sym, ◌∙◌, ap, subst, ◌⊎◌, inl, inr, Bool, true, false, not, ◌+◌, ◌<◌, arith, not-true, List, [], ◌∷◌, ◌++◌, length}
+use Rattle.std.specs.Prelude.{◌≡◌, ◌⊎◌, ◌+◌, ◌<◌, ◌∷◌, ◌++◌}
+use Rattle.laws.specs.Kit.{refl, sym, ◌∙◌, ap, subst, inl, inr, Bool, true, false, not, arith, not-true, List, [], length}
 use Rattle.definition.specs.Lists.{filter, flat_map, concat}
 use Rattle.definition.specs.Cells.{Tri}
 use Rattle.definition.specs.Components.{share_edge, meets, join, classes}

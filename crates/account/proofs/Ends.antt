@@ -1,5 +1,6 @@
 -- The third node of a triangle on an edge, and the ends of a cell's edges.
-use Rattle.laws.specs.Kit.{◌≡◌, refl, sym, ◌∙◌, ap, subst, ◌≢◌, ◌⊎◌, inl, inr, true, false, ℕ, min, max, ◌<◌, arith, dec_le, eqb, eq-eqb, ne_eqb}
+use Rattle.std.specs.Prelude.{◌≡◌, ◌≢◌, ◌⊎◌, ◌<◌}
+use Rattle.laws.specs.Kit.{refl, sym, ◌∙◌, ap, subst, inl, inr, true, false, ℕ, min, max, arith, dec_le, eqb, eq-eqb, ne_eqb}
 use Rattle.definition.specs.Plane.{Edge}
 use Rattle.definition.specs.Cells.{Tri, Quad, tri, quad, Live, key, tri_edges, quad_edges, same_edge, has_edge_in, tri_has, has_side, owns}
 use Rattle.definition.specs.Flips.{off_edge, third}

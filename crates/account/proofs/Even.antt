@@ -1,5 +1,6 @@
 -- Evenness by closed sets: all components of a list are even exactly where every set that no shared edge leaves
-use Rattle.laws.specs.Kit.{◌≡◌, refl, sym, ◌∙◌, ap, subst, ◌≢◌, ◌⊎◌, inl, inr, Bool, true, false, not, ◌&&◌, cond, ℕ, zero, suc, List, [], ◌∷◌, ◌++◌}
+use Rattle.std.specs.Prelude.{◌≡◌, ◌≢◌, ◌⊎◌, ◌&&◌, ◌∷◌, ◌++◌}
+use Rattle.laws.specs.Kit.{refl, sym, ◌∙◌, ap, subst, inl, inr, Bool, true, false, not, cond, ℕ, zero, suc, List, []}
 use Rattle.definition.specs.Lists.{filter}
 use Rattle.definition.specs.Cells.{Tri, tri_has}
 use Rattle.definition.specs.Account.{Rearranged}

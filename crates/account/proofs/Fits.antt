@@ -1,5 +1,6 @@
 -- How many there can be: live cells, quads and components, against the slots in use.
-use Rattle.laws.specs.Kit.{refl, ◌∙◌, ap, ◌≢◌, inl, inr, ℕ, ◌+◌, ◌<◌, ◌≤◌, arith, List, [], ◌∷◌, map, length, length-append, length-map}
+use Rattle.std.specs.Prelude.{◌≢◌, ◌+◌, ◌<◌, ◌≤◌, ◌∷◌}
+use Rattle.laws.specs.Kit.{refl, ◌∙◌, ap, inl, inr, ℕ, arith, List, [], map, length, length-append, length-map}
 use Rattle.definition.specs.Lists.{flat_map, below}
 use Rattle.definition.specs.Numbers.{Settings}
 use Rattle.definition.specs.Cells.{Tri, Cell, tri, quad, Live, Mesh, tri_of, tris_of, triangles}

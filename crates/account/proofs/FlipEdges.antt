@@ -1,5 +1,6 @@
 -- Of the edges after a flip only the new diagonal is new.
-use Rattle.laws.specs.Kit.{◌≡◌, sym, ◌∙◌, ap, subst, ◌⊎◌, inl, inr, ℕ, ◌<◌, arith, List, [], ◌∷◌, ◌++◌}
+use Rattle.std.specs.Prelude.{◌≡◌, ◌⊎◌, ◌<◌, ◌∷◌, ◌++◌}
+use Rattle.laws.specs.Kit.{sym, ◌∙◌, ap, subst, inl, inr, ℕ, arith, List, []}
 use Rattle.definition.specs.Plane.{Edge}
 use Rattle.definition.specs.Cells.{Tri, Live, Mesh, all_edges}
 use Rattle.definition.specs.Flips.{third}

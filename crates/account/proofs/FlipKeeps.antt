@@ -1,5 +1,6 @@
 -- A flip keeps a mesh valid and, where all components were even, even.
-use Rattle.laws.specs.Kit.{◌≡◌, refl, sym, ◌∙◌, ap, subst, ◌≢◌, ◌⊎◌, inl, inr, true, ℕ, ◌<◌, arith, List, [], ◌∷◌, ◌++◌, append_assoc, length}
+use Rattle.std.specs.Prelude.{◌≡◌, ◌≢◌, ◌⊎◌, ◌<◌, ◌∷◌, ◌++◌}
+use Rattle.laws.specs.Kit.{refl, sym, ◌∙◌, ap, subst, inl, inr, true, ℕ, arith, List, [], append_assoc, length}
 use Rattle.definition.specs.Lists.{flat_map}
 use Rattle.definition.specs.Plane.{Edge}
 use Rattle.definition.specs.Cells.{Tri, Quad, Cell, tri, quad, Live, Mesh, new_live, edges, owns, owners, all_edges, tri_of, tris_of, with_live, noting, without, set_cell}

@@ -1,5 +1,6 @@
 -- The two walks over triangles end because their work is done: no slot is taken twice,
-use Rattle.laws.specs.Kit.{◌≡◌, refl, sym, ◌∙◌, ap, subst, ◌≢◌, inl, inr, true, false, not, ◌&&◌, Option, none, some, ℕ, zero, suc, ◌+◌, ◌≤◌, arith, eq-eqb, not-true, List, [], ◌∷◌, ◌++◌, foldl, append_assoc, length, length-append, Float}
+use Rattle.std.specs.Prelude.{◌≡◌, ◌≢◌, ◌&&◌, ◌+◌, ◌≤◌, ◌∷◌, ◌++◌}
+use Rattle.laws.specs.Kit.{refl, sym, ◌∙◌, ap, subst, inl, inr, true, false, not, Option, none, some, ℕ, zero, suc, arith, eq-eqb, not-true, List, [], foldl, append_assoc, length, length-append, Float}
 use Rattle.definition.specs.Lists.{any}
 use Rattle.definition.specs.Plane.{Node, Edge}
 use Rattle.definition.specs.Cells.{Live, Mesh, live_tri, in_slot, cell_of, without, among}

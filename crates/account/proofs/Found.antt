@@ -1,5 +1,6 @@
 -- The cells that searches find are live: the live region, the holder of a point,
-use Rattle.laws.specs.Kit.{◌≡◌, refl, sym, ◌∙◌, subst, ◌⊎◌, inl, inr, true, false, not, ◌&&◌, Option, none, some, ℕ, zero, suc, eqb-true, List, [], ◌∷◌, ◌++◌, foldl, Float}
+use Rattle.std.specs.Prelude.{◌≡◌, ◌⊎◌, ◌&&◌, ◌∷◌, ◌++◌}
+use Rattle.laws.specs.Kit.{refl, sym, ◌∙◌, subst, inl, inr, true, false, not, Option, none, some, ℕ, zero, suc, eqb-true, List, [], foldl, Float}
 use Rattle.definition.specs.Floats.{◌⊗◌}
 use Rattle.definition.specs.Numbers.{insert_reach}
 use Rattle.definition.specs.Plane.{Node, Edge}

@@ -1,5 +1,6 @@
 -- The edges that are tried are edges of the front.
-use Rattle.laws.specs.Kit.{◌≡◌, sym, ◌∙◌, ap, subst, ◌⊎◌, inl, inr, true, not, ℕ, zero, suc, ◌<◌, eqb, List, [], ◌∷◌, ◌++◌, map, length}
+use Rattle.std.specs.Prelude.{◌≡◌, ◌⊎◌, ◌<◌, ◌∷◌, ◌++◌}
+use Rattle.laws.specs.Kit.{sym, ◌∙◌, ap, subst, inl, inr, true, not, ℕ, zero, suc, eqb, List, [], map, length}
 use Rattle.definition.specs.Lists.{filter, find, sort, flat_map, concat, below}
 use Rattle.definition.specs.Plane.{Node, Edge}
 use Rattle.definition.specs.Cells.{Mesh, touches, tri_edges, tris_of, has_node, cells_at, front_from, front_at, front, is_front, edge_before}

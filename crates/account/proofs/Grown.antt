@@ -1,5 +1,6 @@
 -- Births: the quad that an attempt places grew from the edge of the attempt.
-use Rattle.laws.specs.Kit.{◌≡◌, refl, sym, ◌∙◌, ap, subst, inl, inr, true, false, ◌&&◌, ◌||◌, Option, none, some, ℕ, ◌+◌, min, max, ◌<◌, arith, ltb, List, [], ◌∷◌}
+use Rattle.std.specs.Prelude.{◌≡◌, ◌&&◌, ◌||◌, ◌+◌, ◌<◌, ◌∷◌}
+use Rattle.laws.specs.Kit.{refl, sym, ◌∙◌, ap, subst, inl, inr, true, false, Option, none, some, ℕ, min, max, arith, ltb, List, []}
 use Rattle.definition.specs.Lists.{flat_map, contains}
 use Rattle.definition.specs.Floats.{◌≼◌}
 use Rattle.definition.specs.Numbers.{Settings, Quality, first_turn, second_turn, tiny_length}

@@ -1,5 +1,6 @@
 -- What holds of every mesh and state of a run, in one record; and that the lists which come back fit their slices.
-use Rattle.laws.specs.Kit.{◌≡◌, refl, sym, ◌∙◌, ap, subst, Bool, ℕ, ◌+◌, ◌≤◌, arith, List, [], length}
+use Rattle.std.specs.Prelude.{◌≡◌, ◌+◌, ◌≤◌}
+use Rattle.laws.specs.Kit.{refl, sym, ◌∙◌, ap, subst, Bool, ℕ, arith, List, [], length}
 use Rattle.definition.specs.Numbers.{Settings}
 use Rattle.definition.specs.Counts.{Counts, Want}
 use Rattle.definition.specs.Plane.{Node, Edge}

@@ -1,5 +1,6 @@
 -- The joints of a call: those that the given triangles have are found in what comes back.
-use Rattle.laws.specs.Kit.{◌≡◌, refl, ◌∙◌, ap, ap₂, inl, inr, Bool, true, false, not, ◌&&◌, cond, none, some, ℕ, ◌*◌, ◌≤◌, le-ltb, List, [], ◌∷◌, length}
+use Rattle.std.specs.Prelude.{◌≡◌, ◌&&◌, ◌*◌, ◌≤◌, ◌∷◌}
+use Rattle.laws.specs.Kit.{refl, ◌∙◌, ap, ap₂, inl, inr, Bool, true, false, not, cond, none, some, ℕ, le-ltb, List, [], length}
 use Rattle.definition.specs.Lists.{any, all, find, table, numbers, below}
 use Rattle.definition.specs.Plane.{Edge}
 use Rattle.definition.specs.Cells.{Quad, Live, Mesh, key, same_edge, has_edge_in, tri_edges, quad_edges, edges, is_locked}

@@ -1,5 +1,6 @@
 -- Every finished call keeps its account, given what is asked of exact geometry.
-use Rattle.laws.specs.Kit.{◌≡◌, refl, sym, subst, Bool, false, ℕ, ◌≤◌, arith, eq-eqb, List, length}
+use Rattle.std.specs.Prelude.{◌≡◌, ◌≤◌}
+use Rattle.laws.specs.Kit.{refl, sym, subst, Bool, false, ℕ, arith, eq-eqb, List, length}
 use Rattle.definition.specs.Numbers.{Quality}
 use Rattle.definition.specs.Counts.{Counts}
 use Rattle.definition.specs.Plane.{Edge, Node}

@@ -1,5 +1,6 @@
 -- Every edge of the front is listed once, so the front has at most three edges for each slot in use.
-use Rattle.laws.specs.Kit.{◌≡◌, refl, sym, ◌∙◌, ap, ◌≢◌, inl, inr, Bool, true, ℕ, zero, suc, ◌+◌, ◌*◌, min, max, ◌<◌, ◌≤◌, arith, ℕ_discrete, eqb, leb, eqb-true, List, [], ◌∷◌, ◌++◌, length}
+use Rattle.std.specs.Prelude.{◌≡◌, ◌≢◌, ◌+◌, ◌*◌, ◌<◌, ◌≤◌, ◌∷◌, ◌++◌}
+use Rattle.laws.specs.Kit.{refl, sym, ◌∙◌, ap, inl, inr, Bool, true, ℕ, zero, suc, min, max, arith, ℕ_discrete, eqb, leb, eqb-true, List, [], length}
 use Rattle.definition.specs.Lists.{filter, flat_map, numbers, below}
 use Rattle.definition.specs.Plane.{Edge}
 use Rattle.definition.specs.Cells.{Tri, Cell, tri, quad, Live, Mesh, key, tri_edges, same_edge, edge_before, is_tri, live_tri, owns, has_node, cells_at, tri_of, tris_of, front_owners, front_from, front_at, front}

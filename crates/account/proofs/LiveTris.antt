@@ -1,5 +1,6 @@
 -- How many triangles are live: a flip keeps the number, a split adds two, a quad takes away its region.
-use Rattle.laws.specs.Kit.{◌≡◌, refl, sym, ◌∙◌, ap, subst, ◌≢◌, true, Option, none, some, ℕ, suc, ◌+◌, ◌≤◌, arith, eq-eqb, eqb-true, List, [], ◌∷◌, ◌++◌, length, length-append}
+use Rattle.std.specs.Prelude.{◌≡◌, ◌≢◌, ◌+◌, ◌≤◌, ◌∷◌, ◌++◌}
+use Rattle.laws.specs.Kit.{refl, sym, ◌∙◌, ap, subst, true, Option, none, some, ℕ, suc, arith, eq-eqb, eqb-true, List, [], length, length-append}
 use Rattle.definition.specs.Lists.{filter, flat_map}
 use Rattle.definition.specs.Plane.{Node, Edge}
 use Rattle.definition.specs.Cells.{Tri, Quad, Cell, tri, quad, Live, Mesh, quad_edges, is_tri, live_tri, in_slot, cell_of, live_tris, all_edges, tri_of, tris_of, among, without_all}

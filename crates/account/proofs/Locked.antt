@@ -1,5 +1,6 @@
 -- A locked edge of the given triangles is an edge of the finished mesh.
-use Rattle.laws.specs.Kit.{◌≡◌, refl, sym, ◌∙◌, ap, subst, ◌≢◌, ◌⊎◌, inl, inr, Bool, true, false, not, Option, none, some, ℕ, min, max, ◌<◌, arith, eqb, eqb-true, eqb-false, List, [], ◌∷◌, ◌++◌}
+use Rattle.std.specs.Prelude.{◌≡◌, ◌≢◌, ◌⊎◌, ◌<◌, ◌∷◌, ◌++◌}
+use Rattle.laws.specs.Kit.{refl, sym, ◌∙◌, ap, subst, inl, inr, Bool, true, false, not, Option, none, some, ℕ, min, max, arith, eqb, eqb-true, eqb-false, List, []}
 use Rattle.definition.specs.Lists.{all}
 use Rattle.definition.specs.Numbers.{Settings}
 use Rattle.definition.specs.Plane.{Node, Edge}

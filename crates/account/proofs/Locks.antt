@@ -1,5 +1,6 @@
 -- Which edges are locked is given once: no step of a run changes it.
-use Rattle.laws.specs.Kit.{◌≡◌, refl, ◌∙◌, ap, cond, Option, none, some, ℕ, ◌+◌, ltb, leb, List, [], ◌∷◌, length, Float}
+use Rattle.std.specs.Prelude.{◌≡◌, ◌+◌, ◌∷◌}
+use Rattle.laws.specs.Kit.{refl, ◌∙◌, ap, cond, Option, none, some, ℕ, ltb, leb, List, [], length, Float}
 use Rattle.definition.specs.Floats.{◌⊗◌}
 use Rattle.definition.specs.Numbers.{Settings, node_spacing, insert_shares}
 use Rattle.definition.specs.Counts.{of_points, of_slots, of_trace}

@@ -1,5 +1,6 @@
 -- An edge that is on the front when an attempt on it begins keeps an odd number of triangles
-use Rattle.laws.specs.Kit.{◌≡◌, refl, sym, subst, ◌≢◌, inl, inr, true, ◌&&◌, Option, none, some, ℕ, ◌+◌, ◌<◌, arith, ltb, List, [], ◌∷◌, ◌++◌, length}
+use Rattle.std.specs.Prelude.{◌≡◌, ◌≢◌, ◌&&◌, ◌+◌, ◌<◌, ◌∷◌, ◌++◌}
+use Rattle.laws.specs.Kit.{refl, sym, subst, inl, inr, true, Option, none, some, ℕ, arith, ltb, List, [], length}
 use Rattle.definition.specs.Lists.{filter, first}
 use Rattle.definition.specs.Numbers.{Settings}
 use Rattle.definition.specs.Counts.{Refusal, Placement, Shape, Recovery, Region, OddRegion, Spent, trying}

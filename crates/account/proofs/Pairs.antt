@@ -1,5 +1,6 @@
 -- The acceptable pairs of an attempt, which it ranks, cuts to the permitted number and tries in turn;
-use Rattle.laws.specs.Kit.{◌≡◌, refl, sym, subst, inl, inr, true, false, ◌||◌, cond, Option, none, some, ℕ, List, [], ◌∷◌, take}
+use Rattle.std.specs.Prelude.{◌≡◌, ◌||◌, ◌∷◌}
+use Rattle.laws.specs.Kit.{refl, sym, subst, inl, inr, true, false, cond, Option, none, some, ℕ, List, [], take}
 use Rattle.definition.specs.Lists.{sort, flat_map}
 use Rattle.definition.specs.Floats.{◌≼◌}
 use Rattle.definition.specs.Numbers.{Settings, Quality, Turn, first_turn, second_turn, tiny_length}

@@ -1,5 +1,6 @@
 -- Births: the first quad of a run was placed in round 1, the next in round 2, and so on.
-use Rattle.laws.specs.Kit.{◌≡◌, refl, sym, ◌∙◌, ap, subst, inl, inr, Bool, true, false, not, some, ℕ, zero, suc, ◌+◌, arith, eqb, eqb-true, not-false, List, [], ◌∷◌, ◌++◌, map, append-nil, length, get_or, drop, length-append, length-map}
+use Rattle.std.specs.Prelude.{◌≡◌, ◌+◌, ◌∷◌, ◌++◌}
+use Rattle.laws.specs.Kit.{refl, sym, ◌∙◌, ap, subst, inl, inr, Bool, true, false, not, some, ℕ, zero, suc, arith, eqb, eqb-true, not-false, List, [], map, append-nil, length, get_or, drop, length-append, length-map}
 use Rattle.definition.specs.Lists.{filter, numbers}
 use Rattle.definition.specs.Numbers.{Settings}
 use Rattle.definition.specs.Plane.{Node, Edge}

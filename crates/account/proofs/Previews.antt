@@ -1,5 +1,6 @@
 -- Preview: it leaves every slice but the work; its edge has no order;
-use Rattle.laws.specs.Kit.{◌≡◌, refl, ◌∙◌, ap, ◌⊎◌, inl, inr, true, false, ◌||◌, Option, none, some, ℕ, suc, ◌+◌, ◌*◌, ◌<◌, ◌≤◌, arith, ne_eqb, le-ltb, List, [], ◌∷◌, length}
+use Rattle.std.specs.Prelude.{◌≡◌, ◌⊎◌, ◌||◌, ◌+◌, ◌*◌, ◌<◌, ◌≤◌, ◌∷◌}
+use Rattle.laws.specs.Kit.{refl, ◌∙◌, ap, inl, inr, true, false, Option, none, some, ℕ, suc, arith, ne_eqb, le-ltb, List, [], length}
 use Rattle.definition.specs.Lists.{find}
 use Rattle.definition.specs.Numbers.{Settings, Turn, first_turn, second_turn, max_attempts, max_triangles, tiny_length}
 use Rattle.definition.specs.Counts.{◌⊞◌, tally, no_counts, one_attempt, Refusal, Recovery, Spent, nothing_spent, inserting, trying}

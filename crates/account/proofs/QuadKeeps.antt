@@ -1,5 +1,6 @@
 -- A quad in place of a region keeps a mesh valid, and its triangles are those that stay.
-use Rattle.laws.specs.Kit.{◌≡◌, refl, sym, ◌∙◌, ap, subst, inl, inr, suc, ◌<◌, arith, List, [], ◌∷◌, ◌++◌, append-nil, length}
+use Rattle.std.specs.Prelude.{◌≡◌, ◌<◌, ◌∷◌, ◌++◌}
+use Rattle.laws.specs.Kit.{refl, sym, ◌∙◌, ap, subst, inl, inr, suc, arith, List, [], append-nil, length}
 use Rattle.definition.specs.Lists.{flat_map}
 use Rattle.definition.specs.Cells.{Tri, Quad, quad, Live, Mesh, new_live, tri_of, tris_of, with_live, noting, without_all, remove_cells, push_cell}
 use Rattle.definition.specs.Attempt.{replaced}

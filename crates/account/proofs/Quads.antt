@@ -1,5 +1,6 @@
 -- Every quad of a run was a rated trial: by the points of the end, as points never change,
-use Rattle.laws.specs.Kit.{◌≡◌, sym, ◌∙◌, ap, subst, inl, inr, Bool, List, [], ◌∷◌, ◌++◌}
+use Rattle.std.specs.Prelude.{◌≡◌, ◌∷◌, ◌++◌}
+use Rattle.laws.specs.Kit.{sym, ◌∙◌, ap, subst, inl, inr, Bool, List, []}
 use Rattle.definition.specs.Numbers.{Settings, Quality}
 use Rattle.definition.specs.Plane.{Edge, Node}
 use Rattle.definition.specs.Cells.{Tri, Quad}

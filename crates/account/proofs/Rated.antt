@@ -1,5 +1,6 @@
 -- A trial was rated: its quad has four different nodes of the points, and its metrics pass.
-use Rattle.laws.specs.Kit.{◌≡◌, refl, sym, subst, ◌≢◌, inl, inr, true, false, ℕ, zero, suc, ◌<◌, arith, eqb, eq-eqb, List, [], ◌∷◌, ◌++◌, length, take, length-append}
+use Rattle.std.specs.Prelude.{◌≡◌, ◌≢◌, ◌<◌, ◌∷◌, ◌++◌}
+use Rattle.laws.specs.Kit.{refl, sym, subst, inl, inr, true, false, ℕ, zero, suc, arith, eqb, eq-eqb, List, [], length, take, length-append}
 use Rattle.definition.specs.Lists.{any, flat_map, contains}
 use Rattle.definition.specs.Numbers.{Quality}
 use Rattle.definition.specs.Plane.{Node, point}

@@ -1,5 +1,6 @@
 -- The states that a run reaches between attempts, with every edge refused so far and the candidates that wait;
-use Rattle.laws.specs.Kit.{◌≡◌, refl, subst, ◌≢◌, inl, inr, Bool, ℕ, ◌*◌, ◌≤◌, arith, List, [], ◌∷◌, ◌++◌, length}
+use Rattle.std.specs.Prelude.{◌≡◌, ◌≢◌, ◌*◌, ◌≤◌, ◌∷◌, ◌++◌}
+use Rattle.laws.specs.Kit.{refl, subst, inl, inr, Bool, ℕ, arith, List, [], length}
 use Rattle.definition.specs.Numbers.{Settings}
 use Rattle.definition.specs.Counts.{no_counts, tally}
 use Rattle.definition.specs.Plane.{Node, Edge}

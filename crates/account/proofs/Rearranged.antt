@@ -1,5 +1,6 @@
 -- Lists that differ in order alone.
-use Rattle.laws.specs.Kit.{◌≡◌, refl, sym, ◌∙◌, ap, subst, inl, inr, Bool, true, not, ◌&&◌, ℕ, ◌+◌, ◌<◌, arith, eqb, eq-eqb, eqb-true, List, [], ◌∷◌, ◌++◌, length, length-append}
+use Rattle.std.specs.Prelude.{◌≡◌, ◌&&◌, ◌+◌, ◌<◌, ◌∷◌, ◌++◌}
+use Rattle.laws.specs.Kit.{refl, sym, ◌∙◌, ap, subst, inl, inr, Bool, true, not, ℕ, arith, eqb, eq-eqb, eqb-true, List, [], length, length-append}
 use Rattle.definition.specs.Lists.{filter, insert, sort, flat_map}
 use Rattle.definition.specs.Cells.{Tri}
 use Rattle.definition.specs.Account.{Rearranged}

@@ -1,5 +1,6 @@
 -- Tracked edges through the run: an attempt keeps every edge of a list tracked, and candidates may join.
-use Rattle.laws.specs.Kit.{refl, sym, ap, subst, inl, inr, Bool, arith, List, [], ◌∷◌, ◌++◌, length}
+use Rattle.std.specs.Prelude.{◌∷◌, ◌++◌}
+use Rattle.laws.specs.Kit.{refl, sym, ap, subst, inl, inr, Bool, arith, List, [], length}
 use Rattle.definition.specs.Numbers.{Settings}
 use Rattle.definition.specs.Plane.{Node, Edge}
 use Rattle.definition.specs.Cells.{Tri, Mesh}

@@ -1,5 +1,6 @@
 -- Replay: what happened to a mesh of a run can be done again, from the start, and gives its points,
-use Rattle.laws.specs.Kit.{◌≡◌, refl, sym, ◌∙◌, ap, subst, ◌≢◌, inl, inr, Bool, true, false, some, ℕ, ◌+◌, ◌<◌, ◌≤◌, arith, ltb, T, eq-eqb, ne_eqb, lt-ltb, le-ltb, lt-leb, List, [], ◌∷◌, ◌++◌, map, append-nil, length, length-map, Float, binary64, fits}
+use Rattle.std.specs.Prelude.{◌≡◌, ◌≢◌, ◌+◌, ◌<◌, ◌≤◌, ◌∷◌, ◌++◌}
+use Rattle.laws.specs.Kit.{refl, sym, ◌∙◌, ap, subst, inl, inr, Bool, true, false, some, ℕ, arith, ltb, T, eq-eqb, ne_eqb, lt-ltb, le-ltb, lt-leb, List, [], map, append-nil, length, length-map, Float, binary64, fits}
 use Rattle.std.specs.Float.Ieee.Fits.{add-fits}
 use Rattle.definition.specs.Lists.{any, all, find, flat_map, contains}
 use Rattle.definition.specs.Floats.{◌⊕◌}

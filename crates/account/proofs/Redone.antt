@@ -1,5 +1,6 @@
 -- One event done again: a flip, a split and a placement.
-use Rattle.laws.specs.Kit.{◌≡◌, refl, sym, ◌∙◌, ap, subst, ◌≢◌, inl, inr, Bool, true, false, some, ℕ, ◌+◌, ◌<◌, ◌≤◌, arith, ltb, T, eq-eqb, ne_eqb, lt-ltb, le-ltb, lt-leb, List, [], ◌∷◌, ◌++◌, map, append-nil, length, length-map, Float, binary64, fits}
+use Rattle.std.specs.Prelude.{◌≡◌, ◌≢◌, ◌+◌, ◌<◌, ◌≤◌, ◌∷◌, ◌++◌}
+use Rattle.laws.specs.Kit.{refl, sym, ◌∙◌, ap, subst, inl, inr, Bool, true, false, some, ℕ, arith, ltb, T, eq-eqb, ne_eqb, lt-ltb, le-ltb, lt-leb, List, [], map, append-nil, length, length-map, Float, binary64, fits}
 use Rattle.std.specs.Float.Ieee.Fits.{add-fits}
 use Rattle.definition.specs.Lists.{any, all, find, flat_map, contains}
 use Rattle.definition.specs.Floats.{◌⊕◌}

@@ -1,5 +1,6 @@
 -- An edge's owners among the triangles of a flip and of a split, by where its ends stand among four different nodes
-use Rattle.laws.specs.Kit.{◌≡◌, refl, sym, ◌∙◌, subst, ◌≢◌, ◌⊎◌, inl, inr, Bool, true, false, not, ◌&&◌, ◌||◌, ℕ, eqb, eq-eqb, ne_eqb, eqb-true, not-false, List, [], ◌∷◌}
+use Rattle.std.specs.Prelude.{◌≡◌, ◌≢◌, ◌⊎◌, ◌&&◌, ◌||◌, ◌∷◌}
+use Rattle.laws.specs.Kit.{refl, sym, ◌∙◌, subst, inl, inr, Bool, true, false, not, ℕ, eqb, eq-eqb, ne_eqb, eqb-true, not-false, List, []}
 use Rattle.definition.specs.Lists.{all}
 use Rattle.definition.specs.Plane.{Edge}
 use Rattle.definition.specs.Cells.{Tri, tri_has}

@@ -1,5 +1,6 @@
 -- Splits and quads are made only where there is room:
-use Rattle.laws.specs.Kit.{◌≡◌, ap, Bool, ℕ, ◌+◌, ◌≤◌, arith, List, length}
+use Rattle.std.specs.Prelude.{◌≡◌, ◌+◌, ◌≤◌}
+use Rattle.laws.specs.Kit.{ap, Bool, ℕ, arith, List, length}
 use Rattle.definition.specs.Numbers.{Settings}
 use Rattle.definition.specs.Plane.{Edge, Node}
 use Rattle.definition.specs.Cells.{Tri, Mesh, with_live, noting, set_cell, push_cell}

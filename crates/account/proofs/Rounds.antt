@@ -1,5 +1,6 @@
 -- The rounds end because their work is done: each that places a quad makes an attempt,
-use Rattle.laws.specs.Kit.{◌≡◌, refl, sym, ◌∙◌, ap, subst, inl, inr, Bool, false, not, ℕ, zero, suc, ◌+◌, ◌<◌, ◌≤◌, arith, eqb, ltb, ltb-false, List, [], ◌∷◌, ◌++◌, length}
+use Rattle.std.specs.Prelude.{◌≡◌, ◌+◌, ◌<◌, ◌≤◌, ◌∷◌, ◌++◌}
+use Rattle.laws.specs.Kit.{refl, sym, ◌∙◌, ap, subst, inl, inr, Bool, false, not, ℕ, zero, suc, arith, eqb, ltb, ltb-false, List, [], length}
 use Rattle.definition.specs.Lists.{filter, find}
 use Rattle.definition.specs.Numbers.{Settings, max_triangles}
 use Rattle.definition.specs.Counts.{Counts, tally, ◌⊞◌, no_counts, emptied, one_attempt, Spent, spending, at_limit, Refusal, Placement, Shape, Recovery, Region, OddRegion, refused_by}

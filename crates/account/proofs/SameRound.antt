@@ -1,5 +1,6 @@
 -- Flips and splits place no quad: within an attempt the round stays.
-use Rattle.laws.specs.Kit.{◌≡◌, refl, sym, ◌∙◌, ap, cond, Option, none, some, ℕ, suc, ◌+◌, ltb, leb, List, [], ◌∷◌, length, Float}
+use Rattle.std.specs.Prelude.{◌≡◌, ◌+◌, ◌∷◌}
+use Rattle.laws.specs.Kit.{refl, sym, ◌∙◌, ap, cond, Option, none, some, ℕ, suc, ltb, leb, List, [], length, Float}
 use Rattle.definition.specs.Floats.{◌⊗◌}
 use Rattle.definition.specs.Numbers.{Settings, Turn, node_spacing, insert_shares}
 use Rattle.definition.specs.Counts.{of_points, of_slots, of_trace, Spent}

@@ -1,6 +1,7 @@
 -- The sizes of the components: those of the definition are right, descend and add up;
 -- and all are even exactly where every closed set is even.
-use Rattle.laws.specs.Kit.{◌≡◌, refl, sym, ◌∙◌, ap, subst, ◌⊎◌, inl, inr, Bool, true, false, not, ℕ, zero, suc, ◌+◌, ◌%◌, ◌<◌, ◌≤◌, arith, eqb, ltb, eqb-false, ltb-true, ltb-false, List, [], ◌∷◌, map, length, length-append}
+use Rattle.std.specs.Prelude.{◌≡◌, ◌⊎◌, ◌+◌, ◌%◌, ◌<◌, ◌≤◌, ◌∷◌}
+use Rattle.laws.specs.Kit.{refl, sym, ◌∙◌, ap, subst, inl, inr, Bool, true, false, not, ℕ, zero, suc, arith, eqb, ltb, eqb-false, ltb-true, ltb-false, List, [], map, length, length-append}
 use Rattle.std.proofs.Math.Nat.{suc-mod}
 use Rattle.definition.specs.Lists.{flat_map, concat, sort, insert}
 use Rattle.definition.specs.Cells.{Tri}

@@ -1,5 +1,6 @@
 -- What is written at the front of a slice is read back, whatever the slice held.
-use Rattle.laws.specs.Kit.{◌≡◌, refl, sym, ◌∙◌, ap, ℕ, suc, ◌+◌, ◌*◌, arith, List, [], ◌∷◌, ◌++◌, append_assoc, length, get_or, take, drop, length-append, Float}
+use Rattle.std.specs.Prelude.{◌≡◌, ◌+◌, ◌*◌, ◌∷◌, ◌++◌}
+use Rattle.laws.specs.Kit.{refl, sym, ◌∙◌, ap, ℕ, suc, arith, List, [], append_assoc, length, get_or, take, drop, length-append, Float}
 use Rattle.std.proofs.Common.{get_or-append-add}
 use Rattle.std.proofs.Math.Seq.{take-append_seam}
 use Rattle.definition.specs.Lists.{flat_map, table, numbers, below}

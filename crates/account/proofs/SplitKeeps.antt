@@ -1,5 +1,6 @@
 -- A split keeps a mesh valid and, where all components were even, even.
-use Rattle.laws.specs.Kit.{◌≡◌, refl, sym, ◌∙◌, ap, subst, ◌≢◌, inl, inr, ℕ, suc, ◌<◌, arith, List, [], ◌∷◌, ◌++◌, append_assoc, length, length-append}
+use Rattle.std.specs.Prelude.{◌≡◌, ◌≢◌, ◌<◌, ◌∷◌, ◌++◌}
+use Rattle.laws.specs.Kit.{refl, sym, ◌∙◌, ap, subst, inl, inr, ℕ, suc, arith, List, [], append_assoc, length, length-append}
 use Rattle.definition.specs.Lists.{flat_map}
 use Rattle.definition.specs.Plane.{Node}
 use Rattle.definition.specs.Cells.{Tri, tri, Live, Mesh, new_tri, new_live, tri_of, tris_of, with_live, noting, without, set_cell, push_cell}

@@ -1,5 +1,6 @@
 -- Edges that were refused, or wait as candidates, over a mesh: what flips, splits and quads keep of them,
-use Rattle.laws.specs.Kit.{◌≡◌, refl, sym, ◌∙◌, ap, subst, ◌≢◌, inl, inr, true, false, not, some, ℕ, ◌+◌, ◌*◌, ◌<◌, ◌≤◌, arith, eqb, leb, eqb-true, List, [], ◌∷◌, ◌++◌, length, length-append}
+use Rattle.std.specs.Prelude.{◌≡◌, ◌≢◌, ◌+◌, ◌*◌, ◌<◌, ◌≤◌, ◌∷◌, ◌++◌}
+use Rattle.laws.specs.Kit.{refl, sym, ◌∙◌, ap, subst, inl, inr, true, false, not, some, ℕ, arith, eqb, leb, eqb-true, List, [], length, length-append}
 use Rattle.definition.specs.Lists.{filter, flat_map}
 use Rattle.definition.specs.Numbers.{Settings}
 use Rattle.definition.specs.Plane.{Node, Edge}

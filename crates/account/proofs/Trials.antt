@@ -1,5 +1,6 @@
 -- Trials: a refused attempt tried exactly the smaller of its acceptable pairs and the permitted number,
-use Rattle.laws.specs.Kit.{◌≡◌, refl, sym, ◌∙◌, ap, subst, ◌⊎◌, inl, inr, Bool, true, false, ◌&&◌, cond, Option, none, some, ℕ, suc, ◌+◌, ◌*◌, min, ◌<◌, ◌≤◌, arith, ltb, List, [], ◌∷◌, ◌++◌, length, take}
+use Rattle.std.specs.Prelude.{◌≡◌, ◌⊎◌, ◌&&◌, ◌+◌, ◌*◌, ◌<◌, ◌≤◌, ◌∷◌, ◌++◌}
+use Rattle.laws.specs.Kit.{refl, sym, ◌∙◌, ap, subst, inl, inr, Bool, true, false, cond, Option, none, some, ℕ, suc, min, arith, ltb, List, [], length, take}
 use Rattle.std.proofs.Common.{length-take}
 use Rattle.definition.specs.Lists.{sort}
 use Rattle.definition.specs.Numbers.{Settings}

@@ -1,5 +1,6 @@
 -- The nodes of a triangle, and the triangles that share an edge.
-use Rattle.laws.specs.Kit.{◌≡◌, refl, sym, ◌∙◌, subst, ◌≢◌, ◌⊎◌, inl, inr, Bool, true, false, ◌||◌, ℕ, eqb, leb, eq-eqb, eqb-true, [], ◌∷◌, length}
+use Rattle.std.specs.Prelude.{◌≡◌, ◌≢◌, ◌⊎◌, ◌||◌, ◌∷◌}
+use Rattle.laws.specs.Kit.{refl, sym, ◌∙◌, subst, inl, inr, Bool, true, false, ℕ, eqb, leb, eq-eqb, eqb-true, [], length}
 use Rattle.definition.specs.Lists.{filter, any, contains}
 use Rattle.definition.specs.Cells.{Tri, new_tri, tri_has, tri_nodes}
 use Rattle.definition.specs.Components.{share_edge}

@@ -1,5 +1,6 @@
 -- What every mesh of a run keeps: its slots differ and were given out, its cells have different nodes of its points.
-use Rattle.laws.specs.Kit.{◌≡◌, refl, sym, ◌∙◌, ap, subst, ◌≢◌, inl, inr, Bool, true, false, not, ℕ, ◌<◌, ◌≤◌, arith, eqb, eq-eqb, ne_eqb, not-true, List, [], ◌∷◌, ◌++◌, append_assoc, length}
+use Rattle.std.specs.Prelude.{◌≡◌, ◌≢◌, ◌<◌, ◌≤◌, ◌∷◌, ◌++◌}
+use Rattle.laws.specs.Kit.{refl, sym, ◌∙◌, ap, subst, inl, inr, Bool, true, false, not, ℕ, arith, eqb, eq-eqb, ne_eqb, not-true, List, [], append_assoc, length}
 use Rattle.definition.specs.Lists.{filter, flat_map}
 use Rattle.definition.specs.Cells.{Tri, Quad, Cell, tri, quad, Live, Mesh, tri_nodes, quad_nodes, nodes, tri_of, tris_of, in_slot, without}
 use Rattle.definition.specs.Account.{All, Pairwise, Rearranged}

@@ -1,5 +1,6 @@
 -- Whatever an attempt keeps, the walk over edges, loops and rounds keeps; nothing is asked of the meshes.
-use Rattle.laws.specs.Kit.{◌≡◌, refl, ◌⊎◌, inl, inr, ℕ, zero, suc, List, [], ◌∷◌}
+use Rattle.std.specs.Prelude.{◌≡◌, ◌⊎◌, ◌∷◌}
+use Rattle.laws.specs.Kit.{refl, inl, inr, ℕ, zero, suc, List, []}
 use Rattle.definition.specs.Numbers.{Settings}
 use Rattle.definition.specs.Counts.{emptied}
 use Rattle.definition.specs.Plane.{Edge}

@@ -1,5 +1,6 @@
 -- How many attempts a run has made: while it goes on, and where it ends at the limit.
-use Rattle.laws.specs.Kit.{◌≡◌, ◌⊎◌, ℕ, ◌+◌, ◌<◌, ◌≤◌}
+use Rattle.std.specs.Prelude.{◌≡◌, ◌⊎◌, ◌+◌, ◌<◌, ◌≤◌}
+use Rattle.laws.specs.Kit.{ℕ}
 use Rattle.definition.specs.Numbers.{max_triangles}
 use Rattle.definition.specs.Counts.{Counts}
 use Rattle.definition.specs.Cells.{live_tris}

@@ -1,5 +1,6 @@
 -- Births: the leftover triangles are the given ones and two for each insertion, less those that the quads replaced.
-use Rattle.laws.specs.Kit.{◌≡◌, sym, ap, subst, Bool, ℕ, ◌+◌, ◌*◌, arith, List, [], ◌∷◌, ◌++◌, map, length}
+use Rattle.std.specs.Prelude.{◌≡◌, ◌+◌, ◌*◌, ◌∷◌, ◌++◌}
+use Rattle.laws.specs.Kit.{sym, ap, subst, Bool, ℕ, arith, List, [], map, length}
 use Rattle.definition.specs.Numbers.{Settings}
 use Rattle.definition.specs.Counts.{Counts, tally, ◌⊞◌, no_counts, emptied, one_attempt, spending, at_limit}
 use Rattle.definition.specs.Plane.{Node, Edge}

@@ -1,5 +1,6 @@
 -- Every attempt is counted once, and every added point: the sum of attempts, and the points of a finished run.
-use Rattle.laws.specs.Kit.{◌≡◌, refl, sym, ◌∙◌, ap, subst, Bool, ℕ, ◌+◌, arith, List, [], ◌∷◌, ◌++◌, append-nil, append_assoc, length, take, length-append}
+use Rattle.std.specs.Prelude.{◌≡◌, ◌+◌, ◌∷◌, ◌++◌}
+use Rattle.laws.specs.Kit.{refl, sym, ◌∙◌, ap, subst, Bool, ℕ, arith, List, [], append-nil, append_assoc, length, take, length-append}
 use Rattle.std.proofs.Math.Seq.{take-append_seam}
 use Rattle.definition.specs.Numbers.{Settings}
 use Rattle.definition.specs.Counts.{Counts, tally, ◌⊞◌, no_counts, emptied, one_attempt, Spent, spending, at_limit, Refusal, Placement, Shape, Recovery, Region, OddRegion, refused_by}

@@ -1,5 +1,6 @@
 -- A call that finished: no refusal's condition held, and its slices hold the run's result.
-use Rattle.laws.specs.Kit.{◌≡◌, refl, sym, ◌∙◌, ap, subst, ◌≢◌, inl, inr, Bool, true, false, not, ◌&&◌, ◌||◌, none, some, ℕ, ◌+◌, ◌*◌, ◌<◌, ◌≤◌, arith, eqb, ltb, leb, eqb-false, ltb-false, leb-false, not-true, not-false, List, ◌∷◌, length, eq}
+use Rattle.std.specs.Prelude.{◌≡◌, ◌≢◌, ◌&&◌, ◌||◌, ◌+◌, ◌*◌, ◌<◌, ◌≤◌, ◌∷◌}
+use Rattle.laws.specs.Kit.{refl, sym, ◌∙◌, ap, subst, inl, inr, Bool, true, false, not, none, some, ℕ, arith, eqb, ltb, leb, eqb-false, ltb-false, leb-false, not-true, not-false, List, length, eq}
 use Rattle.definition.specs.Lists.{any, all, find, below}
 use Rattle.definition.specs.Floats.{0·0}
 use Rattle.definition.specs.Counts.{Counts}

@@ -1,5 +1,6 @@
 -- What a flip that is made says of the mesh.
-use Rattle.laws.specs.Kit.{◌≡◌, refl, sym, ◌∙◌, ap, subst, ◌≢◌, inl, inr, Bool, true, false, not, ◌&&◌, none, some, ℕ, eqb, eq-eqb, eqb-true, List, [], ◌∷◌}
+use Rattle.std.specs.Prelude.{◌≡◌, ◌≢◌, ◌&&◌, ◌∷◌}
+use Rattle.laws.specs.Kit.{refl, sym, ◌∙◌, ap, subst, inl, inr, Bool, true, false, not, none, some, ℕ, eqb, eq-eqb, eqb-true, List, []}
 use Rattle.definition.specs.Plane.{Edge}
 use Rattle.definition.specs.Cells.{Tri, Cell, tri, quad, Live, Event, was_flipped, Mesh, new_tri, owners, is_locked, live_tri, is_tri, new_live, in_slot, with_live, noting, without, set_cell}
 use Rattle.definition.specs.Flips.{third, apart, convex_pair, runs, first_turned, second_turned, set_tris, flipped, flip_tris, flip_cells, flip_owners, flip}

@@ -1,6 +1,7 @@
 -- What is asked of exact geometry, and what follows: every point of a run lies within the limit,
 -- and every quad is convex and counterclockwise, with no corner sharper than the set allows.
-use Rattle.laws.specs.Kit.{◌≡◌, refl, sym, ◌∙◌, ap, subst, inl, inr, Bool, true, false, ℕ, zero, suc, ◌<◌, List, [], ◌∷◌, length, Float, binary64, of_bits, fits, le}
+use Rattle.std.specs.Prelude.{◌≡◌, ◌<◌, ◌∷◌}
+use Rattle.laws.specs.Kit.{refl, sym, ◌∙◌, ap, subst, inl, inr, Bool, true, false, ℕ, zero, suc, List, [], length, Float, binary64, of_bits, fits, le}
 use Rattle.definition.specs.Floats.{◌≼◌, abs, f64, 0·0, 8·0}
 use Rattle.definition.specs.Numbers.{Quality, Settings, base, insert_shares, tiny_length}
 use Rattle.definition.specs.Plane.{Edge, Node, flat, point, point_strictly_inside, from_to, norm, dist, edge_length}

@@ -1,7 +1,8 @@
 -- The grid profile: every x and y is a whole multiple of 1 / 1024, and there is no size.
 -- Nothing is inserted, and the quads and the leftover triangles have together exactly the area of the given
 -- triangles.
-use Rattle.laws.specs.Kit.{◌≡◌, refl, sym, ◌∙◌, ap, subst, Bool, true, false, ℕ, ◌+◌, ◌≤◌, arith, List, [], ◌∷◌, length, eq}
+use Rattle.std.specs.Prelude.{◌≡◌, ◌+◌, ◌≤◌, ◌∷◌}
+use Rattle.laws.specs.Kit.{refl, sym, ◌∙◌, ap, subst, Bool, true, false, ℕ, arith, List, [], length, eq}
 use Rattle.definition.specs.Floats.{0·0}
 use Rattle.definition.specs.Numbers.{Settings}
 use Rattle.definition.specs.Counts.{Spent}

@@ -1,7 +1,8 @@
 -- A job of several meshes: from its start, with each state handed on once,
 -- the attempts made never pass the allowance.
 -- Where a mesh run by itself is finished, its quads in the job are the first ones of that run.
-use Rattle.laws.specs.Kit.{◌≡◌, refl, sym, ◌∙◌, ap, subst, inl, inr, Bool, true, false, ◌||◌, none, ℕ, zero, suc, ◌+◌, ◌-◌, ◌*◌, ◌<◌, ◌≤◌, arith, eqb, ltb, leb, ne_eqb, le-ltb, lt-leb, leb-false, List, [], ◌∷◌, ◌++◌, length}
+use Rattle.std.specs.Prelude.{◌≡◌, ◌||◌, ◌+◌, ◌-◌, ◌*◌, ◌<◌, ◌≤◌, ◌∷◌, ◌++◌}
+use Rattle.laws.specs.Kit.{refl, sym, ◌∙◌, ap, subst, inl, inr, Bool, true, false, none, ℕ, zero, suc, arith, eqb, ltb, leb, ne_eqb, le-ltb, lt-leb, leb-false, List, [], length}
 use Rattle.std.proofs.Common.{div-add-mod'}
 use Rattle.definition.specs.Lists.{find}
 use Rattle.definition.specs.Numbers.{Settings, max_attempts}

@@ -1,5 +1,6 @@
 -- The meshes within an attempt: what the steps that change a mesh keep, in the words that the proofs of the code use.
-use Rattle.laws.specs.Kit.{◌≡◌, refl, ◌∙◌, some, ℕ, List}
+use Rattle.std.specs.Prelude.{◌≡◌}
+use Rattle.laws.specs.Kit.{refl, ◌∙◌, some, ℕ, List}
 use Rattle.definition.specs.Plane.{Node, Edge}
 use Rattle.definition.specs.Cells.{Tri, tri, Live, Mesh, all_edges}
 use Rattle.definition.specs.Flips.{flip, recover}

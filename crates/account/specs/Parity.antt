@@ -1,6 +1,7 @@
 -- The leftover triangles of a finished run and their components.
 -- Under the even rule, once a quad was made or where all given components were even, all components are even.
-use Rattle.laws.specs.Kit.{◌≡◌, sym, subst, ◌⊎◌, inl, inr, Bool, true, false, ℕ, ◌<◌, arith, ltb, List, [], length}
+use Rattle.std.specs.Prelude.{◌≡◌, ◌⊎◌, ◌<◌}
+use Rattle.laws.specs.Kit.{sym, subst, inl, inr, Bool, true, false, ℕ, arith, ltb, List, [], length}
 use Rattle.definition.specs.Numbers.{Settings}
 use Rattle.definition.specs.Plane.{Node, Edge}
 use Rattle.definition.specs.Cells.{Tri, Quad, Live, Mesh, tri_of, tris_of, in_slot_order, triangles}

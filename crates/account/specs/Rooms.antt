@@ -1,6 +1,7 @@
 -- Splits and quads are made only where there is room:
 -- no state has more points than the capacity, nor more slots in use than were lent.
-use Rattle.laws.specs.Kit.{◌≡◌, ap, Bool, ℕ, ◌+◌, ◌≤◌, arith, List, length}
+use Rattle.std.specs.Prelude.{◌≡◌, ◌+◌, ◌≤◌}
+use Rattle.laws.specs.Kit.{ap, Bool, ℕ, arith, List, length}
 use Rattle.definition.specs.Numbers.{Settings}
 use Rattle.definition.specs.Plane.{Edge, Node}
 use Rattle.definition.specs.Cells.{Tri, Mesh, with_live, noting, set_cell, push_cell}

@@ -1,5 +1,6 @@
 -- Whatever the ends of an attempt keep, the run keeps. That every mesh is valid is part of the walk.
-use Rattle.laws.specs.Kit.{◌≡◌, refl, sym, subst, inl, inr, Bool, true, some, ℕ, zero, suc, ◌+◌, ◌<◌, arith, List, [], ◌∷◌, ◌++◌, length}
+use Rattle.std.specs.Prelude.{◌≡◌, ◌+◌, ◌<◌, ◌∷◌, ◌++◌}
+use Rattle.laws.specs.Kit.{refl, sym, subst, inl, inr, Bool, true, some, ℕ, zero, suc, arith, List, [], length}
 use Rattle.definition.specs.Numbers.{Settings}
 use Rattle.definition.specs.Counts.{◌⊞◌, emptied, one_attempt, Spent, nothing_spent, spending, at_limit, Refusal, Placement, refused_by, Want}
 use Rattle.definition.specs.Plane.{Node, Edge}

@@ -1,6 +1,7 @@
 -- A run with a smaller limit on attempts goes as one with a larger limit until it stops:
 -- its quads are the first ones of that run.
-use Rattle.laws.specs.Kit.{◌≡◌, refl, sym, ◌∙◌, ap, subst, ◌⊎◌, inl, inr, Bool, true, false, ◌&&◌, ◌||◌, cond, Option, none, some, ℕ, zero, suc, ◌+◌, ◌≤◌, arith, ltb, le-ltb, ltb-false, List, [], ◌∷◌, ◌++◌, append-nil, append_assoc, length, Float}
+use Rattle.std.specs.Prelude.{◌≡◌, ◌⊎◌, ◌&&◌, ◌||◌, ◌+◌, ◌≤◌, ◌∷◌, ◌++◌}
+use Rattle.laws.specs.Kit.{refl, sym, ◌∙◌, ap, subst, inl, inr, Bool, true, false, cond, Option, none, some, ℕ, zero, suc, arith, ltb, le-ltb, ltb-false, List, [], append-nil, append_assoc, length, Float}
 use Rattle.definition.specs.Floats.{◌⊗◌, ◌≼◌}
 use Rattle.definition.specs.Numbers.{Settings, Turn, first_turn, second_turn, insert_shares, node_spacing, tiny_length, max_triangles}
 use Rattle.definition.specs.Counts.{one_attempt, Refusal, Placement, Recovery, OddRegion, Spent, nothing_spent, trying, of_trace}

@@ -1,5 +1,6 @@
 -- The mesh that a run starts from is valid.
-use Rattle.laws.specs.Kit.{◌≡◌, refl, sym, ◌∙◌, ap, subst, inl, inr, Bool, ℕ, suc, ◌+◌, ◌<◌, ◌≤◌, arith, List, [], ◌∷◌, length}
+use Rattle.std.specs.Prelude.{◌≡◌, ◌+◌, ◌<◌, ◌≤◌, ◌∷◌}
+use Rattle.laws.specs.Kit.{refl, sym, ◌∙◌, ap, subst, inl, inr, Bool, ℕ, suc, arith, List, [], length}
 use Rattle.definition.specs.Lists.{flat_map}
 use Rattle.definition.specs.Numbers.{Settings}
 use Rattle.definition.specs.Plane.{Edge, Node}

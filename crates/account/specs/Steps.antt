@@ -1,5 +1,6 @@
 -- What an attempt does to the mesh: flips and splits, then at most one quad. Whatever those keep, an attempt keeps.
-use Rattle.laws.specs.Kit.{◌≡◌, refl, sym, ◌∙◌, ap, subst, ◌≢◌, inl, inr, true, false, ◌&&◌, ◌||◌, Option, none, some, ℕ, zero, suc, ◌+◌, ◌<◌, ◌≤◌, arith, ltb, leb, ltb-false, leb-false, List, [], ◌∷◌, ◌++◌, length, length-append, Float}
+use Rattle.std.specs.Prelude.{◌≡◌, ◌≢◌, ◌&&◌, ◌||◌, ◌+◌, ◌<◌, ◌≤◌, ◌∷◌, ◌++◌}
+use Rattle.laws.specs.Kit.{refl, sym, ◌∙◌, ap, subst, inl, inr, true, false, Option, none, some, ℕ, zero, suc, arith, ltb, leb, ltb-false, leb-false, List, [], length, length-append, Float}
 use Rattle.definition.specs.Lists.{below}
 use Rattle.definition.specs.Floats.{◌⊗◌, ◌≼◌}
 use Rattle.definition.specs.Numbers.{Quality, Settings, Turn, first_turn, second_turn, insert_shares, node_spacing, tiny_length}

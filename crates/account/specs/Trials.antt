@@ -1,7 +1,8 @@
 -- Trials: a refused attempt tried exactly the smaller of its acceptable pairs and the permitted number,
 -- a successful one exactly up to the pair it accepted.
 -- Over a run the trials are at most the permitted number for each attempt.
-use Rattle.laws.specs.Kit.{◌≡◌, refl, sym, ◌∙◌, ap, subst, ◌⊎◌, inl, inr, Bool, true, false, ◌&&◌, cond, Option, none, some, ℕ, suc, ◌+◌, ◌*◌, min, ◌<◌, ◌≤◌, arith, ltb, List, [], ◌∷◌, ◌++◌, length, take}
+use Rattle.std.specs.Prelude.{◌≡◌, ◌⊎◌, ◌&&◌, ◌+◌, ◌*◌, ◌<◌, ◌≤◌, ◌∷◌, ◌++◌}
+use Rattle.laws.specs.Kit.{refl, sym, ◌∙◌, ap, subst, inl, inr, Bool, true, false, cond, Option, none, some, ℕ, suc, min, arith, ltb, List, [], length, take}
 use Rattle.std.proofs.Common.{length-take}
 use Rattle.definition.specs.Lists.{sort}
 use Rattle.definition.specs.Numbers.{Settings}

@@ -1,6 +1,7 @@
 -- Whatever an attempt keeps, the walk over edges, loops and rounds keeps; nothing is asked of the meshes.
 -- Where a limit ends the run, what holds may be another thing.
-use Rattle.laws.specs.Kit.{◌≡◌, refl, ◌⊎◌, inl, inr, ℕ, zero, suc, List, [], ◌∷◌}
+use Rattle.std.specs.Prelude.{◌≡◌, ◌⊎◌, ◌∷◌}
+use Rattle.laws.specs.Kit.{refl, inl, inr, ℕ, zero, suc, List, []}
 use Rattle.definition.specs.Numbers.{Settings}
 use Rattle.definition.specs.Counts.{emptied}
 use Rattle.definition.specs.Plane.{Edge}

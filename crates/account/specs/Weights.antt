@@ -1,5 +1,6 @@
 -- Sums over lists in any order, and the triangles of a region taken out of the live cells.
-use Rattle.laws.specs.Kit.{◌≡◌, refl, sym, ◌∙◌, ap, subst, inl, inr, true, Option, none, some, ℕ, zero, suc, ◌+◌, min, ◌≤◌, arith, ltb, ltb-true, ltb-false, List, [], ◌∷◌, ◌++◌, map, append-nil, length}
+use Rattle.std.specs.Prelude.{◌≡◌, ◌+◌, ◌≤◌, ◌∷◌, ◌++◌}
+use Rattle.laws.specs.Kit.{refl, sym, ◌∙◌, ap, subst, inl, inr, true, Option, none, some, ℕ, zero, suc, min, arith, ltb, ltb-true, ltb-false, List, [], map, append-nil, length}
 use Rattle.definition.specs.Lists.{filter, any, all, flat_map}
 use Rattle.definition.specs.Cells.{Quad, Live, Mesh, live_tri, quad_edges, tri_of, tris_of, cell_of, among, without, without_all}
 use Rattle.definition.specs.Region.{cell_inside, area_agrees, fills, region_from, region}

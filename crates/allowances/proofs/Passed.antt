@@ -1,5 +1,6 @@
 -- A state that 16 lets pass has room for its sums.
-use Rattle.laws.specs.Kit.{◌≡◌, false, ◌+◌, ◌*◌, ◌/◌, ◌<◌, ◌≤◌, arith, mul-le-mul_right, eqb, ltb, leb, eqb-false, ltb-false, leb-false}
+use Rattle.std.specs.Prelude.{◌≡◌, ◌+◌, ◌*◌, ◌/◌, ◌<◌, ◌≤◌}
+use Rattle.laws.specs.Kit.{false, arith, mul-le-mul_right, eqb, ltb, leb, eqb-false, ltb-false, leb-false}
 use native.Mathlib.Nat.{div-mul-le_self}
 use Rattle.definition.specs.Job as defined
 use Rattle.definition.specs.Job.{most_meshes, most_allowance, share, entitled, bad_job}

@@ -1,5 +1,6 @@
 -- `block`: the edge's record has the birth k, so it stands; every other edge stands as before.
-use Rattle.laws.specs.Kit.{◌≡◌, refl, sym, ◌∙◌, ap, subst, inl, inr, Bool, true, false, ◌||◌, ℕ, suc, ◌+◌, ◌*◌, ◌<◌, ◌≤◌, arith, eqb, eqb-true, eqb-false, lt-ltb, le-ltb, List, ◌∷◌, length, get_or, set, length-set}
+use Rattle.std.specs.Prelude.{◌≡◌, ◌||◌, ◌+◌, ◌*◌, ◌<◌, ◌≤◌, ◌∷◌}
+use Rattle.laws.specs.Kit.{refl, sym, ◌∙◌, ap, subst, inl, inr, Bool, true, false, ℕ, suc, arith, eqb, eqb-true, eqb-false, lt-ltb, le-ltb, List, length, get_or, set, length-set}
 use Rattle.definition.specs.Plane.{Edge}
 use Rattle.definition.specs.Lists.{any}
 use Rattle.definition.specs.Cells.{same_edge, has_edge_in}

@@ -1,5 +1,6 @@
 -- Lists of edges and the places of their records, with no memory.
-use Rattle.laws.specs.Kit.{◌≡◌, refl, sym, ◌∙◌, Bool, true, false, ◌||◌, cond, ℕ, suc, ◌+◌, ◌-◌, ◌<◌, ◌≤◌, arith, dec_le, eqb, ltb, lt-ltb, le-ltb, List, [], ◌∷◌, length}
+use Rattle.std.specs.Prelude.{◌≡◌, ◌||◌, ◌+◌, ◌-◌, ◌<◌, ◌≤◌, ◌∷◌}
+use Rattle.laws.specs.Kit.{refl, sym, ◌∙◌, Bool, true, false, cond, ℕ, suc, arith, dec_le, eqb, ltb, lt-ltb, le-ltb, List, [], length}
 use Rattle.definition.specs.Plane.{Edge}
 use Rattle.definition.specs.Lists.{any}
 use Rattle.definition.specs.Cells.{same_edge, has_edge_in}

@@ -1,5 +1,6 @@
 -- What a change of the slice leaves of the area: `framed` says that `Blocks` depends on the area alone.
-use Rattle.laws.specs.Kit.{◌≡◌, refl, sym, ◌∙◌, Bool, true, false, ◌&&◌, ℕ, ◌+◌, ◌*◌, ◌<◌, arith, ltb, leb, ltb-true, List, [], ◌∷◌, length}
+use Rattle.std.specs.Prelude.{◌≡◌, ◌&&◌, ◌+◌, ◌*◌, ◌<◌, ◌∷◌}
+use Rattle.laws.specs.Kit.{refl, sym, ◌∙◌, Bool, true, false, ℕ, arith, ltb, leb, ltb-true, List, [], length}
 use Rattle.definition.specs.Plane.{Edge}
 use Rattle.blocked_edges.specs.Records.{other, birth, next, head, touched, size, Same, place, Written, Lists, stands}
 use Rattle.blocked_edges.specs.Blocks.{Blocks}

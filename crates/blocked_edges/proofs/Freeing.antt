@@ -1,6 +1,7 @@
 -- `free`: `touched` of the quad's nodes is above every birth, so no edge at them stands;
 -- every other edge stands as before.
-use Rattle.laws.specs.Kit.{◌≡◌, refl, sym, ◌∙◌, ap, ◌≢◌, inl, inr, Bool, true, false, not, ◌&&◌, ◌||◌, cond, ℕ, ◌+◌, ◌*◌, ◌^◌, ◌<◌, ◌≤◌, arith, eqb, eqb-true, eqb-false, List, [], ◌∷◌, length, get_or, set, length-set}
+use Rattle.std.specs.Prelude.{◌≡◌, ◌≢◌, ◌&&◌, ◌||◌, ◌+◌, ◌*◌, ◌^◌, ◌<◌, ◌≤◌, ◌∷◌}
+use Rattle.laws.specs.Kit.{refl, sym, ◌∙◌, ap, inl, inr, Bool, true, false, not, cond, ℕ, arith, eqb, eqb-true, eqb-false, List, [], length, get_or, set, length-set}
 use mathlib.Core.Bool.{and-true, and-false}
 use Rattle.definition.specs.Plane.{Edge}
 use Rattle.definition.specs.Lists.{any, filter, contains}

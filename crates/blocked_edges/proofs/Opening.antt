@@ -1,5 +1,6 @@
 -- `open`: each node below v has an empty list and is untouched.
-use Rattle.laws.specs.Kit.{◌≡◌, refl, ◌∙◌, inl, inr, ℕ, ◌+◌, ◌*◌, ◌<◌, ◌≤◌, arith, eqb, lit<, eqb-true, eqb-false, le-ltb, List, length, get_or, set, length-set}
+use Rattle.std.specs.Prelude.{◌≡◌, ◌+◌, ◌*◌, ◌<◌, ◌≤◌}
+use Rattle.laws.specs.Kit.{refl, ◌∙◌, inl, inr, ℕ, arith, eqb, lit<, eqb-true, eqb-false, le-ltb, List, length, get_or, set, length-set}
 use Rattle.definition.specs.Lists.{any}
 use Rattle.definition.specs.Cells.{has_edge_in}
 use Rattle.laws.specs.Bools.{which}

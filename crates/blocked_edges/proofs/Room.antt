@@ -1,6 +1,7 @@
 -- How a caller meets what `block` asks of the room: ever with the refused edge is a list of distinct edges too,
 -- so a bound on the number of distinct edges that can be refused bounds its length.
-use Rattle.laws.specs.Kit.{◌≡◌, refl, ◌⊎◌, inl, inr, Bool, true, false, ◌||◌, ℕ, List, ◌∷◌}
+use Rattle.std.specs.Prelude.{◌≡◌, ◌⊎◌, ◌||◌, ◌∷◌}
+use Rattle.laws.specs.Kit.{refl, inl, inr, Bool, true, false, ℕ, List}
 use Rattle.definition.specs.Plane.{Edge}
 use Rattle.definition.specs.Lists.{any}
 use Rattle.definition.specs.Cells.{same_edge, has_edge_in}

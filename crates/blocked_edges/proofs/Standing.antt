@@ -1,5 +1,6 @@
 -- When `stands` holds, by the tests that `is_blocked` makes on the edge's record i.
-use Rattle.laws.specs.Kit.{◌≡◌, refl, sym, Bool, true, false, ◌&&◌, ℕ, ◌<◌, ◌≤◌, ltb, leb, lt-ltb, le-ltb, ltb-true, lt-leb, le-leb, List}
+use Rattle.std.specs.Prelude.{◌≡◌, ◌&&◌, ◌<◌, ◌≤◌}
+use Rattle.laws.specs.Kit.{refl, sym, Bool, true, false, ℕ, ltb, leb, lt-ltb, le-ltb, ltb-true, lt-leb, le-leb, List}
 use mathlib.Core.Bool.{and-false}
 use Rattle.definition.specs.Plane.{Edge}
 use Rattle.blocked_edges.specs.Records.{birth, touched, place, stands}

@@ -1,6 +1,7 @@
 -- The walk of `seek` along the list of u-v: at each turn its record is its place among the edges that are left,
 -- and i is the newest of the list among them.
-use Rattle.laws.specs.Kit.{◌≡◌, refl, sym, ◌∙◌, ap, inl, inr, Bool, true, false, ◌&&◌, cond, ℕ, ◌+◌, ◌<◌, ◌≤◌, arith, eqb, ltb, eq-eqb, ne_eqb, eqb-true, eqb-false, lt-ltb, ltb-true, List, [], ◌∷◌, length}
+use Rattle.std.specs.Prelude.{◌≡◌, ◌&&◌, ◌+◌, ◌<◌, ◌≤◌, ◌∷◌}
+use Rattle.laws.specs.Kit.{refl, sym, ◌∙◌, ap, inl, inr, Bool, true, false, cond, ℕ, arith, eqb, ltb, eq-eqb, ne_eqb, eqb-true, eqb-false, lt-ltb, ltb-true, List, [], length}
 use Rattle.definition.specs.Plane.{Edge}
 use Rattle.definition.specs.Cells.{same_edge}
 use Rattle.laws.specs.Bools.{which}

@@ -1,5 +1,6 @@
 -- What the functions over the refused edges ask and promise.
-use Rattle.laws.specs.Kit.{◌≡◌, cond, ℕ, ◌+◌, ◌^◌, ◌<◌, ◌≤◌, List, [], ◌∷◌, length}
+use Rattle.std.specs.Prelude.{◌≡◌, ◌+◌, ◌^◌, ◌<◌, ◌≤◌, ◌∷◌}
+use Rattle.laws.specs.Kit.{cond, ℕ, List, [], length}
 use Rattle.definition.specs.Plane.{Edge}
 use Rattle.definition.specs.Cells.{has_edge_in, new_quad}
 use Rattle.definition.specs.Front.{freed}

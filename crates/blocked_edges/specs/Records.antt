@@ -1,7 +1,8 @@
 -- The area of the refused edges: at b, with room for n records and p nodes, 3 n + 2 p numbers.
 -- A record stands in one of p lists, by the sum of its edge's nodes; it holds the larger node,
 -- its birth and the next record of the list.
-use Rattle.laws.specs.Kit.{◌≡◌, Bool, false, ◌&&◌, cond, ℕ, ◌+◌, ◌-◌, ◌*◌, ◌^◌, ◌<◌, ◌≤◌, eqb, ltb, leb, List, [], ◌∷◌, length, get_or}
+use Rattle.std.specs.Prelude.{◌≡◌, ◌&&◌, ◌+◌, ◌-◌, ◌*◌, ◌^◌, ◌<◌, ◌≤◌, ◌∷◌}
+use Rattle.laws.specs.Kit.{Bool, false, cond, ℕ, eqb, ltb, leb, List, [], length, get_or}
 use Rattle.definition.specs.Plane.{Edge}
 use Rattle.definition.specs.Cells.{same_edge, has_edge_in}
 use Rattle.laws.specs.Frames.{Only, Stays}

@@ -1,6 +1,7 @@
 -- Without a region of an even number of triangles no component is odd, where none is with it,
 -- as soon as every triangle beside it is in a whole even component or in one other.
-use Rattle.laws.specs.Kit.{◌≡◌, refl, sym, ◌∙◌, ap, subst, ◌⊎◌, inl, inr, Bool, true, false, not, cond, ℕ, suc, ◌+◌, ◌%◌, arith, eqb, ltb, eqb-true, List, [], ◌∷◌, ◌++◌, map, length, length-append}
+use Rattle.std.specs.Prelude.{◌≡◌, ◌⊎◌, ◌+◌, ◌%◌, ◌∷◌, ◌++◌}
+use Rattle.laws.specs.Kit.{refl, sym, ◌∙◌, ap, subst, inl, inr, Bool, true, false, not, cond, ℕ, suc, arith, eqb, ltb, eqb-true, List, [], map, length, length-append}
 use native.Mathlib.Nat.{suc-mod}
 use Rattle.rings.specs.Rings.{Out, Distinct}
 use Rattle.rings.proofs.Lists.{out_append}

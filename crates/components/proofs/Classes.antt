@@ -1,5 +1,6 @@
 -- Components of a list of triangles, by closed sets: any two partitions into components have the same sizes.
-use Rattle.laws.specs.Kit.{◌≡◌, refl, sym, ◌∙◌, ap, subst, inl, inr, Bool, true, false, ◌&&◌, ℕ, suc, ◌+◌, ◌%◌, arith, eqb, ltb, eq-eqb, ne_eqb, List, [], ◌∷◌, ◌++◌, map, length}
+use Rattle.std.specs.Prelude.{◌≡◌, ◌&&◌, ◌+◌, ◌%◌, ◌∷◌, ◌++◌}
+use Rattle.laws.specs.Kit.{refl, sym, ◌∙◌, ap, subst, inl, inr, Bool, true, false, ℕ, suc, arith, eqb, ltb, eq-eqb, ne_eqb, List, [], map, length}
 use mathlib.Core.Bool.{and-true, and-false}
 use Rattle.definition.specs.Lists.{filter, flat_map, concat}
 use Rattle.definition.specs.Cells.{Tri}

@@ -1,5 +1,6 @@
 -- The flood, triangle after triangle: done are those whose edges were crossed, todo those still to come.
-use Rattle.laws.specs.Kit.{◌≡◌, refl, sym, ◌∙◌, ap, subst, ◌≢◌, ◌⊎◌, inl, inr, Bool, true, ℕ, ◌+◌, ◌<◌, ◌≤◌, arith, ne_eqb, List, [], ◌∷◌, ◌++◌, append-nil, append_assoc, length, get_or, length-append}
+use Rattle.std.specs.Prelude.{◌≡◌, ◌≢◌, ◌⊎◌, ◌+◌, ◌<◌, ◌≤◌, ◌∷◌, ◌++◌}
+use Rattle.laws.specs.Kit.{refl, sym, ◌∙◌, ap, subst, inl, inr, Bool, true, ℕ, arith, ne_eqb, List, [], append-nil, append_assoc, length, get_or, length-append}
 use Rattle.rings.specs.Rings.{Out}
 use Rattle.definition.specs.Cells.{Tri, Live, Mesh, live_tri, is_tri, new_live}
 use Rattle.laws.specs.Bools.{never}

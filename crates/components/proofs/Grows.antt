@@ -1,5 +1,6 @@
 -- One triangle more listed and marked.
-use Rattle.laws.specs.Kit.{◌≡◌, refl, sym, ◌∙◌, ap, subst, ◌≢◌, inl, inr, Bool, true, false, cond, ℕ, ◌+◌, ◌*◌, ◌<◌, ◌≤◌, arith, eqb, List, [], ◌∷◌, ◌++◌, length, get_or, length-append}
+use Rattle.std.specs.Prelude.{◌≡◌, ◌≢◌, ◌+◌, ◌*◌, ◌<◌, ◌≤◌, ◌∷◌, ◌++◌}
+use Rattle.laws.specs.Kit.{refl, sym, ◌∙◌, ap, subst, inl, inr, Bool, true, false, cond, ℕ, arith, eqb, List, [], length, get_or, length-append}
 use Rattle.rings.specs.Rings.{Out, Below}
 use Rattle.rings.proofs.Lists.{distinct_snoc, below_append, room}
 use Rattle.definition.specs.Lists.{any}

@@ -1,5 +1,6 @@
 -- A look for a triangle that is not listed, beside a triangle and around a region.
-use Rattle.laws.specs.Kit.{◌≡◌, refl, sym, ◌∙◌, ap, subst, inl, inr, true, ℕ, ◌+◌, ◌<◌, ◌≤◌, arith, dec_le, List, [], ◌∷◌, ◌++◌, append-nil, append_assoc, length, get_or, length-append}
+use Rattle.std.specs.Prelude.{◌≡◌, ◌+◌, ◌<◌, ◌≤◌, ◌∷◌, ◌++◌}
+use Rattle.laws.specs.Kit.{refl, sym, ◌∙◌, ap, subst, inl, inr, true, ℕ, arith, dec_le, List, [], append-nil, append_assoc, length, get_or, length-append}
 use Rattle.rings.specs.Rings.{Out}
 use Rattle.definition.specs.Cells.{Tri, Live, Mesh, live_tri}
 use Rattle.laws.specs.Lists.{In, in_right, in_either, Stored}

@@ -1,5 +1,6 @@
 -- Triangles met: those at one node, one after the other, and those that share an edge with a triangle.
-use Rattle.laws.specs.Kit.{◌≡◌, sym, ◌∙◌, subst, ◌⊎◌, inl, inr, true, ℕ, ◌+◌, ◌*◌, ◌/◌, ◌<◌, ◌≤◌, arith, List, [], ◌∷◌, ◌++◌, append-nil, append_assoc}
+use Rattle.std.specs.Prelude.{◌≡◌, ◌⊎◌, ◌+◌, ◌*◌, ◌/◌, ◌<◌, ◌≤◌, ◌∷◌, ◌++◌}
+use Rattle.laws.specs.Kit.{sym, ◌∙◌, subst, inl, inr, true, ℕ, arith, List, [], append-nil, append_assoc}
 use Rattle.definition.specs.Cells.{Tri, Live, Mesh, live_tri}
 use Rattle.laws.specs.Lists.{In, in_left, in_either}
 use Rattle.account.specs.Triangles.{Has as Corner}

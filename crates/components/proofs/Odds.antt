@@ -1,5 +1,6 @@
 -- The odd test over the sweep: as long as every component taken is even it goes on.
-use Rattle.laws.specs.Kit.{◌≡◌, refl, sym, ◌∙◌, ap, subst, ◌≢◌, inl, inr, true, false, ℕ, ◌+◌, ◌-◌, ◌%◌, ◌≤◌, arith, List, [], ◌∷◌, ◌++◌, map, append-nil, length, length-map}
+use Rattle.std.specs.Prelude.{◌≡◌, ◌≢◌, ◌+◌, ◌-◌, ◌%◌, ◌≤◌, ◌∷◌, ◌++◌}
+use Rattle.laws.specs.Kit.{refl, sym, ◌∙◌, ap, subst, inl, inr, true, false, ℕ, arith, List, [], map, append-nil, length, length-map}
 use Rattle.definition.specs.Cells.{Tri, Live, Mesh}
 use Rattle.definition.specs.Components.{removing_leaves_odd_component}
 use Rattle.laws.specs.Lists.{In, in_map, Stored}

@@ -1,5 +1,6 @@
 -- One cell looked at, and the ring of a node walked past those listed.
-use Rattle.laws.specs.Kit.{◌≡◌, refl, sym, ◌∙◌, subst, ◌≢◌, ◌⊎◌, inl, inr, Bool, true, false, ◌||◌, false≢true, ℕ, ◌+◌, ◌*◌, ◌/◌, ◌<◌, ◌≤◌, arith, dec_le, eq-eqb, ne_eqb, List, get_or}
+use Rattle.std.specs.Prelude.{◌≡◌, ◌≢◌, ◌⊎◌, ◌||◌, ◌+◌, ◌*◌, ◌/◌, ◌<◌, ◌≤◌}
+use Rattle.laws.specs.Kit.{refl, sym, ◌∙◌, subst, inl, inr, Bool, true, false, false≢true, ℕ, arith, dec_le, eq-eqb, ne_eqb, List, get_or}
 use Rattle.rings.specs.Rings.{Out, nx}
 use Rattle.definition.specs.Cells.{Tri, Cell, tri, Live, Mesh, live_tri, tri_has}
 use Rattle.laws.specs.Bools.{either, never}

@@ -1,5 +1,6 @@
 -- A place in the ring of a node: the triangles that have the node stand there one after the other.
-use Rattle.laws.specs.Kit.{◌≡◌, refl, sym, ◌∙◌, ap, subst, ◌⊎◌, inl, inr, true, ℕ, suc, ◌+◌, ◌*◌, ◌/◌, ◌<◌, ◌≤◌, arith, List, [], ◌∷◌, length}
+use Rattle.std.specs.Prelude.{◌≡◌, ◌⊎◌, ◌+◌, ◌*◌, ◌/◌, ◌<◌, ◌≤◌, ◌∷◌}
+use Rattle.laws.specs.Kit.{refl, sym, ◌∙◌, ap, subst, inl, inr, true, ℕ, suc, arith, List, [], length}
 use Rattle.rings.specs.Rings.{nx}
 use Rattle.definition.specs.Cells.{Live, live_tri}
 use Rattle.laws.specs.Lists.{In}

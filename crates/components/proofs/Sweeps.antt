@@ -1,5 +1,6 @@
 -- The sweep over the slots: the components taken so far, and what they say of the definition's.
-use Rattle.laws.specs.Kit.{◌≡◌, refl, sym, ◌∙◌, ap, subst, ◌≢◌, ◌⊎◌, inl, inr, Bool, true, not, ℕ, suc, ◌+◌, ◌<◌, ◌≤◌, arith, ℕ_discrete, eq-eqb, not-true, List, [], ◌∷◌, ◌++◌, map, append_assoc, length, length-append, length-map}
+use Rattle.std.specs.Prelude.{◌≡◌, ◌≢◌, ◌⊎◌, ◌+◌, ◌<◌, ◌≤◌, ◌∷◌, ◌++◌}
+use Rattle.laws.specs.Kit.{refl, sym, ◌∙◌, ap, subst, inl, inr, Bool, true, not, ℕ, suc, arith, ℕ_discrete, eq-eqb, not-true, List, [], map, append_assoc, length, length-append, length-map}
 use Rattle.rings.specs.Rings.{Distinct}
 use Rattle.definition.specs.Lists.{filter, flat_map, concat}
 use Rattle.definition.specs.Cells.{Tri, Cell, tri, quad, Live, Mesh, live_tri, is_tri, in_slot, tri_of, tris_of, among, without_all, new_live}

@@ -1,5 +1,6 @@
 -- The number of triangles that a region leaves: where it is odd, some component is.
-use Rattle.laws.specs.Kit.{◌≡◌, refl, sym, ◌∙◌, ap, ◌≢◌, inl, inr, true, false, ℕ, ◌+◌, ◌-◌, ◌%◌, ◌≤◌, arith, List, map, length, length-map}
+use Rattle.std.specs.Prelude.{◌≡◌, ◌≢◌, ◌+◌, ◌-◌, ◌%◌, ◌≤◌}
+use Rattle.laws.specs.Kit.{refl, sym, ◌∙◌, ap, inl, inr, true, false, ℕ, arith, List, map, length, length-map}
 use Rattle.definition.specs.Lists.{filter}
 use Rattle.definition.specs.Cells.{Tri, Live, Mesh, live_tri, live_tris, tris_of}
 use Rattle.definition.specs.Components.{odd_one, removing_leaves_odd_component}

@@ -1,5 +1,6 @@
 -- Triangles listed and marked, and what a flood over shared edges adds to them.
-use Rattle.laws.specs.Kit.{◌≡◌, ◌⊎◌, Bool, true, cond, ℕ, ◌+◌, ◌<◌, List, ◌++◌, length, get_or}
+use Rattle.std.specs.Prelude.{◌≡◌, ◌⊎◌, ◌+◌, ◌<◌, ◌++◌}
+use Rattle.laws.specs.Kit.{Bool, true, cond, ℕ, List, length, get_or}
 use Rattle.rings.specs.Rings.{Distinct}
 use Rattle.definition.specs.Lists.{any}
 use Rattle.definition.specs.Cells.{Tri, Cell, tri, quad, Live, Mesh, new_tri, new_live, live_tri, in_slot}

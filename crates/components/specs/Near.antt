@@ -1,5 +1,6 @@
 -- A look around a region: a triangle beside it that is not listed, and the pieces that a flood takes from there.
-use Rattle.laws.specs.Kit.{◌≡◌, Bool, true, ℕ, ◌<◌, List, ◌++◌, length}
+use Rattle.std.specs.Prelude.{◌≡◌, ◌<◌, ◌++◌}
+use Rattle.laws.specs.Kit.{Bool, true, ℕ, List, length}
 use Rattle.definition.specs.Cells.{Tri, Live, Mesh, live_tri}
 use Rattle.laws.specs.Lists.{In}
 use Rattle.account.specs.Triangles.{Shares}

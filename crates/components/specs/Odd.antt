@@ -1,5 +1,6 @@
 -- What the odd test gives.
-use Rattle.laws.specs.Kit.{◌≡◌, Bool, ℕ, List}
+use Rattle.std.specs.Prelude.{◌≡◌}
+use Rattle.laws.specs.Kit.{Bool, ℕ, List}
 use Rattle.definition.specs.Cells.{Live, Mesh}
 use Rattle.definition.specs.Components.{removing_leaves_odd_component}
 use Rattle.regions.specs.Listing.{Listed, Aside}

@@ -1,5 +1,6 @@
 -- A walk along the ring of a node past the triangles listed, which can be taken up again.
-use Rattle.laws.specs.Kit.{◌≡◌, ◌⊎◌, Bool, true, false, ℕ, ◌*◌, ◌/◌, ◌<◌, ◌≤◌, List}
+use Rattle.std.specs.Prelude.{◌≡◌, ◌⊎◌, ◌*◌, ◌/◌, ◌<◌, ◌≤◌}
+use Rattle.laws.specs.Kit.{Bool, true, false, ℕ, List}
 use Rattle.rings.specs.Rings.{Out}
 use Rattle.definition.specs.Cells.{Live, Mesh, live_tri}
 use Rattle.laws.specs.Lists.{In}

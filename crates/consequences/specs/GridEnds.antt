@@ -1,7 +1,8 @@
 -- The grid profile, whatever ends the run: no point is added, and 8 does not come up.
 -- An insertion is tried only where an edge's length is off its target
 -- (`stance_on_target`), and nothing else wants a point.
-use Rattle.laws.specs.Kit.{◌≡◌, refl, sym, ◌∙◌, ap, subst, ◌≢◌, inl, inr, Bool, true, false, not, ◌&&◌, ◌||◌, cond, Option, none, some, ℕ, ◌+◌, arith, ltb, List, [], ◌∷◌, length}
+use Rattle.std.specs.Prelude.{◌≡◌, ◌≢◌, ◌&&◌, ◌||◌, ◌+◌, ◌∷◌}
+use Rattle.laws.specs.Kit.{refl, sym, ◌∙◌, ap, subst, inl, inr, Bool, true, false, not, cond, Option, none, some, ℕ, arith, ltb, List, [], length}
 use Rattle.definition.specs.Lists.{find, flat_map}
 use Rattle.definition.specs.Floats.{◌≼◌}
 use Rattle.definition.specs.Numbers.{Settings, first_turn, tiny_length}

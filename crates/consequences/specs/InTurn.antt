@@ -1,6 +1,7 @@
 -- Trials over a run: its attempts one after the other, each made on the mesh that the one before left.
 -- Each tried exactly as many pairs as an attempt on its mesh does, and the trials add up to those counted.
-use Rattle.laws.specs.Kit.{◌≡◌, refl, sym, ◌∙◌, ap, subst, ◌⊎◌, inl, inr, Bool, true, false, cond, ℕ, ◌+◌, ◌<◌, arith, List, [], ◌∷◌, ◌++◌, map, append-nil, length, length-append}
+use Rattle.std.specs.Prelude.{◌≡◌, ◌⊎◌, ◌+◌, ◌<◌, ◌∷◌, ◌++◌}
+use Rattle.laws.specs.Kit.{refl, sym, ◌∙◌, ap, subst, inl, inr, Bool, true, false, cond, ℕ, arith, List, [], map, append-nil, length, length-append}
 use Rattle.definition.specs.Lists.{flat_map}
 use Rattle.definition.specs.Numbers.{Settings}
 use Rattle.definition.specs.Counts.{Counts, tally, ◌⊞◌, no_counts, emptied, one_attempt, Spent, nothing_spent, spending, at_limit, Refusal, Placement, Shape, Recovery, Region, OddRegion, refused_by, Want}

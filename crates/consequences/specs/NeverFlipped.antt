@@ -1,5 +1,6 @@
 -- Joints: no flip in the history of a run is of a locked edge, whatever ended the run.
-use Rattle.laws.specs.Kit.{◌≡◌, refl, sym, ◌∙◌, ap, subst, Bool, false, none, some, ℕ, ◌+◌, List, [], ◌∷◌, ◌++◌, length}
+use Rattle.std.specs.Prelude.{◌≡◌, ◌+◌, ◌∷◌, ◌++◌}
+use Rattle.laws.specs.Kit.{refl, sym, ◌∙◌, ap, subst, Bool, false, none, some, ℕ, List, [], length}
 use Rattle.definition.specs.Lists.{find}
 use Rattle.definition.specs.Numbers.{Settings}
 use Rattle.definition.specs.Plane.{Node, Edge}

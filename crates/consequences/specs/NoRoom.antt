@@ -1,6 +1,7 @@
 -- When an insertion ends a run: 8 only where no point is free, 9 only where a point is and two slots are not,
 -- 11 only where a point and two slots are; 8 is therefore tested before 9 and 9 before 11.
-use Rattle.laws.specs.Kit.{cond, Option, none, some, ℕ, ◌+◌, ◌<◌, ◌≤◌, ltb, leb, ltb-true, ltb-false, leb-false, length, Float}
+use Rattle.std.specs.Prelude.{◌+◌, ◌<◌, ◌≤◌}
+use Rattle.laws.specs.Kit.{cond, Option, none, some, ℕ, ltb, leb, ltb-true, ltb-false, leb-false, length, Float}
 use borrow.Author.Tests.{leb-true}
 use Rattle.definition.specs.Floats.{◌⊗◌}
 use Rattle.definition.specs.Numbers.{Settings, node_spacing}

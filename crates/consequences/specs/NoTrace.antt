@@ -1,7 +1,8 @@
 -- Trace: it changes nothing else.
 -- A call with a trace that 11 does not refuse gives the answer and the slices that it gives without one,
 -- but for the trace and its words.
-use Rattle.laws.specs.Kit.{◌≡◌, refl, ◌∙◌, ap, ◌≢◌, inl, inr, Bool, true, false, cond, ℕ, zero, suc, ◌+◌, List, [], ◌∷◌, length}
+use Rattle.std.specs.Prelude.{◌≡◌, ◌≢◌, ◌+◌, ◌∷◌}
+use Rattle.laws.specs.Kit.{refl, ◌∙◌, ap, inl, inr, Bool, true, false, cond, ℕ, zero, suc, List, [], length}
 use Rattle.definition.specs.Lists.{find}
 use Rattle.definition.specs.Numbers.{Settings}
 use Rattle.definition.specs.Counts.{one_attempt, nothing_spent, at_limit, Placement, number}

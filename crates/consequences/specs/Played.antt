@@ -1,6 +1,7 @@
 -- Replay: an entry of a trace is read back as the event that it was made from,
 -- and the trace of events that can be done again is replayed to its end.
-use Rattle.laws.specs.Kit.{◌≡◌, refl, sym, ◌∙◌, ap, inl, inr, ℕ, zero, suc, ◌+◌, ◌*◌, ◌/◌, ◌%◌, ◌<◌, ◌≤◌, arith, T, le-leb, List, [], ◌∷◌, ◌++◌, length, length-append, Float, binary64, of_bits, to_bits, fits}
+use Rattle.std.specs.Prelude.{◌≡◌, ◌+◌, ◌*◌, ◌/◌, ◌%◌, ◌<◌, ◌≤◌, ◌∷◌, ◌++◌}
+use Rattle.laws.specs.Kit.{refl, sym, ◌∙◌, ap, inl, inr, ℕ, zero, suc, arith, T, le-leb, List, [], length, length-append, Float, binary64, of_bits, to_bits, fits}
 use Rattle.std.proofs.Common.{div-add-mod'}
 use Rattle.std.proofs.Math.Seq.{take-append_seam, drop-append_seam}
 use Rattle.std.specs.Float.Ieee.Bits.{of_bits-to_bits}

@@ -1,6 +1,7 @@
 -- Preview: with room for two points and five slots beyond the given ones no preview that its inputs do not refuse
 -- is refused: 8 and 9 do not come up, nor 11, since no trace is lent.
-use Rattle.laws.specs.Kit.{◌≡◌, refl, ◌∙◌, ap, ◌≢◌, inl, inr, true, false, not, ◌&&◌, ◌||◌, Option, none, some, ℕ, zero, suc, ◌+◌, ◌*◌, ◌≤◌, arith, eqb, le-ltb, lt-leb, List, [], ◌∷◌, length, Float}
+use Rattle.std.specs.Prelude.{◌≡◌, ◌≢◌, ◌&&◌, ◌||◌, ◌+◌, ◌*◌, ◌≤◌, ◌∷◌}
+use Rattle.laws.specs.Kit.{refl, ◌∙◌, ap, inl, inr, true, false, not, Option, none, some, ℕ, zero, suc, arith, eqb, le-ltb, lt-leb, List, [], length, Float}
 use Rattle.definition.specs.Lists.{find}
 use Rattle.definition.specs.Floats.{◌⊗◌, ◌≼◌}
 use Rattle.definition.specs.Numbers.{Settings, Turn, first_turn, second_turn, insert_shares, node_spacing, tiny_length}

@@ -1,6 +1,7 @@
 -- The grid profile refuses, and changes no run: a call that 15 does not refuse returns
 -- what it returns without the profile.
-use Rattle.laws.specs.Kit.{◌≡◌, refl, sym, ap, inl, inr, false, ℕ, [], ◌∷◌, length}
+use Rattle.std.specs.Prelude.{◌≡◌, ◌∷◌}
+use Rattle.laws.specs.Kit.{refl, sym, ap, inl, inr, false, ℕ, [], length}
 use Rattle.definition.specs.Lists.{find}
 use Rattle.definition.specs.Numbers.{max_attempts}
 use Rattle.definition.specs.Front.{run_front}

@@ -1,5 +1,6 @@
 -- A mesh without its trace: all that a run reads of a mesh is as it was.
-use Rattle.laws.specs.Kit.{◌≡◌, refl, ◌∙◌, ap, inl, inr, Bool, true, not, ◌&&◌, ◌||◌, cond, Option, none, some, ℕ, zero, suc, List, [], ◌∷◌, ◌++◌, foldl, length, Float}
+use Rattle.std.specs.Prelude.{◌≡◌, ◌&&◌, ◌||◌, ◌∷◌, ◌++◌}
+use Rattle.laws.specs.Kit.{refl, ◌∙◌, ap, inl, inr, Bool, true, not, cond, Option, none, some, ℕ, zero, suc, List, [], foldl, length, Float}
 use Rattle.definition.specs.Lists.{all, filter, find, below}
 use Rattle.definition.specs.Floats.{◌⊕◌, ◌⊖◌, ◌⊗◌, ◌≺◌, ◌≼◌, abs, greater, 0·0, 1·0}
 use Rattle.definition.specs.Numbers.{Settings, Quality, Turn, area_slack, insert_reach, side_margin, tiny_length}

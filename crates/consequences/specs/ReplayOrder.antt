@@ -1,6 +1,7 @@
 -- Replay: a split whose slot has no triangle around its point is refused with 12, whatever room is left.
 -- 12 is therefore tested before 8 and 9.
-use Rattle.laws.specs.Kit.{◌≡◌, refl, false, some, ℕ, ◌≤◌, length}
+use Rattle.std.specs.Prelude.{◌≡◌, ◌≤◌}
+use Rattle.laws.specs.Kit.{refl, false, some, ℕ, length}
 use Rattle.definition.specs.Numbers.{Settings}
 use Rattle.definition.specs.Plane.{Node}
 use Rattle.definition.specs.Cells.{Live, Mesh, was_split, cell_of}

@@ -1,5 +1,6 @@
 -- Replay: that of a run's trace, in whatever memory, ends in the run's points, quads, triangles and components.
-use Rattle.laws.specs.Kit.{◌≡◌, refl, sym, ◌∙◌, ap, subst, inl, inr, Bool, true, false, ◌||◌, none, ℕ, zero, suc, ◌+◌, ◌*◌, ◌<◌, ◌≤◌, arith, ltb, le-ltb, List, [], ◌∷◌, length, take, drop, length-append, Float}
+use Rattle.std.specs.Prelude.{◌≡◌, ◌||◌, ◌+◌, ◌*◌, ◌<◌, ◌≤◌, ◌∷◌}
+use Rattle.laws.specs.Kit.{refl, sym, ◌∙◌, ap, subst, inl, inr, Bool, true, false, none, ℕ, zero, suc, arith, ltb, le-ltb, List, [], length, take, drop, length-append, Float}
 use Rattle.definition.specs.Lists.{find}
 use Rattle.definition.specs.Numbers.{Settings}
 use Rattle.definition.specs.Counts.{Counts, Want}

@@ -1,6 +1,7 @@
 -- Replay: the meshes that a run went through, one for each entry of its trace.
 -- With the first entries alone a replay gives the mesh that the run had then.
-use Rattle.laws.specs.Kit.{◌≡◌, refl, sym, ◌∙◌, ap, subst, false, none, some, ℕ, ◌+◌, ◌<◌, ◌≤◌, arith, dec_le, List, [], ◌∷◌, ◌++◌, append_assoc, length, take, drop, length-append, Float}
+use Rattle.std.specs.Prelude.{◌≡◌, ◌+◌, ◌<◌, ◌≤◌, ◌∷◌, ◌++◌}
+use Rattle.laws.specs.Kit.{refl, sym, ◌∙◌, ap, subst, false, none, some, ℕ, arith, dec_le, List, [], append_assoc, length, take, drop, length-append, Float}
 use Rattle.std.proofs.Common.{take-append-drop, take_all}
 use Rattle.std.proofs.Math.Seq.{take-nil, take-append_seam}
 use Rattle.std.proofs.lemmas.List.{take-append-le}

@@ -1,6 +1,7 @@
 -- A mesh without its trace: an insertion and an attempt go as on the mesh with it,
 -- wherever those do not end for want of trace.
-use Rattle.laws.specs.Kit.{◌≡◌, refl, ◌∙◌, ap, inl, inr, ◌||◌, cond, Option, none, some, ℕ, ◌+◌, ltb, leb, List, [], ◌∷◌, length, Float}
+use Rattle.std.specs.Prelude.{◌≡◌, ◌||◌, ◌+◌, ◌∷◌}
+use Rattle.laws.specs.Kit.{refl, ◌∙◌, ap, inl, inr, cond, Option, none, some, ℕ, ltb, leb, List, [], length, Float}
 use Rattle.definition.specs.Floats.{◌⊗◌, ◌≼◌}
 use Rattle.definition.specs.Numbers.{Settings, Turn, first_turn, second_turn, insert_shares, node_spacing, tiny_length}
 use Rattle.definition.specs.Counts.{Placement, Spent, nothing_spent, of_points, of_slots, of_trace}

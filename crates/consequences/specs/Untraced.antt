@@ -1,6 +1,7 @@
 -- A mesh without its trace: flips, recoveries and pairs go as on the mesh with it,
 -- wherever those do not end for want of trace.
-use Rattle.laws.specs.Kit.{◌≡◌, refl, sym, ◌∙◌, ap, ◌≢◌, inl, inr, Bool, true, false, ◌&&◌, cond, Option, none, some, ℕ, zero, suc, ◌+◌, ltb, List, [], ◌∷◌, length}
+use Rattle.std.specs.Prelude.{◌≡◌, ◌≢◌, ◌&&◌, ◌+◌, ◌∷◌}
+use Rattle.laws.specs.Kit.{refl, sym, ◌∙◌, ap, inl, inr, Bool, true, false, cond, Option, none, some, ℕ, zero, suc, ltb, List, [], length}
 use Rattle.definition.specs.Numbers.{Settings}
 use Rattle.definition.specs.Counts.{Refusal, Recovery, Spent, trying, Want, of_slots, of_trace}
 use Rattle.definition.specs.Plane.{Edge}

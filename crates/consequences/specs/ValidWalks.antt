@@ -1,7 +1,8 @@
 -- The walk over edges, loops and rounds where every mesh on the way is valid and every edge tried has its smaller
 -- node
 -- first; how want of lent memory ended the run is told.
-use Rattle.laws.specs.Kit.{◌≡◌, refl, ◌⊎◌, inl, inr, ℕ, zero, suc, ◌<◌, List, [], ◌∷◌}
+use Rattle.std.specs.Prelude.{◌≡◌, ◌⊎◌, ◌<◌, ◌∷◌}
+use Rattle.laws.specs.Kit.{refl, inl, inr, ℕ, zero, suc, List, []}
 use Rattle.definition.specs.Numbers.{Settings}
 use Rattle.definition.specs.Counts.{emptied, Want}
 use Rattle.definition.specs.Plane.{Edge}

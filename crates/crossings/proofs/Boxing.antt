@@ -1,5 +1,6 @@
 -- The box around a node and its neighbours, found in the node's ring.
-use Rattle.laws.specs.Kit.{◌≡◌, refl, sym, ◌∙◌, ap, subst, ◌≢◌, ◌⊎◌, inl, inr, Bool, true, false, ◌||◌, false≢true, ℕ, ◌+◌, ◌*◌, ◌<◌, ◌≤◌, arith, eqb, ltb, eq-eqb, ne_eqb, ltb-true, ltb-false, List, length, Float, lt, le}
+use Rattle.std.specs.Prelude.{◌≡◌, ◌≢◌, ◌⊎◌, ◌||◌, ◌+◌, ◌*◌, ◌<◌, ◌≤◌}
+use Rattle.laws.specs.Kit.{refl, sym, ◌∙◌, ap, subst, inl, inr, Bool, true, false, false≢true, ℕ, arith, eqb, ltb, eq-eqb, ne_eqb, ltb-true, ltb-false, List, length, Float, lt, le}
 use mathlib.Core.Bool.{or-true}
 use Rattle.rings.specs.Rings.{nx}
 use Rattle.rings.proofs.Lists.{Same, same, differ, decide}

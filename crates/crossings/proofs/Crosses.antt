@@ -1,6 +1,7 @@
 -- The least node beside a node whose edge crosses a segment, found in the node's ring;
 -- and the smallest crossing edge of the mesh.
-use Rattle.laws.specs.Kit.{◌≡◌, refl, sym, ◌∙◌, ap, subst, ◌≢◌, Bool, true, false, ◌&&◌, ◌||◌, cond, true≢false, false≢true, none, ℕ, ◌+◌, ◌*◌, ◌<◌, ◌≤◌, arith, eqb, ltb, eq-eqb, ne_eqb, eqb-false, le-ltb, ltb-true, ltb-false, List, [], ◌∷◌, length}
+use Rattle.std.specs.Prelude.{◌≡◌, ◌≢◌, ◌&&◌, ◌||◌, ◌+◌, ◌*◌, ◌<◌, ◌≤◌, ◌∷◌}
+use Rattle.laws.specs.Kit.{refl, sym, ◌∙◌, ap, subst, Bool, true, false, cond, true≢false, false≢true, none, ℕ, arith, eqb, ltb, eq-eqb, ne_eqb, eqb-false, le-ltb, ltb-true, ltb-false, List, [], length}
 use mathlib.Core.Bool.{and-false, or-true}
 use Rattle.rings.specs.Rings.{nx}
 use Rattle.rings.proofs.Lists.{Same, same, differ, decide}

@@ -1,6 +1,7 @@
 -- Limits of a segment: beyond them no edge overlaps it in bucket range,
 -- so a node that lies there with its neighbours has no edge that crosses.
-use Rattle.laws.specs.Kit.{◌≡◌, refl, sym, ◌∙◌, subst, inl, inr, Bool, true, false, not, ◌&&◌, false≢true, ℕ, arith, T, Float, binary64, nan, of_bits, lt, le, div}
+use Rattle.std.specs.Prelude.{◌≡◌, ◌&&◌}
+use Rattle.laws.specs.Kit.{refl, sym, ◌∙◌, subst, inl, inr, Bool, true, false, not, false≢true, ℕ, arith, T, Float, binary64, nan, of_bits, lt, le, div}
 use lib.Ieee.{is_nan}
 use Rattle.definition.specs.Floats.{◌⊘◌, ◌≺◌, ◌≼◌, 0·0, f64}
 use Rattle.definition.specs.Root.{floor}

@@ -1,5 +1,6 @@
 -- The memory with a box noted stands for the same mesh.
-use Rattle.laws.specs.Kit.{◌≡◌, sym, ◌∙◌, ap, subst, ◌≢◌, true, ℕ, zero, suc, ◌+◌, ◌*◌, ◌%◌, ◌^◌, ◌<◌, ◌≤◌, arith, List, length, get_or, set, length-set, Float, le}
+use Rattle.std.specs.Prelude.{◌≡◌, ◌≢◌, ◌+◌, ◌*◌, ◌%◌, ◌^◌, ◌<◌, ◌≤◌}
+use Rattle.laws.specs.Kit.{sym, ◌∙◌, ap, subst, true, ℕ, zero, suc, arith, List, length, get_or, set, length-set, Float, le}
 use Rattle.rings.proofs.Lists.{Same, same, differ, decide}
 use Rattle.rings.proofs.Families.{family_kept}
 use Rattle.definition.specs.Floats.{◌≼◌}

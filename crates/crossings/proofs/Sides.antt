@@ -1,5 +1,6 @@
 -- The edges of the mesh: each is the key of two nodes of a live cell, and an edge that a cell has is one of its edges.
-use Rattle.laws.specs.Kit.{◌≡◌, refl, sym, ◌∙◌, ap, subst, ◌≢◌, inl, inr, Bool, true, false, ◌&&◌, ◌||◌, ℕ, ◌<◌, arith, eqb, eq-eqb, List, length}
+use Rattle.std.specs.Prelude.{◌≡◌, ◌≢◌, ◌&&◌, ◌||◌, ◌<◌}
+use Rattle.laws.specs.Kit.{refl, sym, ◌∙◌, ap, subst, inl, inr, Bool, true, false, ℕ, arith, eqb, eq-eqb, List, length}
 use Rattle.definition.specs.Plane.{Edge}
 use Rattle.definition.specs.Lists.{any}
 use Rattle.definition.specs.Cells.{Tri, Quad, Cell, tri, quad, Mesh, nodes, quad_nodes, key, edges, tri_edges, quad_edges, same_edge, tri_has, has_side, has_edge_in, has_edge, owns, all_edges}

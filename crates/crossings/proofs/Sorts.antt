@@ -1,5 +1,6 @@
 -- The first of a sorted list is its least element.
-use Rattle.laws.specs.Kit.{◌≡◌, refl, sym, ◌∙◌, ap, subst, ◌⊎◌, inl, inr, Bool, true, false, Option, none, some, ℕ, arith, List, [], ◌∷◌}
+use Rattle.std.specs.Prelude.{◌≡◌, ◌⊎◌, ◌∷◌}
+use Rattle.laws.specs.Kit.{refl, sym, ◌∙◌, ap, subst, inl, inr, Bool, true, false, Option, none, some, ℕ, arith, List, []}
 use Rattle.definition.specs.Lists.{first, insert, sort}
 use Rattle.laws.specs.Lists.{In, sort_in}
 use Rattle.laws.specs.Sorts.{insert_yes, insert_no}

@@ -1,5 +1,6 @@
 -- The tests of an edge against a segment, as the code goes about them.
-use Rattle.laws.specs.Kit.{◌≡◌, refl, sym, ◌∙◌, ap, subst, Bool, true, false, not, ◌&&◌, ◌||◌, true≢false, false≢true, ℕ, ◌+◌, ◌*◌, ◌<◌, arith, eqb, List, Float, le}
+use Rattle.std.specs.Prelude.{◌≡◌, ◌&&◌, ◌||◌, ◌+◌, ◌*◌, ◌<◌}
+use Rattle.laws.specs.Kit.{refl, sym, ◌∙◌, ap, subst, Bool, true, false, not, true≢false, false≢true, ℕ, arith, eqb, List, Float, le}
 use mathlib.Core.Bool.{and-false}
 use Rattle.rings.specs.Rings as rings
 use Rattle.definition.specs.Floats.{◌⊗◌, ◌⊘◌, ◌≺◌, ◌≼◌, 0·0, lesser, greater}

@@ -1,5 +1,6 @@
 -- The nodes of a triangle, and a node that is no end of an edge.
-use Rattle.laws.specs.Kit.{◌≡◌, refl, sym, ◌≢◌, Bool, true, false, not, ◌||◌, false≢true, ℕ, ◌<◌, eqb, eq-eqb, ne_eqb, eqb-true}
+use Rattle.std.specs.Prelude.{◌≡◌, ◌≢◌, ◌||◌, ◌<◌}
+use Rattle.laws.specs.Kit.{refl, sym, Bool, true, false, not, false≢true, ℕ, eqb, eq-eqb, ne_eqb, eqb-true}
 use mathlib.Core.Bool.{and-false}
 use Rattle.definition.specs.Cells.{Tri, tri, nodes, tri_nodes, tri_has}
 use Rattle.definition.specs.Flips.{off_edge}

@@ -1,5 +1,6 @@
 -- What is said of the box around a node and its neighbours.
-use Rattle.laws.specs.Kit.{◌≡◌, Bool, true, ℕ, ◌+◌, ◌*◌, ◌^◌, ◌<◌, ◌≤◌, List, length, set, Float}
+use Rattle.std.specs.Prelude.{◌≡◌, ◌+◌, ◌*◌, ◌^◌, ◌<◌, ◌≤◌}
+use Rattle.laws.specs.Kit.{Bool, true, ℕ, List, length, set, Float}
 use Rattle.definition.specs.Floats.{◌≼◌}
 use Rattle.definition.specs.Plane.{Node}
 use Rattle.definition.specs.Cells.{Mesh, node_at}

@@ -1,5 +1,6 @@
 -- What the search for a crossing edge asks and gives.
-use Rattle.laws.specs.Kit.{◌≡◌, Bool, true, some, ℕ, ◌*◌, ◌<◌, ◌≤◌, List, length, Float}
+use Rattle.std.specs.Prelude.{◌≡◌, ◌*◌, ◌<◌, ◌≤◌}
+use Rattle.laws.specs.Kit.{Bool, true, some, ℕ, List, length, Float}
 use Rattle.definition.specs.Floats.{◌⊘◌}
 use Rattle.definition.specs.Root.{floor}
 use Rattle.definition.specs.Cells.{Mesh, has_edge}

@@ -1,5 +1,6 @@
 -- What is said of a crossing edge.
-use Rattle.laws.specs.Kit.{◌≡◌, none, ℕ}
+use Rattle.std.specs.Prelude.{◌≡◌}
+use Rattle.laws.specs.Kit.{none, ℕ}
 use Rattle.definition.specs.Cells.{Mesh}
 use Rattle.definition.specs.Flips.{first_crossing}
 use Rattle.crossings.specs.Cross.{FirstAt}

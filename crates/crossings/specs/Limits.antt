@@ -1,5 +1,6 @@
 -- What is said of the limits of a segment.
-use Rattle.laws.specs.Kit.{◌≡◌, true, false, Float}
+use Rattle.std.specs.Prelude.{◌≡◌}
+use Rattle.laws.specs.Kit.{true, false, Float}
 use Rattle.definition.specs.Floats.{◌⊘◌, ◌≺◌, ◌≼◌, 0·0}
 use Rattle.definition.specs.Root.{floor}
 use Rattle.definition.specs.Plane.{Node}

@@ -1,5 +1,6 @@
 -- Nodes of the mesh as they are read.
-use Rattle.laws.specs.Kit.{◌≡◌, ℕ, List, Float}
+use Rattle.std.specs.Prelude.{◌≡◌}
+use Rattle.laws.specs.Kit.{ℕ, List, Float}
 use Rattle.definition.specs.Cells.{Mesh, node_at}
 use Rattle.definition.specs.Call.{point_at}
 

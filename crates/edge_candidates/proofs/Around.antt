@@ -1,5 +1,6 @@
 -- The ring of a node walked for something that holds of its neighbours.
-use Rattle.laws.specs.Kit.{◌≡◌, refl, sym, ◌∙◌, ap, subst, ◌≢◌, Bool, true, false, ◌||◌, false≢true, ℕ, ◌+◌, ◌*◌, ◌<◌, ◌≤◌, arith, eqb, eq-eqb, ne_eqb, eqb-true, List, [], ◌∷◌, length}
+use Rattle.std.specs.Prelude.{◌≡◌, ◌≢◌, ◌||◌, ◌+◌, ◌*◌, ◌<◌, ◌≤◌, ◌∷◌}
+use Rattle.laws.specs.Kit.{refl, sym, ◌∙◌, ap, subst, Bool, true, false, false≢true, ℕ, arith, eqb, eq-eqb, ne_eqb, eqb-true, List, [], length}
 use mathlib.Core.Bool.{or-true}
 use Rattle.rings.specs.Rings.{nx, Below}
 use Rattle.rings.proofs.Lists.{Same, same, differ, decide, room}

@@ -1,5 +1,6 @@
 -- A double written as two words and read back.
-use Rattle.laws.specs.Kit.{◌≡◌, refl, sym, ◌∙◌, subst, Bool, false, not, false≢true, ℕ, ◌+◌, ◌*◌, ◌/◌, ◌%◌, ◌^◌, ◌≤◌, arith, T, List, length, get_or, set, length-set, Float, binary64, nan, fin, inf, to_bits, fits}
+use Rattle.std.specs.Prelude.{◌≡◌, ◌+◌, ◌*◌, ◌/◌, ◌%◌, ◌^◌, ◌≤◌}
+use Rattle.laws.specs.Kit.{refl, sym, ◌∙◌, subst, Bool, false, not, false≢true, ℕ, arith, T, List, length, get_or, set, length-set, Float, binary64, nan, fin, inf, to_bits, fits}
 use lib.Ieee.{is_nan, nan_bits, ne}
 use lib.Ieee.Bits.{of_bits-to_bits, nan_bits_is}
 use Rattle.definition.specs.Floats.{f64}

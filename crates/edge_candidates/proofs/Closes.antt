@@ -1,5 +1,6 @@
 -- The ideals at a node asked together: some front edge, the turned unit, and the tests of an edge candidate.
-use Rattle.laws.specs.Kit.{◌≡◌, refl, sym, ◌∙◌, ap, ◌≢◌, Bool, true, false, not, ◌&&◌, ◌||◌, false≢true, none, some, ℕ, zero, suc, ◌+◌, ◌<◌, ◌≤◌, arith, eq-eqb, ne_eqb, List, [], ◌∷◌, ◌++◌, length, Float}
+use Rattle.std.specs.Prelude.{◌≡◌, ◌≢◌, ◌&&◌, ◌||◌, ◌+◌, ◌<◌, ◌≤◌, ◌∷◌, ◌++◌}
+use Rattle.laws.specs.Kit.{refl, sym, ◌∙◌, ap, Bool, true, false, not, false≢true, none, some, ℕ, zero, suc, arith, eq-eqb, ne_eqb, List, [], length, Float}
 use mathlib.Core.Bool.{and-false, and-true, or-false, or-true, or_assoc}
 use Rattle.rings.proofs.Lists.{Same, same, differ, decide}
 use Rattle.definition.specs.Lists.{filter, any, first, flat_map, numbers, below}

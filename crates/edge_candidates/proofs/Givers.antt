@@ -1,5 +1,6 @@
 -- The nodes that give an ideal, listed while the ring of the end is walked; what a change elsewhere leaves.
-use Rattle.laws.specs.Kit.{◌≡◌, refl, sym, ◌∙◌, ap, subst, Bool, true, false, cond, false≢true, ℕ, ◌+◌, ◌-◌, ◌*◌, ◌/◌, ◌%◌, ◌<◌, ◌≤◌, arith, eqb, List, [], ◌∷◌, length, get_or, set, length-set, Float}
+use Rattle.std.specs.Prelude.{◌≡◌, ◌+◌, ◌-◌, ◌*◌, ◌/◌, ◌%◌, ◌<◌, ◌≤◌, ◌∷◌}
+use Rattle.laws.specs.Kit.{refl, sym, ◌∙◌, ap, subst, Bool, true, false, cond, false≢true, ℕ, arith, eqb, List, [], length, get_or, set, length-set, Float}
 use Rattle.rings.specs.Rings.{nx}
 use Rattle.rings.proofs.Lists.{Same, same, differ, decide, room}
 use Rattle.definition.specs.Plane.{Vec}

@@ -1,5 +1,6 @@
 -- The direction halfway between two units, and the ideal that a front edge gives.
-use Rattle.laws.specs.Kit.{◌≡◌, refl, sym, ◌∙◌, ap, ◌≢◌, Bool, true, false, not, ◌&&◌, cond, false≢true, ℕ, eqb, eq-eqb, ne_eqb, List, [], ◌∷◌, length, Float}
+use Rattle.std.specs.Prelude.{◌≡◌, ◌≢◌, ◌&&◌, ◌∷◌}
+use Rattle.laws.specs.Kit.{refl, sym, ◌∙◌, ap, Bool, true, false, not, cond, false≢true, ℕ, eqb, eq-eqb, ne_eqb, List, [], length, Float}
 use mathlib.Core.Bool.{or-false}
 use Rattle.definition.specs.Floats.{◌≺◌, ◌≼◌}
 use Rattle.definition.specs.Lists.{filter, any}

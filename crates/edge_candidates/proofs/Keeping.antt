@@ -1,5 +1,6 @@
 -- One ideal more is kept, and one node more is listed.
-use Rattle.laws.specs.Kit.{◌≡◌, refl, sym, ◌∙◌, ap, subst, true, false, false≢true, ℕ, ◌+◌, ◌*◌, ◌<◌, ◌≤◌, arith, List, get_or, set, length-set, Float}
+use Rattle.std.specs.Prelude.{◌≡◌, ◌+◌, ◌*◌, ◌<◌, ◌≤◌}
+use Rattle.laws.specs.Kit.{refl, sym, ◌∙◌, ap, subst, true, false, false≢true, ℕ, arith, List, get_or, set, length-set, Float}
 use lib.Ieee.{is_nan}
 use Rattle.rings.proofs.Lists.{Same, same, differ, decide}
 use Rattle.definition.specs.Plane.{Vec}

@@ -1,5 +1,6 @@
 -- The ideals kept, and an end's candidates tested by them.
-use Rattle.laws.specs.Kit.{◌≡◌, refl, sym, ◌∙◌, ap, subst, Bool, true, false, false≢true, ℕ, ◌+◌, ◌*◌, ◌<◌, ◌≤◌, arith, dec_le, List, length, get_or, Float}
+use Rattle.std.specs.Prelude.{◌≡◌, ◌+◌, ◌*◌, ◌<◌, ◌≤◌}
+use Rattle.laws.specs.Kit.{refl, sym, ◌∙◌, ap, subst, Bool, true, false, false≢true, ℕ, arith, dec_le, List, length, get_or, Float}
 use native.Mathlib.Nat.{lt_of_not-le}
 use Rattle.rings.proofs.Lists.{Same, same, differ, decide}
 use Rattle.definition.specs.Floats.{◌≼◌}

@@ -1,5 +1,6 @@
 -- Ideals asked one at a time.
-use Rattle.laws.specs.Kit.{Bool, true, false, not, ◌&&◌, ℕ, ◌<◌, length, Float}
+use Rattle.std.specs.Prelude.{◌&&◌, ◌<◌}
+use Rattle.laws.specs.Kit.{Bool, true, false, not, ℕ, length, Float}
 use Rattle.definition.specs.Lists.{any, below, flat_map}
 use Rattle.definition.specs.Floats.{◌⊗◌, ◌≺◌, ◌≼◌}
 use Rattle.definition.specs.Numbers.{Turn, leftward, rightward, edge_low, edge_high, edge_dot, tiny_length}

@@ -1,6 +1,7 @@
 -- What is wanted at an end, listed in lent memory: nodes that give an ideal from b on, at most two a slot,
 -- and the ideals of the first of them behind, at most one a slot.
-use Rattle.laws.specs.Kit.{◌≡◌, Bool, true, false, ◌||◌, cond, ℕ, ◌+◌, ◌*◌, ◌^◌, ◌<◌, ◌≤◌, List, length, get_or, set, Float}
+use Rattle.std.specs.Prelude.{◌≡◌, ◌||◌, ◌+◌, ◌*◌, ◌^◌, ◌<◌, ◌≤◌}
+use Rattle.laws.specs.Kit.{Bool, true, false, cond, ℕ, List, length, get_or, set, Float}
 use Rattle.definition.specs.Floats.{◌≼◌}
 use Rattle.definition.specs.Numbers.{tiny_length}
 use Rattle.definition.specs.Plane.{Vec, norm, over, from_to}

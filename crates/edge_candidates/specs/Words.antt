@@ -1,5 +1,6 @@
 -- A double in two words, the lower half of its bits first.
-use Rattle.laws.specs.Kit.{◌≡◌, ◌≢◌, false, ℕ, ◌+◌, ◌*◌, ◌^◌, List, length, get_or, Float}
+use Rattle.std.specs.Prelude.{◌≡◌, ◌≢◌, ◌+◌, ◌*◌, ◌^◌}
+use Rattle.laws.specs.Kit.{false, ℕ, List, length, get_or, Float}
 use Rattle.std.specs.Float.Ieee.{is_nan}
 use Rattle.definition.specs.Floats.{f64}
 use Rattle.definition.specs.Plane.{Vec}

@@ -1,5 +1,6 @@
 -- A length as the points slice has it.
-use Rattle.laws.specs.Kit.{◌≡◌, sym, ◌∙◌, ap, ℕ, List, length, Float}
+use Rattle.std.specs.Prelude.{◌≡◌}
+use Rattle.laws.specs.Kit.{sym, ◌∙◌, ap, ℕ, List, length, Float}
 use Rattle.definition.specs.Plane.{Node, Edge, dist, edge_length}
 use Rattle.definition.specs.Cells.{Mesh}
 use Rattle.definition.specs.Call.{point_at}

@@ -1,5 +1,6 @@
 -- Edges at places, one more at a time and where they stay; so the loops.
-use Rattle.laws.specs.Kit.{◌≡◌, refl, sym, ◌∙◌, ap, subst, ℕ, zero, suc, ◌+◌, ◌*◌, ◌<◌, ◌≤◌, arith, dec_lt, List, [], ◌∷◌, ◌++◌, length, get_or}
+use Rattle.std.specs.Prelude.{◌≡◌, ◌+◌, ◌*◌, ◌<◌, ◌≤◌, ◌∷◌, ◌++◌}
+use Rattle.laws.specs.Kit.{refl, sym, ◌∙◌, ap, subst, ℕ, zero, suc, arith, dec_lt, List, [], length, get_or}
 use Rattle.definition.specs.Lists.{concat, flat_map}
 use Rattle.definition.specs.Plane.{Edge}
 use Rattle.laws.specs.Lists.{concat_length}

@@ -1,5 +1,6 @@
 -- What the loops' edges and places say of their parts.
-use Rattle.laws.specs.Kit.{ℕ, suc, ◌+◌, ◌≤◌, arith, List, [], ◌∷◌, ◌++◌, length}
+use Rattle.std.specs.Prelude.{◌+◌, ◌≤◌, ◌∷◌, ◌++◌}
+use Rattle.laws.specs.Kit.{ℕ, suc, arith, List, [], length}
 use Rattle.definition.specs.Plane.{Edge}
 use Rattle.definition.specs.Lists.{concat}
 use Rattle.laws.specs.Lists.{concat_length}

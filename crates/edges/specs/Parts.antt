@@ -1,5 +1,6 @@
 -- Edges known and none twice: parts of a list of edges, and edges by their numbers.
-use Rattle.laws.specs.Kit.{◌≡◌, refl, sym, ◌∙◌, ap, subst, ◌≢◌, inl, inr, Bool, false, ℕ, zero, suc, ◌<◌, arith, List, [], ◌∷◌, ◌++◌, length, get_or}
+use Rattle.std.specs.Prelude.{◌≡◌, ◌≢◌, ◌<◌, ◌∷◌, ◌++◌}
+use Rattle.laws.specs.Kit.{refl, sym, ◌∙◌, ap, subst, inl, inr, Bool, false, ℕ, zero, suc, arith, List, [], length, get_or}
 use Rattle.definition.specs.Lists.{any, filter, concat}
 use Rattle.definition.specs.Plane.{Edge}
 use Rattle.definition.specs.Cells.{same_edge, has_edge_in}

@@ -1,5 +1,6 @@
 -- The edges at the places of a loop, and what can be read of them.
-use Rattle.laws.specs.Kit.{◌≡◌, ℕ, ◌+◌, ◌*◌, ◌<◌, ◌≤◌, List, length, get_or}
+use Rattle.std.specs.Prelude.{◌≡◌, ◌+◌, ◌*◌, ◌<◌, ◌≤◌}
+use Rattle.laws.specs.Kit.{ℕ, List, length, get_or}
 use Rattle.definition.specs.Plane.{Edge}
 use Rattle.cells.specs.Layout.{order_at}
 use Rattle.cells.specs.Rep.{Room}

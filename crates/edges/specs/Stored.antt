@@ -1,5 +1,6 @@
 -- The front's edges and its loops in the lent work slice, for s slots and p points of capacity.
-use Rattle.laws.specs.Kit.{◌≡◌, false, cond, ℕ, zero, suc, ◌+◌, ◌*◌, ◌<◌, ◌≤◌, eqb, List, [], ◌∷◌, length, get_or, Float}
+use Rattle.std.specs.Prelude.{◌≡◌, ◌+◌, ◌*◌, ◌<◌, ◌≤◌, ◌∷◌}
+use Rattle.laws.specs.Kit.{false, cond, ℕ, zero, suc, eqb, List, [], length, get_or, Float}
 use Rattle.definition.specs.Lists.{concat}
 use Rattle.definition.specs.Floats.{0·0}
 use Rattle.definition.specs.Plane.{Node, Edge}

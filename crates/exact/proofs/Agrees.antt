@@ -1,6 +1,6 @@
 -- On the grid of 1 / 1024 a region whose float area agrees with the quad's has exactly the quad's area:
-use Rattle.laws.specs.Kit.{◌≡◌, refl, sym, ◌∙◌, ap, Bool, true, false, not, cond, ℕ, zero, suc, ◌+◌, ◌*◌, ◌^◌, ◌<◌, ◌≤◌, arith, dec_le, mul-le-mul_right, lit<, lit≤, T, not-true, pow_pos, pos, List, [], ◌∷◌, ◌++◌, map, foldl, length, Float, binary64, nan, fin, inf, of_bits, fits, lt, add, sub, mul}
-use Rattle.std.specs.Prelude.{◌*ℤ◌}
+use Rattle.laws.specs.Kit.{refl, sym, ◌∙◌, ap, Bool, true, false, not, cond, ℕ, zero, suc, arith, dec_le, mul-le-mul_right, lit<, lit≤, T, not-true, pow_pos, pos, List, [], map, foldl, length, Float, binary64, nan, fin, inf, of_bits, fits, lt, add, sub, mul}
+use Rattle.std.specs.Prelude.{◌*ℤ◌, ◌≡◌, ◌+◌, ◌*◌, ◌^◌, ◌<◌, ◌≤◌, ◌∷◌, ◌++◌}
 use Rattle.std.specs.Float.{Format}
 use Rattle.std.specs.Float.Ieee.Fits.{sub-fits, div-fits}
 use Rattle.definition.specs.Floats.{◌≺◌, f64, greater, 0·0, 1·0, 1e-9}

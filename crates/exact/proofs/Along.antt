@@ -1,7 +1,8 @@
 -- How far the point lies that an insertion tries: the unit normal's components are at most 5 / 4 in magnitude,
 -- a share of the target at most 24, so the point is within 40.
 -- (The normal is 1 to a few parts in 10 ^ 12, and the target at most 23: coarse bounds do.) Assumes nothing.
-use Rattle.laws.specs.Kit.{◌≡◌, sym, ap, subst, inl, inr, ℕ, ◌+◌, ◌-◌, ◌*◌, ◌^◌, ◌<◌, ◌≤◌, arith, dec_le, mul-pos, mul-le-mul, mul-le-mul_left, mul-le-mul_right, le_of_mul-le-mul_right, lit≤, pow_pos, Float, fin, down, up, add, mul, div}
+use Rattle.std.specs.Prelude.{◌≡◌, ◌+◌, ◌-◌, ◌*◌, ◌^◌, ◌<◌, ◌≤◌}
+use Rattle.laws.specs.Kit.{sym, ap, subst, inl, inr, ℕ, arith, dec_le, mul-pos, mul-le-mul, mul-le-mul_left, mul-le-mul_right, le_of_mul-le-mul_right, lit≤, pow_pos, Float, fin, down, up, add, mul, div}
 use Rattle.std.proofs.Common.{le_trans, le_of_eq}
 use Rattle.std.proofs.Math.Nat.{le_of_mul-le-mul_left}
 use Rattle.std.specs.Float.{Format}

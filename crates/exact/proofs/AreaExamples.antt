@@ -1,5 +1,6 @@
 -- Areas and the tests of the grid at numbers, by computation. Assumes nothing.
-use Rattle.laws.specs.Kit.{◌≡◌, refl, true, false, ◌^◌, nan, of_bits, round, eq, neg, mul}
+use Rattle.std.specs.Prelude.{◌≡◌, ◌^◌}
+use Rattle.laws.specs.Kit.{refl, true, false, nan, of_bits, round, eq, neg, mul}
 use Rattle.std.specs.Float.Ieee.{size}
 use Rattle.definition.specs.Floats.{◌⊗◌, on_grid, f64, 0·0, 0·25, 0·3, 0·5, 1·0}
 use Rattle.definition.specs.Root.{floor}

@@ -1,6 +1,6 @@
 -- On the grid of 1 / 1024 the float areas of triangles and quads are exact:
-use Rattle.laws.specs.Kit.{◌≡◌, refl, sym, ◌∙◌, ap, inl, inr, false, ℕ, ◌+◌, ◌*◌, ◌^◌, ◌≤◌, arith, lit<, lit≤, ℤ, pos, negsuc, Float, binary64, of_bits, add, mul}
-use Rattle.std.specs.Prelude.{nat_abs, ◌+ℤ◌}
+use Rattle.laws.specs.Kit.{refl, sym, ◌∙◌, ap, inl, inr, false, ℕ, arith, lit<, lit≤, ℤ, pos, negsuc, Float, binary64, of_bits, add, mul}
+use Rattle.std.specs.Prelude.{nat_abs, ◌+ℤ◌, ◌≡◌, ◌+◌, ◌*◌, ◌^◌, ◌≤◌}
 use Rattle.definition.specs.Floats.{f64, 0·0, 2·0}
 use Rattle.definition.specs.Floats as floats
 use Rattle.definition.specs.Plane.{Node}

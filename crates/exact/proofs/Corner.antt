@@ -1,5 +1,6 @@
 -- The cosine of a corner, dot / (root of uu * root of vv), in floats:
-use Rattle.laws.specs.Kit.{◌≡◌, ap, subst, ◌⊎◌, inl, inr, ℕ, ◌+◌, ◌-◌, ◌*◌, ◌^◌, ◌<◌, ◌≤◌, arith, mul-pos, mul-le-mul, mul-le-mul_left, mul-le-mul_right, le_of_mul-le-mul_right, lit≤, T, pow_pos, Float, le, mul, div}
+use Rattle.std.specs.Prelude.{◌≡◌, ◌⊎◌, ◌+◌, ◌-◌, ◌*◌, ◌^◌, ◌<◌, ◌≤◌}
+use Rattle.laws.specs.Kit.{ap, subst, inl, inr, ℕ, arith, mul-pos, mul-le-mul, mul-le-mul_left, mul-le-mul_right, le_of_mul-le-mul_right, lit≤, T, pow_pos, Float, le, mul, div}
 use Rattle.std.proofs.Math.Nat.{mul-sub, mul-mul-mul_comm, le_of_mul-le-mul_left}
 use Rattle.std.specs.Float.{Format}
 use Rattle.std.specs.Float.Ieee.{prec, low}

@@ -1,5 +1,6 @@
 -- The cross product of (b - a) and (c - a), worked out in floats, lies within 6600 units q L of the exact one,
-use Rattle.laws.specs.Kit.{ℕ, ◌+◌, ◌*◌, ◌^◌, ◌≤◌, arith, mul-le-mul_right, lit≤, pow_pos, Float, sub, mul}
+use Rattle.std.specs.Prelude.{◌+◌, ◌*◌, ◌^◌, ◌≤◌}
+use Rattle.laws.specs.Kit.{ℕ, arith, mul-le-mul_right, lit≤, pow_pos, Float, sub, mul}
 use Rattle.std.specs.Float.{Format}
 use Rattle.std.specs.Float.Ieee.{low}
 use Rattle.exact.specs.Near.{Whole, Near, Within, ◌⊖◌, ◌⊗◌, ◌⊙◌}

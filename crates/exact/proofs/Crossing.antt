@@ -1,5 +1,6 @@
 -- The test for crossing segments and the strict-inside test on the grid of 1 / 1024: what they say is exact.
-use Rattle.laws.specs.Kit.{◌≡◌, refl, sym, ap, subst, ◌⊎◌, inl, inr, Bool, true, false, ◌&&◌, ◌||◌, ℕ, suc, ◌+◌, ◌-◌, ◌*◌, ◌^◌, ◌<◌, ◌≤◌, arith, dec_lt, mul-le-mul_left, mul-le-mul_right, mul-lt-mul_of_pos_right, lit≤, pow_pos, Float, binary64, neg, mul}
+use Rattle.std.specs.Prelude.{◌≡◌, ◌⊎◌, ◌&&◌, ◌||◌, ◌+◌, ◌-◌, ◌*◌, ◌^◌, ◌<◌, ◌≤◌}
+use Rattle.laws.specs.Kit.{refl, sym, ap, subst, inl, inr, Bool, true, false, ℕ, suc, arith, dec_lt, mul-le-mul_left, mul-le-mul_right, mul-lt-mul_of_pos_right, lit≤, pow_pos, Float, binary64, neg, mul}
 use Rattle.std.proofs.Common.{lt_of_mul-lt-mul_right, add-sub_of_le}
 use Rattle.std.specs.Float.{Format}
 use Rattle.std.specs.Float.Ieee.{prec, low}

@@ -1,5 +1,6 @@
 -- On the grid of 1 / 1024 a flip keeps the summed area of its two triangles, whatever their winding:
-use Rattle.laws.specs.Kit.{◌≡◌, refl, sym, ◌∙◌, ap, ap₂, ◌⊎◌, inl, inr, true, not, ℕ, ◌+◌, ◌*◌, ◌^◌, ◌<◌, arith, lit<, lit≤, not-true, binary64, le, mul}
+use Rattle.std.specs.Prelude.{◌≡◌, ◌⊎◌, ◌+◌, ◌*◌, ◌^◌, ◌<◌}
+use Rattle.laws.specs.Kit.{refl, sym, ◌∙◌, ap, ap₂, inl, inr, true, not, ℕ, arith, lit<, lit≤, not-true, binary64, le, mul}
 use Rattle.definition.specs.Floats.{◌≼◌, 0·0}
 use Rattle.definition.specs.Floats as floats
 use Rattle.definition.specs.Plane.{Node, side}

@@ -1,5 +1,6 @@
 -- x0 y0 + x1 y1 in floats: within 7 parts in 2 ^ prec of |x0 y0| + |x1 y1|, and 500 units. Assumes nothing.
-use Rattle.laws.specs.Kit.{ℕ, ◌+◌, ◌-◌, ◌*◌, ◌^◌, ◌<◌, ◌≤◌, arith, mul-le-mul, mul-le-mul_left, mul-le-mul_right, le_of_mul-le-mul_right, lit≤, pow_pos, Float, add, sub, mul}
+use Rattle.std.specs.Prelude.{◌+◌, ◌-◌, ◌*◌, ◌^◌, ◌<◌, ◌≤◌}
+use Rattle.laws.specs.Kit.{ℕ, arith, mul-le-mul, mul-le-mul_left, mul-le-mul_right, le_of_mul-le-mul_right, lit≤, pow_pos, Float, add, sub, mul}
 use Rattle.std.specs.Float.{Format}
 use Rattle.std.specs.Float.Ieee.{prec, low}
 use Rattle.exact.specs.Near.{Whole, Near, Within, abs, ◌⊕◌, ◌⊖◌, ◌⊗◌, ◌⊙◌}

@@ -1,5 +1,6 @@
 -- Sums and products that need no rounding: of numbers that are whole multiples of a power of two,
-use Rattle.laws.specs.Kit.{◌≡◌, refl, sym, ap, ap₂, subst, Bool, true, false, not, cond, ℕ, ◌+◌, ◌-◌, ◌*◌, ◌^◌, ◌<◌, ◌≤◌, arith, mul-pos, mul-le-mul, mul-le-mul_right, le_of_mul-le-mul_right, ltb, T, ℤ, pos, Float, fin, down, up, round, neg, add, sub, mul, div, inf, nan}
+use Rattle.std.specs.Prelude.{◌≡◌, ◌+◌, ◌-◌, ◌*◌, ◌^◌, ◌<◌, ◌≤◌}
+use Rattle.laws.specs.Kit.{refl, sym, ap, ap₂, subst, Bool, true, false, not, cond, ℕ, arith, mul-pos, mul-le-mul, mul-le-mul_right, le_of_mul-le-mul_right, ltb, T, ℤ, pos, Float, fin, down, up, round, neg, add, sub, mul, div, inf, nan}
 use Rattle.std.proofs.Math.Nat.{lt_of_mul-lt-mul_right, eq_of_mul-eq-mul_right, mul-sub}
 use Rattle.std.proofs.Common.{ltb→lt, nltb→le}
 use Rattle.std.specs.Float.{Format}

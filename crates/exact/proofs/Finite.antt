@@ -1,5 +1,6 @@
 -- What a run sorts by or compares with 0 is a finite double: lengths, perimeters of up to 65,536 edges,
-use Rattle.laws.specs.Kit.{◌≡◌, refl, ap, ◌⊎◌, inl, inr, Bool, true, false, not, ◌&&◌, ◌||◌, cond, ℕ, zero, suc, ◌+◌, ◌*◌, ◌/◌, ◌^◌, ◌<◌, ◌≤◌, arith, mul-le-mul_right, ltb, lit≤, T, pow_pos, List, [], ◌∷◌, map, foldl, length, get_or, Float, binary64, nan, fin, inf, down, up, of_bits, fits, round, eq, lt, le, add, sub, mul}
+use Rattle.std.specs.Prelude.{◌≡◌, ◌⊎◌, ◌&&◌, ◌||◌, ◌+◌, ◌*◌, ◌/◌, ◌^◌, ◌<◌, ◌≤◌, ◌∷◌}
+use Rattle.laws.specs.Kit.{refl, ap, inl, inr, Bool, true, false, not, cond, ℕ, zero, suc, arith, mul-le-mul_right, ltb, lit≤, T, pow_pos, List, [], map, foldl, length, get_or, Float, binary64, nan, fin, inf, down, up, of_bits, fits, round, eq, lt, le, add, sub, mul}
 use Rattle.std.specs.Float.{Format}
 use Rattle.std.specs.Float.Ieee.{prec, low, size}
 use Rattle.std.specs.Float.Ieee.Fits.{and_l, round-fits, cond-fits, nan-fits, inf-fits, sub-fits, div-fits}

@@ -1,7 +1,7 @@
 -- On coordinates that are whole multiples of 1 / 1024 the float cross product is the exact one. Assumes nothing.
-use Rattle.laws.specs.Kit.{◌≡◌, refl, sym, ap, Bool, true, false, ℕ, ◌*◌, ◌/◌, ◌%◌, ◌^◌, ◌<◌, arith, mul-le-mul_right, lit<, lit≤, pow_pos, ℤ, pos, negsuc, Float, binary64, nan, fin, inf, down, up, of_bits, sub, mul}
+use Rattle.laws.specs.Kit.{refl, sym, ap, Bool, true, false, ℕ, arith, mul-le-mul_right, lit<, lit≤, pow_pos, ℤ, pos, negsuc, Float, binary64, nan, fin, inf, down, up, of_bits, sub, mul}
 use Rattle.std.proofs.Common.{div-add-mod', eqb→eq}
-use Rattle.std.specs.Prelude.{◌*ℤ◌}
+use Rattle.std.specs.Prelude.{◌*ℤ◌, ◌≡◌, ◌*◌, ◌/◌, ◌%◌, ◌^◌, ◌<◌}
 use Rattle.std.specs.Float.Ieee.Exact.{HasValue}
 use Rattle.definition.specs.Floats.{on_grid, f64, 0·0}
 use Rattle.definition.specs.Floats as floats

@@ -1,5 +1,6 @@
 -- The test of the grid as a program makes it, with f64 operations: 1024 times the coordinate is its own floor.
-use Rattle.laws.specs.Kit.{◌≡◌, sym, ◌∙◌, ap, subst, Bool, true, false, ◌&&◌, ◌||◌, cond, ℕ, zero, suc, ◌+◌, ◌-◌, ◌*◌, ◌/◌, ◌%◌, ◌^◌, ◌<◌, ◌≤◌, arith, mul-le-mul_right, le_of_mul-le-mul_right, eqb, ltb, leb, lit<, lit≤, T, pow_pos, pow-add, ℤ, pos, negsuc, Float, binary64, nan, fin, inf, down, up, of_bits, fits, round, eq, mul}
+use Rattle.std.specs.Prelude.{◌≡◌, ◌&&◌, ◌||◌, ◌+◌, ◌-◌, ◌*◌, ◌/◌, ◌%◌, ◌^◌, ◌<◌, ◌≤◌}
+use Rattle.laws.specs.Kit.{sym, ◌∙◌, ap, subst, Bool, true, false, cond, ℕ, zero, suc, arith, mul-le-mul_right, le_of_mul-le-mul_right, eqb, ltb, leb, lit<, lit≤, T, pow_pos, pow-add, ℤ, pos, negsuc, Float, binary64, nan, fin, inf, down, up, of_bits, fits, round, eq, mul}
 use Rattle.std.specs.Bool.{beq}
 use Rattle.std.proofs.Common.{mul_assoc, mul-one, lt_of_mul-lt-mul_right, mod-lt, div-add-mod', le_of_suc-le-suc, lt_of_not-le, not-le_of_lt, eqb→eq, ltb→lt}
 use Rattle.std.proofs.Math.Nat.{eq_of_mul-eq-mul_right, mul-mod_left}

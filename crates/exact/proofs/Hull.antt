@@ -1,5 +1,6 @@
 -- A point on one side of all three sides of a triangle lies in every square that holds the triangle.
-use Rattle.laws.specs.Kit.{ℕ, ◌+◌, ◌-◌, ◌*◌, ◌<◌, ◌≤◌, arith, dec_le, mul-lt-mul_of_pos_right}
+use Rattle.std.specs.Prelude.{◌+◌, ◌-◌, ◌*◌, ◌<◌, ◌≤◌}
+use Rattle.laws.specs.Kit.{ℕ, arith, dec_le, mul-lt-mul_of_pos_right}
 use Rattle.exact.specs.Near.{Whole, Near, Within, Above, ◌⊖◌, ◌⊗◌}
 use Rattle.exact.proofs.Near.{same_scale}
 use Rattle.exact.specs.Cross.{crossW}

@@ -1,5 +1,6 @@
 -- The root of a sum of two squares, as the definition takes a vector's length:
-use Rattle.laws.specs.Kit.{◌≡◌, refl, ◌∙◌, ap, Bool, true, false, cond, ℕ, zero, suc, ◌+◌, ◌*◌, ◌^◌, ◌≤◌, arith, ltb, Float, binary64, nan, fin, inf, down, up, round, add, mul}
+use Rattle.std.specs.Prelude.{◌≡◌, ◌+◌, ◌*◌, ◌^◌, ◌≤◌}
+use Rattle.laws.specs.Kit.{refl, ◌∙◌, ap, Bool, true, false, cond, ℕ, zero, suc, arith, ltb, Float, binary64, nan, fin, inf, down, up, round, add, mul}
 use Rattle.std.specs.Float.{Format}
 use Rattle.std.specs.Float.Ieee.{prec, low, emax, units, odd, sum}
 use Rattle.std.specs.Float.Ieee.Fits.{round_is}

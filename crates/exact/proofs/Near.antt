@@ -1,5 +1,6 @@
 -- Whole numbers of either sign as a difference p - n of two naturals, (p, n), and how far two of them lie apart.
-use Rattle.laws.specs.Kit.{◌≡◌, ap, subst, ◌⊎◌, inl, inr, ℕ, suc, ◌+◌, ◌-◌, ◌*◌, ◌<◌, ◌≤◌, arith, dec_le, mul-le-mul, mul-le-mul_left, mul-le-mul_right, le_of_mul-le-mul_right}
+use Rattle.std.specs.Prelude.{◌≡◌, ◌⊎◌, ◌+◌, ◌-◌, ◌*◌, ◌<◌, ◌≤◌}
+use Rattle.laws.specs.Kit.{ap, subst, inl, inr, ℕ, suc, arith, dec_le, mul-le-mul, mul-le-mul_left, mul-le-mul_right, le_of_mul-le-mul_right}
 use Rattle.std.proofs.Common.{subst₂, add-sub_of_le}
 use Rattle.exact.specs.Near.{Near, Whole, Within, abs, ◌⊖◌, ◌⊗◌, ◌⊙◌}
 

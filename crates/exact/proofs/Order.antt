@@ -1,5 +1,6 @@
 -- The order of finite floats is that of their whole numbers, and finite floats are compared without a gap:
-use Rattle.laws.specs.Kit.{◌≡◌, sym, ◌∙◌, ap, subst, inl, inr, Bool, true, false, ◌||◌, ℕ, ◌+◌, ◌*◌, ◌^◌, ◌<◌, ◌≤◌, arith, dec_lt, dec_le, mul-pos, mul-lt-mul_of_pos_right, eqb, T, pow_pos, Float, fin, down, up, eq, lt, le}
+use Rattle.std.specs.Prelude.{◌≡◌, ◌||◌, ◌+◌, ◌*◌, ◌^◌, ◌<◌, ◌≤◌}
+use Rattle.laws.specs.Kit.{sym, ◌∙◌, ap, subst, inl, inr, Bool, true, false, ℕ, arith, dec_lt, dec_le, mul-pos, mul-lt-mul_of_pos_right, eqb, T, pow_pos, Float, fin, down, up, eq, lt, le}
 use Rattle.std.specs.Bool.{beq}
 use Rattle.std.proofs.Common.{lt_of_mul-lt-mul_right, mul_comm, ltb→lt, lt→ltb, eqb→eq}
 use Rattle.std.proofs.Math.Nat.{eq_of_mul-eq-mul_right}

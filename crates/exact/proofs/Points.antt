@@ -1,5 +1,6 @@
 -- The definition's float tests on points: within 8, and the cross product above or below the tolerance.
-use Rattle.laws.specs.Kit.{◌≡◌, refl, inl, inr, Bool, true, false, not, ◌&&◌, ◌||◌, ℕ, ◌+◌, ◌*◌, ◌^◌, ◌<◌, ◌≤◌, arith, mul-le-mul_right, mul-lt-mul_of_pos_right, le_of_mul-le-mul_right, eqb, lit≤, T, pow_pos, Float, binary64, nan, fin, inf, down, up, of_bits, fits, eq, lt, le, neg}
+use Rattle.std.specs.Prelude.{◌≡◌, ◌&&◌, ◌||◌, ◌+◌, ◌*◌, ◌^◌, ◌<◌, ◌≤◌}
+use Rattle.laws.specs.Kit.{refl, inl, inr, Bool, true, false, not, ℕ, arith, mul-le-mul_right, mul-lt-mul_of_pos_right, le_of_mul-le-mul_right, eqb, lit≤, T, pow_pos, Float, binary64, nan, fin, inf, down, up, of_bits, fits, eq, lt, le, neg}
 use Rattle.std.proofs.Common.{ltb→lt, eqb→eq}
 use Rattle.std.specs.Float.Ieee.{below, level}
 use Rattle.std.specs.Float.Ieee.Fits.{and_l, and_r, down_pos}

@@ -1,5 +1,6 @@
 -- A quad whose float metrics pass: each corner turns left, and its exact cosine is at most the limit plus 1e-9.
-use Rattle.laws.specs.Kit.{◌≡◌, refl, false, ℕ, ◌+◌, ◌-◌, ◌*◌, ◌^◌, ◌<◌, ◌≤◌, arith, lit≤, T, Float, binary64, sub}
+use Rattle.std.specs.Prelude.{◌≡◌, ◌+◌, ◌-◌, ◌*◌, ◌^◌, ◌<◌, ◌≤◌}
+use Rattle.laws.specs.Kit.{refl, false, ℕ, arith, lit≤, T, Float, binary64, sub}
 use Rattle.definition.specs.Root.{sqrt}
 use Rattle.definition.specs.Floats.{◌⊘◌, ◌≼◌, 1e-12}
 use Rattle.definition.specs.Floats as floats

@@ -1,5 +1,6 @@
 -- What the error bounds ask of a format, and of a coordinate.
-use Rattle.laws.specs.Kit.{◌≡◌, refl, ap, ℕ, ◌+◌, ◌-◌, ◌*◌, ◌^◌, ◌<◌, ◌≤◌, arith, mul-le-mul_left, mul-le-mul_right, lit≤, pow_pos, Float, binary64}
+use Rattle.std.specs.Prelude.{◌≡◌, ◌+◌, ◌-◌, ◌*◌, ◌^◌, ◌<◌, ◌≤◌}
+use Rattle.laws.specs.Kit.{refl, ap, ℕ, arith, mul-le-mul_left, mul-le-mul_right, lit≤, pow_pos, Float, binary64}
 use Rattle.std.specs.Float.{Format}
 use Rattle.std.specs.Float.Ieee.{prec, low}
 use Rattle.std.specs.Float.Ieee.Scale.{overflow}

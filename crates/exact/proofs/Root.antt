@@ -1,5 +1,6 @@
 -- The definition's square root w of a double a: w * w is a to 5 parts in 10 ^ 12.
-use Rattle.laws.specs.Kit.{◌≡◌, refl, sym, ◌∙◌, ap, subst, Bool, true, false, not, cond, ℕ, zero, suc, ◌+◌, ◌-◌, ◌*◌, ◌/◌, ◌^◌, ◌<◌, ◌≤◌, arith, dec_le, mul-pos, mul-le-mul, mul-le-mul_left, mul-le-mul_right, ltb, lit<, lit≤, T, pow_pos, pow-add, pow_mono, ℤ, pos, negsuc, Float, binary64, fin, down, up}
+use Rattle.std.specs.Prelude.{◌≡◌, ◌+◌, ◌-◌, ◌*◌, ◌/◌, ◌^◌, ◌<◌, ◌≤◌}
+use Rattle.laws.specs.Kit.{refl, sym, ◌∙◌, ap, subst, Bool, true, false, not, cond, ℕ, zero, suc, arith, dec_le, mul-pos, mul-le-mul, mul-le-mul_left, mul-le-mul_right, ltb, lit<, lit≤, T, pow_pos, pow-add, pow_mono, ℤ, pos, negsuc, Float, binary64, fin, down, up}
 use Rattle.std.proofs.Common.{subst₂, add-sub_of_le, zero-lt-suc, mul-one, mul-div_cancel, le_trans, ltb→lt, nltb→le}
 use Rattle.std.proofs.Math.Nat.{pow-succ', le_of_mul-le-mul_left}
 use Rattle.std.specs.Float.{Format}

@@ -1,5 +1,6 @@
 -- How far `round` moves a fraction: at most one part in 2 ^ prec of it,
-use Rattle.laws.specs.Kit.{◌≡◌, sym, ◌∙◌, ap, subst, ◌⊎◌, inl, inr, ℕ, suc, ◌+◌, ◌-◌, ◌*◌, ◌/◌, ◌%◌, ◌^◌, ◌<◌, ◌≤◌, arith, mul-pos, mul-le-mul_left, mul-le-mul_right, pow_pos, pow-add}
+use Rattle.std.specs.Prelude.{◌≡◌, ◌⊎◌, ◌+◌, ◌-◌, ◌*◌, ◌/◌, ◌%◌, ◌^◌, ◌<◌, ◌≤◌}
+use Rattle.laws.specs.Kit.{sym, ◌∙◌, ap, subst, inl, inr, ℕ, suc, arith, mul-pos, mul-le-mul_left, mul-le-mul_right, pow_pos, pow-add}
 use Prim.Native.Nat.{compare, Ordering}
 use Rattle.std.proofs.Common.{mul_assoc, mul_right_comm, mul-one, mod-lt, div-add-mod', le-div_iff_mul-le, eq-zero-or-pos}
 use Rattle.std.proofs.Math.Nat.{pow-succ'}

@@ -1,5 +1,6 @@
 -- On the grid of 1 / 1024 a float cross product is above the tolerance exactly when the exact one is above zero,
-use Rattle.laws.specs.Kit.{◌≡◌, refl, true, ℕ, zero, suc, ◌+◌, ◌^◌, ◌<◌, ◌≤◌, arith, mul-le-mul_right, mul-lt-mul_of_pos_right, lit<, lit≤, pow_pos, ℤ, pos, negsuc, Float, binary64, lt, neg}
+use Rattle.std.specs.Prelude.{◌≡◌, ◌+◌, ◌^◌, ◌<◌, ◌≤◌}
+use Rattle.laws.specs.Kit.{refl, true, ℕ, zero, suc, arith, mul-le-mul_right, mul-lt-mul_of_pos_right, lit<, lit≤, pow_pos, ℤ, pos, negsuc, Float, binary64, lt, neg}
 use Rattle.std.proofs.Common.{lt_of_mul-lt-mul_right}
 use Rattle.std.specs.Float.{Format}
 use Rattle.definition.specs.Floats.{◌≺◌, 1e-12}

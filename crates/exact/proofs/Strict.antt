@@ -1,5 +1,6 @@
 -- The float test for a point strictly inside a triangle within 8, made at a point within 40:
-use Rattle.laws.specs.Kit.{◌≡◌, refl, ap, inl, inr, true, false, not, ◌&&◌, ℕ, ◌+◌, ◌*◌, ◌^◌, ◌<◌, ◌≤◌, arith, T, Float, binary64, fin, of_bits, fits, neg}
+use Rattle.std.specs.Prelude.{◌≡◌, ◌&&◌, ◌+◌, ◌*◌, ◌^◌, ◌<◌, ◌≤◌}
+use Rattle.laws.specs.Kit.{refl, ap, inl, inr, true, false, not, ℕ, arith, T, Float, binary64, fin, of_bits, fits, neg}
 use Rattle.std.specs.Float.Ieee.Fits.{and_l, and_r, and_i}
 use Rattle.definition.specs.Floats.{◌≺◌, ◌≼◌, f64, 8·0, 1e-12}
 use Rattle.definition.specs.Floats as floats

@@ -1,5 +1,6 @@
 -- Sums and differences of any two numbers, doubles or not:
-use Rattle.laws.specs.Kit.{◌≡◌, refl, sym, subst, Bool, true, false, not, cond, ℕ, ◌+◌, ◌-◌, ◌*◌, ◌/◌, ◌%◌, ◌^◌, ◌<◌, ◌≤◌, arith, mul-pos, mul-le-mul_left, mul-le-mul_right, mul-lt-mul_of_pos_right, le_of_mul-le-mul_right, ltb, T, pow_pos, pow_mono, Float, fin, down, up, round, neg, add, sub}
+use Rattle.std.specs.Prelude.{◌≡◌, ◌+◌, ◌-◌, ◌*◌, ◌/◌, ◌%◌, ◌^◌, ◌<◌, ◌≤◌}
+use Rattle.laws.specs.Kit.{refl, sym, subst, Bool, true, false, not, cond, ℕ, arith, mul-pos, mul-le-mul_left, mul-le-mul_right, mul-lt-mul_of_pos_right, le_of_mul-le-mul_right, ltb, T, pow_pos, pow_mono, Float, fin, down, up, round, neg, add, sub}
 use Rattle.std.proofs.Math.Nat.{le_of_mul-le-mul_left, mul-sub}
 use Rattle.std.proofs.Common.{lt_of_mul-lt-mul_right, mod-lt, div-add-mod', ltb→lt, nltb→le}
 use Rattle.std.specs.Float.{Format}

@@ -1,6 +1,6 @@
 -- What the definition's float tests mean in exact arithmetic.
-use Rattle.laws.specs.Kit.{◌≡◌, refl, sym, ap₂, subst, Bool, true, false, ◌&&◌, ℕ, zero, suc, ◌+◌, ◌^◌, ◌≤◌, pos, List, [], ◌∷◌, length, Float, binary64, fin, fits, eq}
-use Rattle.std.specs.Prelude.{◌*ℤ◌}
+use Rattle.laws.specs.Kit.{refl, sym, ap₂, subst, Bool, true, false, ℕ, zero, suc, pos, List, [], length, Float, binary64, fin, fits, eq}
+use Rattle.std.specs.Prelude.{◌*ℤ◌, ◌≡◌, ◌&&◌, ◌+◌, ◌^◌, ◌≤◌, ◌∷◌}
 use Rattle.definition.specs.Floats.{◌⊗◌, ◌≼◌, finite, 0·0, 0·5, 0·99, 1·0}
 use Rattle.definition.specs.Floats as floats
 use Rattle.definition.specs.Numbers.{Quality, Settings, base, insert_shares, tiny_length}

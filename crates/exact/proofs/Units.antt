@@ -1,6 +1,6 @@
 -- The definition's units of a float are its `whole`:
-use Rattle.laws.specs.Kit.{◌≡◌, refl, Bool, true, false, not, cond, ℕ, zero, suc, ◌-◌, ◌*◌, ◌/◌, ◌^◌, ◌<◌, ◌≤◌, arith, ltb, T, ℤ, pos, negsuc, Float, binary64, nan, fin, inf, down, up}
-use Rattle.std.specs.Prelude.{neg_ℤ, nat_abs, ◌+ℤ◌, ◌-ℤ◌, ◌*ℤ◌}
+use Rattle.laws.specs.Kit.{refl, Bool, true, false, not, cond, ℕ, zero, suc, arith, ltb, T, ℤ, pos, negsuc, Float, binary64, nan, fin, inf, down, up}
+use Rattle.std.specs.Prelude.{neg_ℤ, nat_abs, ◌+ℤ◌, ◌-ℤ◌, ◌*ℤ◌, ◌≡◌, ◌-◌, ◌*◌, ◌/◌, ◌^◌, ◌<◌, ◌≤◌}
 use Rattle.std.proofs.Math.IntN.{sub_ℕ}
 use Rattle.std.proofs.Common.{ltb→lt, nltb→le}
 use Rattle.definition.specs.Plane.{Node}

@@ -1,7 +1,8 @@
 -- Without a size the target is the edge's own length, and no length is off itself: half of it is not above it,
 -- nor one and a half times it below it, also as rounded.
 -- Assumes nothing.
-use Rattle.laws.specs.Kit.{◌≡◌, refl, sym, ap, true, false, ◌||◌, ℕ, ◌+◌, ◌*◌, ◌^◌, ◌<◌, ◌≤◌, arith, dec_le, mul-le-mul, mul-le-mul_right, eqb, lit≤, pow_pos, Float, binary64, nan, fin, inf, down, up, of_bits, fits, eq, lt, mul}
+use Rattle.std.specs.Prelude.{◌≡◌, ◌||◌, ◌+◌, ◌*◌, ◌^◌, ◌<◌, ◌≤◌}
+use Rattle.laws.specs.Kit.{refl, sym, ap, true, false, ℕ, arith, dec_le, mul-le-mul, mul-le-mul_right, eqb, lit≤, pow_pos, Float, binary64, nan, fin, inf, down, up, of_bits, fits, eq, lt, mul}
 use Rattle.std.proofs.Common.{eqb→eq, ltb→lt}
 use Rattle.std.specs.Float.Ieee.Fits.{and_l}
 use Rattle.definition.specs.Floats.{◌≺◌, f64, 0·0, 0·5, 1·5, 1e-12}

@@ -1,5 +1,6 @@
 -- A finite float as a whole number of its format's smallest values, 2 ^ -low each,
-use Rattle.laws.specs.Kit.{◌≡◌, refl, sym, ◌∙◌, ap, ap₂, subst, ◌⊎◌, inl, inr, Bool, true, false, ◌&&◌, cond, ℕ, zero, suc, ◌+◌, ◌-◌, ◌*◌, ◌/◌, ◌%◌, ◌^◌, ◌<◌, ◌≤◌, arith, mul-pos, mul-le-mul_right, le_of_mul-le-mul_right, eqb, ltb, leb, T, pow_pos, pow-add, pow_mono, ℤ, pos, negsuc, Float, nan, fin, inf, down, up, fits, round, le, mul, div}
+use Rattle.std.specs.Prelude.{◌≡◌, ◌⊎◌, ◌&&◌, ◌+◌, ◌-◌, ◌*◌, ◌/◌, ◌%◌, ◌^◌, ◌<◌, ◌≤◌}
+use Rattle.laws.specs.Kit.{refl, sym, ◌∙◌, ap, ap₂, subst, inl, inr, Bool, true, false, cond, ℕ, zero, suc, arith, mul-pos, mul-le-mul_right, le_of_mul-le-mul_right, eqb, ltb, leb, T, pow_pos, pow-add, pow_mono, ℤ, pos, negsuc, Float, nan, fin, inf, down, up, fits, round, le, mul, div}
 use Rattle.std.proofs.Common.{lt_of_not-le, lt_of_le_of_lt, not-le_of_lt, le_of_suc-le-suc, lt_of_mul-lt-mul_right, mul_assoc, mul-one, zero-mul, mul-div_cancel, leb→le, eqb→eq}
 use Rattle.std.proofs.Math.Nat.{le_of_mul-le-mul_left}
 use Rattle.std.proofs.Math.Pow.{pow-lt}

@@ -2,8 +2,8 @@
 -- the areas and their sums have no rounding error, two that differ do so by 2 ^ -21 at least, and the slack,
 -- 1e-9 times at most 256, is below that.
 -- Assumes nothing.
-use Rattle.laws.specs.Kit.{◌≡◌, refl, sym, ◌∙◌, ap, Bool, true, false, not, cond, ℕ, zero, suc, ◌+◌, ◌*◌, ◌^◌, ◌<◌, ◌≤◌, arith, dec_le, mul-le-mul_right, lit<, lit≤, T, not-true, pow_pos, pos, List, [], ◌∷◌, ◌++◌, map, foldl, length, Float, binary64, nan, fin, inf, of_bits, fits, lt, add, sub, mul}
-use Rattle.std.specs.Prelude.{◌*ℤ◌}
+use Rattle.laws.specs.Kit.{refl, sym, ◌∙◌, ap, Bool, true, false, not, cond, ℕ, zero, suc, arith, dec_le, mul-le-mul_right, lit<, lit≤, T, not-true, pow_pos, pos, List, [], map, foldl, length, Float, binary64, nan, fin, inf, of_bits, fits, lt, add, sub, mul}
+use Rattle.std.specs.Prelude.{◌*ℤ◌, ◌≡◌, ◌+◌, ◌*◌, ◌^◌, ◌<◌, ◌≤◌, ◌∷◌, ◌++◌}
 use Rattle.std.specs.Float.{Format}
 use Rattle.std.specs.Float.Ieee.Fits.{sub-fits, div-fits}
 use Rattle.definition.specs.Floats.{◌≺◌, f64, greater, 0·0, 1·0, 1e-9}

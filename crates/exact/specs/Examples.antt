@@ -1,8 +1,8 @@
 -- The tests and the statements at numbers: for each test an input that passes and one that fails, by computation.
 -- Assumes nothing.
-use Rattle.laws.specs.Kit.{◌≡◌, refl, inl, inr, true, false, ℕ, zero, suc, ◌-◌, ◌*◌, ◌^◌, ◌<◌, arith, lit<, lit≤, ℤ, pos, List, [], ◌∷◌, Float, nan, inf, of_bits, fits, round, eq, lt, le, neg, add, sub, mul, div}
+use Rattle.laws.specs.Kit.{refl, inl, inr, true, false, ℕ, zero, suc, arith, lit<, lit≤, ℤ, pos, List, [], Float, nan, inf, of_bits, fits, round, eq, lt, le, neg, add, sub, mul, div}
 use Rattle.std.proofs.Common.{not-le_of_lt}
-use Rattle.std.specs.Prelude.{neg_ℤ, nat_abs, ◌*ℤ◌}
+use Rattle.std.specs.Prelude.{neg_ℤ, nat_abs, ◌*ℤ◌, ◌≡◌, ◌-◌, ◌*◌, ◌^◌, ◌<◌, ◌∷◌}
 use Rattle.std.specs.Float.Ieee.{size}
 use Rattle.definition.specs.Lists.{any}
 use Rattle.definition.specs.Floats.{◌⊕◌, ◌⊖◌, ◌⊗◌, ◌⊘◌, ◌≺◌, ◌≼◌, abs, finite, lesser, greater, f64, 0·0, 0·25, 0·3, 0·4, 0·5, 0·6, 0·7, 0·8, 0·9, 0·90630778703665, 1·0, 2·0, 2·5, 3·0, 8·0, 1/64, 1e-12}

@@ -1,6 +1,7 @@
 -- The point that the definition tries for an insertion is within 40, and where a triangle holds it, within 8.
 -- Assumes nothing.
-use Rattle.laws.specs.Kit.{◌≡◌, refl, sym, ap, subst, inl, inr, Bool, true, false, ◌&&◌, ◌||◌, cond, ℕ, ◌+◌, ◌*◌, ◌^◌, ◌<◌, ◌≤◌, arith, le_of_mul-le-mul_right, eqb, lit≤, T, List, ◌∷◌, Float, binary64, nan, fin, inf, down, up, of_bits, eq, lt, le, neg, mul}
+use Rattle.std.specs.Prelude.{◌≡◌, ◌&&◌, ◌||◌, ◌+◌, ◌*◌, ◌^◌, ◌<◌, ◌≤◌, ◌∷◌}
+use Rattle.laws.specs.Kit.{refl, sym, ap, subst, inl, inr, Bool, true, false, cond, ℕ, arith, le_of_mul-le-mul_right, eqb, lit≤, T, List, Float, binary64, nan, fin, inf, down, up, of_bits, eq, lt, le, neg, mul}
 use Rattle.std.proofs.Common.{le_trans, eqb→eq}
 use Rattle.std.specs.Float.Ieee.Fits.{and_l, and_r, down_pos, neg-fits}
 use Rattle.definition.specs.Floats.{◌≺◌, ◌≼◌, f64, 0·0, 1/64, 8·0, 1e-12, 0·3, 0·4, 0·5, 0·6, 0·7, 0·8, 0·9, 1·0}

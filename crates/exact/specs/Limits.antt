@@ -1,6 +1,6 @@
 -- Limits on a cosine: a double from 0 on, below 1, and its exact value in units. Assumes nothing.
-use Rattle.laws.specs.Kit.{◌≡◌, refl, sym, subst, ◌⊎◌, inl, inr, true, false, ℕ, ◌+◌, ◌*◌, ◌^◌, ◌<◌, arith, lit<, lit≤, T, ℤ, pos, negsuc, Float, binary64, nan, fin, inf, of_bits, fits, eq, lt, le}
-use Rattle.std.specs.Prelude.{nat_abs}
+use Rattle.laws.specs.Kit.{refl, sym, subst, inl, inr, true, false, ℕ, arith, lit<, lit≤, T, ℤ, pos, negsuc, Float, binary64, nan, fin, inf, of_bits, fits, eq, lt, le}
+use Rattle.std.specs.Prelude.{nat_abs, ◌≡◌, ◌⊎◌, ◌+◌, ◌*◌, ◌^◌, ◌<◌}
 use Rattle.definition.specs.Floats.{◌≺◌, ◌≼◌, f64, 0·0, 0·5, 0·99, 1·0, 0·90630778703665}
 use Rattle.definition.specs.Metrics.{Corner}
 use Rattle.definition.specs.Exact.{signed, units, CosineAtMost, CosineUpTo, WideEnough}

@@ -1,7 +1,8 @@
 -- From the test of a trial to its four corners: the area,
 -- the corners and the largest clamped cosine are each asked of the four at once.
 -- Assumes nothing.
-use Rattle.laws.specs.Kit.{◌≡◌, refl, sym, Bool, true, false, not, ◌&&◌, ◌||◌, cond, ℕ, ◌+◌, ◌*◌, ◌^◌, ◌<◌, ◌≤◌, arith, T, not-true, [], ◌∷◌, map, Float, binary64, fin, inf, of_bits, fits, lt, neg}
+use Rattle.std.specs.Prelude.{◌≡◌, ◌&&◌, ◌||◌, ◌+◌, ◌*◌, ◌^◌, ◌<◌, ◌≤◌, ◌∷◌}
+use Rattle.laws.specs.Kit.{refl, sym, Bool, true, false, not, cond, ℕ, arith, T, not-true, [], map, Float, binary64, fin, inf, of_bits, fits, lt, neg}
 use Rattle.definition.specs.Floats.{◌⊘◌, ◌≺◌, ◌≼◌, f64, finite, greater, 0·0, 1·0}
 use Rattle.definition.specs.Lists.{any}
 use Rattle.definition.specs.Numbers.{Quality, tiny_cross}

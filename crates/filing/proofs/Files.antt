@@ -1,6 +1,7 @@
 -- Triangles as numbers: the order of the numbers is the order of the triangles,
 -- so that places sorted by number hold the triangles as they are filed.
-use Rattle.laws.specs.Kit.{◌≡◌, refl, sym, ◌∙◌, ap, subst, ◌≢◌, inl, inr, true, false, ℕ, ◌+◌, ◌*◌, ◌<◌, arith, ltb, List, [], ◌∷◌, map, length, Float}
+use Rattle.std.specs.Prelude.{◌≡◌, ◌≢◌, ◌+◌, ◌*◌, ◌<◌, ◌∷◌}
+use Rattle.laws.specs.Kit.{refl, sym, ◌∙◌, ap, subst, inl, inr, true, false, ℕ, arith, ltb, List, [], map, length, Float}
 use Rattle.definition.specs.Lists.{sort, below}
 use Rattle.definition.specs.Cells.{Tri, new_tri}
 use Rattle.definition.specs.Call.{tri_at, first_points, first_tris, all_of}

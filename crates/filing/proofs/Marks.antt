@@ -1,5 +1,6 @@
 -- Orders that decide by themselves, and rows compared entry by entry.
-use Rattle.laws.specs.Kit.{◌≡◌, refl, sym, ◌∙◌, ap, ◌≢◌, inl, inr, Bool, true, false, not, cond, ℕ, ◌+◌, ◌-◌, ◌*◌, ◌<◌, ◌≤◌, arith, ltb, List, length, get_or, Float, nan}
+use Rattle.std.specs.Prelude.{◌≡◌, ◌≢◌, ◌+◌, ◌-◌, ◌*◌, ◌<◌, ◌≤◌}
+use Rattle.laws.specs.Kit.{refl, sym, ◌∙◌, ap, inl, inr, Bool, true, false, not, cond, ℕ, arith, ltb, List, length, get_or, Float, nan}
 use Rattle.definition.specs.Floats.{0·0}
 use Rattle.definition.specs.Call.{point_at}
 use Rattle.laws.specs.Bools.{which}

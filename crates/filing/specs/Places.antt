@@ -1,5 +1,6 @@
 -- Triangles as numbers in places of two words, and what the functions that fill and sort places promise.
-use Rattle.laws.specs.Kit.{◌≡◌, ℕ, ◌+◌, ◌*◌, ◌<◌, ◌≤◌, List, map, length, get_or}
+use Rattle.std.specs.Prelude.{◌≡◌, ◌+◌, ◌*◌, ◌<◌, ◌≤◌}
+use Rattle.laws.specs.Kit.{ℕ, List, map, length, get_or}
 use Rattle.definition.specs.Cells.{Tri}
 use Rattle.definition.specs.Call.{first_tris}
 use Rattle.sorting.specs.Places.{key_at, keys}

@@ -1,5 +1,6 @@
 -- Lists sorted by an order, and what a function makes of them.
-use Rattle.laws.specs.Kit.{◌≡◌, refl, sym, ◌∙◌, ap, inl, inr, Bool, true, false, List, [], ◌∷◌, map}
+use Rattle.std.specs.Prelude.{◌≡◌, ◌∷◌}
+use Rattle.laws.specs.Kit.{refl, sym, ◌∙◌, ap, inl, inr, Bool, true, false, List, [], map}
 use Rattle.definition.specs.Lists.{insert, sort}
 use Rattle.definition.specs.Account.{All}
 use Rattle.laws.specs.Bools.{which, never}

@@ -1,6 +1,7 @@
 -- What is promised of the filing order: it is a total order on the classes of meshes that are the
 -- same, and which meshes those are.
-use Rattle.laws.specs.Kit.{◌≡◌, refl, sym, ◌∙◌, ap, subst, true, false, ℕ, suc, arith, ℤ, List, [], ◌∷◌, map, length, length-map, Float, nan, fin, inf, of_bits, eq, lt, le}
+use Rattle.std.specs.Prelude.{◌≡◌, ◌∷◌}
+use Rattle.laws.specs.Kit.{refl, sym, ◌∙◌, ap, subst, true, false, ℕ, suc, arith, ℤ, List, [], map, length, length-map, Float, nan, fin, inf, of_bits, eq, lt, le}
 use Rattle.definition.specs.Lists.{filter, sort, below}
 use Rattle.definition.specs.Floats.{◌≼◌, abs, 8·0, f64}
 use Rattle.definition.specs.Plane.{Node}

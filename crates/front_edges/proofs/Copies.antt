@@ -1,5 +1,6 @@
 -- The front edges of a node by its note.
-use Rattle.laws.specs.Kit.{◌≡◌, sym, ◌∙◌, ap, subst, ◌≢◌, ℕ, ◌+◌, ◌*◌, ◌<◌, ◌≤◌, arith, dec_le, List, [], ◌∷◌, length, get_or, set}
+use Rattle.std.specs.Prelude.{◌≡◌, ◌≢◌, ◌+◌, ◌*◌, ◌<◌, ◌≤◌, ◌∷◌}
+use Rattle.laws.specs.Kit.{sym, ◌∙◌, ap, subst, ℕ, arith, dec_le, List, [], length, get_or, set}
 use Rattle.rings.proofs.Lists.{Same, same, differ, decide}
 use Rattle.definition.specs.Cells.{Mesh, front_at}
 use Rattle.cells.specs.Layout.{fronts_at, front_u_at, front_v_at}

@@ -1,5 +1,6 @@
 -- The ring of a node walked corner by corner.
-use Rattle.laws.specs.Kit.{◌≡◌, refl, sym, ◌∙◌, ap, subst, ◌≢◌, inl, inr, Bool, true, false, ◌&&◌, ◌||◌, ℕ, ◌+◌, ◌*◌, ◌/◌, ◌<◌, ◌≤◌, arith, ℕ_discrete, eqb, eq-eqb, ne_eqb, eqb-true, List, [], ◌∷◌, ◌++◌, length, get_or, length-append}
+use Rattle.std.specs.Prelude.{◌≡◌, ◌≢◌, ◌&&◌, ◌||◌, ◌+◌, ◌*◌, ◌/◌, ◌<◌, ◌≤◌, ◌∷◌, ◌++◌}
+use Rattle.laws.specs.Kit.{refl, sym, ◌∙◌, ap, subst, inl, inr, Bool, true, false, ℕ, arith, ℕ_discrete, eqb, eq-eqb, ne_eqb, eqb-true, List, [], length, get_or, length-append}
 use Rattle.rings.specs.Rings.{nx}
 use Rattle.definition.specs.Lists.{filter}
 use Rattle.definition.specs.Cells.{Tri, Cell, tri, Live, Mesh, key, live_tri, tri_has, has_side, owns}

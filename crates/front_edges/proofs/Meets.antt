@@ -1,5 +1,6 @@
 -- What one more corner of a ring adds to the edges met.
-use Rattle.laws.specs.Kit.{◌≡◌, refl, sym, ◌∙◌, ap, subst, ◌≢◌, inl, inr, Bool, true, false, ◌||◌, ℕ, suc, ◌≤◌, arith, eqb, eq-eqb, eqb-true, List, [], ◌∷◌, length}
+use Rattle.std.specs.Prelude.{◌≡◌, ◌≢◌, ◌||◌, ◌≤◌, ◌∷◌}
+use Rattle.laws.specs.Kit.{refl, sym, ◌∙◌, ap, subst, inl, inr, Bool, true, false, ℕ, suc, arith, eqb, eq-eqb, eqb-true, List, [], length}
 use Rattle.definition.specs.Lists.{filter}
 use Rattle.definition.specs.Cells.{Live, Mesh, key, live_tri, owns}
 use Rattle.laws.specs.Bools.{which, either, or_second}

@@ -1,5 +1,6 @@
 -- What `front_at` has: the front edges whose smaller node is u, by their second nodes.
-use Rattle.laws.specs.Kit.{◌≡◌, refl, sym, ◌∙◌, ap, subst, ◌≢◌, inl, inr, Bool, true, false, ◌&&◌, ◌||◌, cond, ℕ, zero, suc, ◌+◌, ◌<◌, ◌≤◌, arith, eqb, ltb, leb, eq-eqb, eqb-true, lt-ltb, ltb-true, ltb-false, List, [], ◌∷◌, ◌++◌, map, length}
+use Rattle.std.specs.Prelude.{◌≡◌, ◌≢◌, ◌&&◌, ◌||◌, ◌+◌, ◌<◌, ◌≤◌, ◌∷◌, ◌++◌}
+use Rattle.laws.specs.Kit.{refl, sym, ◌∙◌, ap, subst, inl, inr, Bool, true, false, cond, ℕ, zero, suc, arith, eqb, ltb, leb, eq-eqb, eqb-true, lt-ltb, ltb-true, ltb-false, List, [], map, length}
 use Rattle.definition.specs.Lists.{filter, flat_map, insert, sort, numbers, below}
 use Rattle.definition.specs.Plane.{Edge}
 use Rattle.definition.specs.Cells.{Tri, Live, Mesh, key, tri_edges, edge_before, live_tri, owns, owners, has_node, cells_at, tris_of, front_owners, front_from, is_front, front_at, front}

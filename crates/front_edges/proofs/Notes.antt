@@ -1,5 +1,6 @@
 -- The memory stands for the same mesh where only notes changed and are true.
-use Rattle.laws.specs.Kit.{◌≡◌, sym, ◌∙◌, subst, ◌≢◌, ℕ, ◌+◌, ◌*◌, ◌<◌, arith, List, length, get_or}
+use Rattle.std.specs.Prelude.{◌≡◌, ◌≢◌, ◌+◌, ◌*◌, ◌<◌}
+use Rattle.laws.specs.Kit.{sym, ◌∙◌, subst, ℕ, arith, List, length, get_or}
 use Rattle.rings.proofs.Lists.{Same, same, differ, decide}
 use Rattle.rings.proofs.Families.{family_kept}
 use Rattle.definition.specs.Cells.{Mesh}

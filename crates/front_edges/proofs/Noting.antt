@@ -1,5 +1,6 @@
 -- The front edges of a node are noted after a walk.
-use Rattle.laws.specs.Kit.{◌≡◌, refl, sym, ◌∙◌, ap, subst, ◌≢◌, inl, inr, true, ℕ, suc, ◌+◌, ◌*◌, ◌%◌, ◌<◌, ◌≤◌, arith, dec_le, eqb, eq-eqb, eqb-true, List, [], ◌∷◌, length, get_or, set, length-set}
+use Rattle.std.specs.Prelude.{◌≡◌, ◌≢◌, ◌+◌, ◌*◌, ◌%◌, ◌<◌, ◌≤◌, ◌∷◌}
+use Rattle.laws.specs.Kit.{refl, sym, ◌∙◌, ap, subst, inl, inr, true, ℕ, suc, arith, dec_le, eqb, eq-eqb, eqb-true, List, [], length, get_or, set, length-set}
 use Rattle.definition.specs.Lists.{contains}
 use Rattle.definition.specs.Plane.{Edge}
 use Rattle.definition.specs.Cells.{Mesh, key, is_front, front_at}

@@ -1,5 +1,6 @@
 -- The front's edges in the lent work slice.
-use Rattle.laws.specs.Kit.{◌≡◌, true, ℕ, ◌<◌, ◌≤◌, List, length, get_or}
+use Rattle.std.specs.Prelude.{◌≡◌, ◌<◌, ◌≤◌}
+use Rattle.laws.specs.Kit.{true, ℕ, List, length, get_or}
 use Rattle.definition.specs.Plane.{Edge}
 use Rattle.definition.specs.Cells.{edge_before}
 use Rattle.definition.specs.Account.{Pairwise}

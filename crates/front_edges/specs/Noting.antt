@@ -1,5 +1,6 @@
 -- The front edges of one node by its note, and the note written after a walk of the node's ring.
-use Rattle.laws.specs.Kit.{◌≡◌, ◌≢◌, ℕ, suc, ◌+◌, ◌*◌, ◌%◌, ◌<◌, ◌≤◌, List, length, get_or}
+use Rattle.std.specs.Prelude.{◌≡◌, ◌≢◌, ◌+◌, ◌*◌, ◌%◌, ◌<◌, ◌≤◌}
+use Rattle.laws.specs.Kit.{ℕ, suc, List, length, get_or}
 use Rattle.definition.specs.Cells.{Mesh, front_at}
 use Rattle.cells.specs.Layout.{notes_at, fronts_at, boxes_at, even_at, mesh_end, front_u_at, front_v_at, front_links_at}
 use Rattle.cells.specs.Rep.{Room, Rep}

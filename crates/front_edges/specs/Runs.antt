@@ -1,5 +1,6 @@
 -- The front edges of one node in the lent work slice, and what a walk of the node's ring has met of them.
-use Rattle.laws.specs.Kit.{◌≡◌, ◌≢◌, true, ℕ, ◌+◌, ◌*◌, ◌<◌, ◌≤◌, List, [], ◌∷◌, length, get_or}
+use Rattle.std.specs.Prelude.{◌≡◌, ◌≢◌, ◌+◌, ◌*◌, ◌<◌, ◌≤◌, ◌∷◌}
+use Rattle.laws.specs.Kit.{true, ℕ, List, [], length, get_or}
 use Rattle.rings.specs.Rings.{nx}
 use Rattle.definition.specs.Lists.{filter}
 use Rattle.definition.specs.Plane.{Edge}

@@ -1,5 +1,6 @@
 -- The table as it is made: the joints below i are there, and their nodes are marked.
-use Rattle.laws.specs.Kit.{◌≡◌, sym, ◌∙◌, ap, ℕ, ◌+◌, ◌*◌, ◌%◌, ◌<◌, ◌≤◌, arith, ℕ_discrete, not-suc-le-zero, List, length, get_or, set, length-set}
+use Rattle.std.specs.Prelude.{◌≡◌, ◌+◌, ◌*◌, ◌%◌, ◌<◌, ◌≤◌}
+use Rattle.laws.specs.Kit.{sym, ◌∙◌, ap, ℕ, arith, ℕ_discrete, not-suc-le-zero, List, length, get_or, set, length-set}
 use Rattle.definition.specs.Lists.{table, below}
 use Rattle.definition.specs.Call.{joint_at}
 use Rattle.laws.specs.Cells.{same_ends}

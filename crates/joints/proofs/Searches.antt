@@ -1,5 +1,6 @@
 -- Whether the table has an edge: by the joints one after the other, and by the marks.
-use Rattle.laws.specs.Kit.{◌≡◌, sym, ◌∙◌, ap, true, false, ℕ, ◌+◌, ◌*◌, ◌<◌, arith, eqb, eq-eqb, ne_eqb, eqb-true, List, get_or}
+use Rattle.std.specs.Prelude.{◌≡◌, ◌+◌, ◌*◌, ◌<◌}
+use Rattle.laws.specs.Kit.{sym, ◌∙◌, ap, true, false, ℕ, arith, eqb, eq-eqb, ne_eqb, eqb-true, List, get_or}
 use Rattle.definition.specs.Plane.{Edge}
 use Rattle.definition.specs.Cells.{same_edge, has_edge_in}
 use Rattle.laws.specs.Bools.{fails, holds, never, both}

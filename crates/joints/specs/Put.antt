@@ -1,5 +1,6 @@
 -- What the making of the table gives.
-use Rattle.laws.specs.Kit.{◌≡◌, ℕ, ◌+◌, ◌*◌, ◌<◌, ◌≤◌, List, length, get_or}
+use Rattle.std.specs.Prelude.{◌≡◌, ◌+◌, ◌*◌, ◌<◌, ◌≤◌}
+use Rattle.laws.specs.Kit.{ℕ, List, length, get_or}
 use Rattle.definition.specs.Plane.{Edge}
 use Rattle.joints.specs.Table.{edge_in, Marked}
 

@@ -1,6 +1,7 @@
 -- The table of the joints, 1,537 words: words 0 to 1023 mark the nodes of joints by their remainder by 1,024,
 -- word 1024 is the number of joints, and from word 1025 on each joint has two words, the smaller node first.
-use Rattle.laws.specs.Kit.{◌≡◌, refl, Bool, ℕ, ◌+◌, ◌*◌, ◌%◌, ◌<◌, ◌≤◌, List, length, get_or}
+use Rattle.std.specs.Prelude.{◌≡◌, ◌+◌, ◌*◌, ◌%◌, ◌<◌, ◌≤◌}
+use Rattle.laws.specs.Kit.{refl, Bool, ℕ, List, length, get_or}
 use Rattle.definition.specs.Lists.{table, below}
 use Rattle.definition.specs.Plane.{Edge}
 use Rattle.definition.specs.Cells.{has_edge_in}

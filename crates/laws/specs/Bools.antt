@@ -1,5 +1,6 @@
 -- Tests: what `&&`, `||` and `not` say of their parts, and a test as a proposition.
-use Rattle.laws.specs.Kit.{◌≡◌, refl, sym, subst, ◌⊎◌, inl, inr, Bool, true, false, ◌&&◌, ◌||◌, cond, ℕ, ◌≤◌, arith, T}
+use Rattle.std.specs.Prelude.{◌≡◌, ◌⊎◌, ◌&&◌, ◌||◌, ◌≤◌}
+use Rattle.laws.specs.Kit.{refl, sym, subst, inl, inr, Bool, true, false, cond, ℕ, arith, T}
 
 -- ---- one test
 

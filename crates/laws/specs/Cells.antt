@@ -1,5 +1,6 @@
 -- Edges, live cells and points of the definition.
-use Rattle.laws.specs.Kit.{◌≡◌, refl, sym, ◌∙◌, ap, Bool, true, false, not, ◌&&◌, ◌||◌, some, ℕ, min, max, ◌<◌, ◌≤◌, arith, eqb, eq-eqb, eqb-true, List, [], ◌∷◌, ◌++◌, length, Float}
+use Rattle.std.specs.Prelude.{◌≡◌, ◌&&◌, ◌||◌, ◌<◌, ◌≤◌, ◌∷◌, ◌++◌}
+use Rattle.laws.specs.Kit.{refl, sym, ◌∙◌, ap, Bool, true, false, not, some, ℕ, min, max, arith, eqb, eq-eqb, eqb-true, List, [], length, Float}
 use Rattle.std.proofs.Math.ListN.{get_or-append}
 use Rattle.definition.specs.Lists.{filter, any, find, numbers, below}
 use Rattle.definition.specs.Plane.{Node, Edge, point}

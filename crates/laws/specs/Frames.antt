@@ -1,5 +1,6 @@
 -- What a store changes, and what stays: the words below an offset, those from it on, and those outside a range.
-use Rattle.laws.specs.Kit.{◌≡◌, refl, sym, ◌∙◌, ◌≢◌, ℕ, ◌<◌, ◌≤◌, arith, List, length, get_or, set, length-set, get_or-set_same, get_or-set_other}
+use Rattle.std.specs.Prelude.{◌≡◌, ◌≢◌, ◌<◌, ◌≤◌}
+use Rattle.laws.specs.Kit.{refl, sym, ◌∙◌, ℕ, arith, List, length, get_or, set, length-set, get_or-set_same, get_or-set_other}
 
 -- ---- one store
 

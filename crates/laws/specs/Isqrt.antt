@@ -1,5 +1,6 @@
 -- `isqrt k n` is the whole root of an n below 4 ^ k, and squares keep the order. Assumes nothing.
-use Rattle.laws.specs.Kit.{◌≡◌, sym, ◌∙◌, ap, subst, Bool, true, false, not, cond, ℕ, zero, suc, ◌+◌, ◌*◌, ◌/◌, ◌^◌, ◌<◌, ◌≤◌, arith, mul-pos, mul-le-mul, mul-le-mul_right, mul-lt-mul_of_pos_right, leb, T, pow-add, pow_mono}
+use Rattle.std.specs.Prelude.{◌≡◌, ◌+◌, ◌*◌, ◌/◌, ◌^◌, ◌<◌, ◌≤◌}
+use Rattle.laws.specs.Kit.{sym, ◌∙◌, ap, subst, Bool, true, false, not, cond, ℕ, zero, suc, arith, mul-pos, mul-le-mul, mul-le-mul_right, mul-lt-mul_of_pos_right, leb, T, pow-add, pow_mono}
 use Rattle.std.proofs.Common.{zero-le, pow-suc, lt_of_not-le, not-le_of_lt, zero-lt-suc, lt_of_le_of_lt, lt_of_lt_of_le, le_of_eq, div-lt_iff_lt-mul, leb→le}
 use Rattle.std.proofs.Math.Nat.{mul-mul-mul_comm}
 use Rattle.std.proofs.Math.Dec.{nleb→lt}

@@ -1,5 +1,6 @@
 -- Numbers compared, and doubles with their bits.
-use Rattle.laws.specs.Kit.{◌≡◌, refl, sym, ◌∙◌, ap, subst, ◌≢◌, Bool, true, false, not, true≢false, ℕ, ◌+◌, ◌*◌, ◌%◌, ◌^◌, ◌<◌, ◌≤◌, arith, ℕ_discrete, eqb, T, eq-eqb, ne_eqb, lt-ltb, Float, binary64, nan, fin, inf, of_bits, to_bits, div}
+use Rattle.std.specs.Prelude.{◌≡◌, ◌≢◌, ◌+◌, ◌*◌, ◌%◌, ◌^◌, ◌<◌, ◌≤◌}
+use Rattle.laws.specs.Kit.{refl, sym, ◌∙◌, ap, subst, Bool, true, false, not, true≢false, ℕ, arith, ℕ_discrete, eqb, T, eq-eqb, ne_eqb, lt-ltb, Float, binary64, nan, fin, inf, of_bits, to_bits, div}
 use Prim.Native.Nat.{compare, Ordering}
 use Rattle.std.proofs.Math.Dec.{is_le, compare_is_eq, nleb→lt, eqb_refl}
 use Rattle.std.proofs.Common.{leb→le, eqb→eq}

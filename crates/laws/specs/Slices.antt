@@ -1,5 +1,6 @@
 -- Lent slices at a call's exit: words and points at the front of what a slice was, and a slice cleared.
-use Rattle.laws.specs.Kit.{◌≡◌, refl, sym, ◌∙◌, ap, subst, ℕ, zero, suc, ◌+◌, ◌-◌, ◌*◌, ◌≤◌, arith, List, [], ◌∷◌, ◌++◌, append-nil, append_assoc, length, get_or, take, drop, length-append, Float}
+use Rattle.std.specs.Prelude.{◌≡◌, ◌+◌, ◌-◌, ◌*◌, ◌≤◌, ◌∷◌, ◌++◌}
+use Rattle.laws.specs.Kit.{refl, sym, ◌∙◌, ap, subst, ℕ, zero, suc, arith, List, [], append-nil, append_assoc, length, get_or, take, drop, length-append, Float}
 use Rattle.std.proofs.Common.{length-drop, drop_of_length-le, take_all, take_at, drop_at, drop-drop, drop-cons}
 use borrow.Rule.Slice.PartMut.{mid_of, put_mid}
 use Rattle.definition.specs.Lists.{flat_map, table, numbers, below}

@@ -1,5 +1,6 @@
 -- Tables over consecutive numbers: entry by entry the same, and a test that no entry passes.
-use Rattle.laws.specs.Kit.{◌≡◌, refl, ◌∙◌, ap, Bool, false, ℕ, zero, suc, ◌+◌, ◌<◌, ◌≤◌, arith, not-suc-le-zero, List, ◌∷◌}
+use Rattle.std.specs.Prelude.{◌≡◌, ◌+◌, ◌<◌, ◌≤◌, ◌∷◌}
+use Rattle.laws.specs.Kit.{refl, ◌∙◌, ap, Bool, false, ℕ, zero, suc, arith, not-suc-le-zero, List}
 use Rattle.std.proofs.Common.{le_of_suc-le-suc}
 use Rattle.definition.specs.Lists.{any, table, numbers, below}
 use Rattle.laws.specs.Bools.{or_none}

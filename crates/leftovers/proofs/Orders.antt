@@ -1,5 +1,6 @@
 -- Cells by ascending slot are those of slot 0, slot 1 and so on.
-use Rattle.laws.specs.Kit.{◌≡◌, refl, sym, ◌∙◌, ap, ◌≢◌, Bool, Option, none, some, ℕ, zero, suc, ◌+◌, ◌<◌, ◌≤◌, arith, ltb, eq-eqb, ne_eqb, lt-ltb, le-ltb, List, [], ◌∷◌, ◌++◌, append-nil}
+use Rattle.std.specs.Prelude.{◌≡◌, ◌≢◌, ◌+◌, ◌<◌, ◌≤◌, ◌∷◌, ◌++◌}
+use Rattle.laws.specs.Kit.{refl, sym, ◌∙◌, ap, Bool, Option, none, some, ℕ, zero, suc, arith, ltb, eq-eqb, ne_eqb, lt-ltb, le-ltb, List, [], append-nil}
 use Rattle.rings.specs.Rings.{Out, Distinct, Below}
 use Rattle.rings.proofs.Lists.{Same, same, differ, decide}
 use Rattle.definition.specs.Lists.{find, insert, sort, flat_map, numbers, below}

@@ -1,5 +1,6 @@
 -- A triangle's three numbers behind those of the others.
-use Rattle.laws.specs.Kit.{◌≡◌, refl, sym, ◌∙◌, ap, subst, ◌≢◌, ℕ, ◌+◌, ◌-◌, ◌*◌, ◌<◌, ◌≤◌, arith, List, [], ◌∷◌, ◌++◌, append-nil, length, get_or, set, drop, length-append}
+use Rattle.std.specs.Prelude.{◌≡◌, ◌≢◌, ◌+◌, ◌-◌, ◌*◌, ◌<◌, ◌≤◌, ◌∷◌, ◌++◌}
+use Rattle.laws.specs.Kit.{refl, sym, ◌∙◌, ap, subst, ℕ, arith, List, [], append-nil, length, get_or, set, drop, length-append}
 use lib.Seq.{sets-eq}
 use borrow.Rule.Slice.PartMut.{mid_of, put_mid}
 use Rattle.definition.specs.Lists.{flat_map}

@@ -1,5 +1,6 @@
 -- Triangles written one behind the other.
-use Rattle.laws.specs.Kit.{◌≡◌, Option, none, some, ℕ, ◌+◌, ◌*◌, ◌<◌, ◌≤◌, List, [], ◌∷◌, ◌++◌, length}
+use Rattle.std.specs.Prelude.{◌≡◌, ◌+◌, ◌*◌, ◌<◌, ◌≤◌, ◌∷◌, ◌++◌}
+use Rattle.laws.specs.Kit.{Option, none, some, ℕ, List, [], length}
 use Rattle.definition.specs.Lists.{flat_map}
 use Rattle.definition.specs.Cells.{Tri, Live, Mesh, tri_nodes, tri_of, cell_of}
 use Rattle.definition.specs.Call.{onto}

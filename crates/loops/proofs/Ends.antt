@@ -1,5 +1,6 @@
 -- The ends of an edge, and the next edge at either.
-use Rattle.laws.specs.Kit.{◌≡◌, sym, ◌∙◌, ap, ◌≢◌, true, ℕ, suc, ◌+◌, ◌*◌, ◌<◌, arith, eq-eqb, ne_eqb, eqb-true, List, length, get_or}
+use Rattle.std.specs.Prelude.{◌≡◌, ◌≢◌, ◌+◌, ◌*◌, ◌<◌}
+use Rattle.laws.specs.Kit.{sym, ◌∙◌, ap, true, ℕ, suc, arith, eq-eqb, ne_eqb, eqb-true, List, length, get_or}
 use Rattle.definition.specs.Plane.{Edge}
 use Rattle.definition.specs.Cells.{touches}
 use Rattle.definition.specs.Loops.{far_end}

@@ -1,5 +1,6 @@
 -- Along the places of a loop: whether some edge is not blocked, and the sum of the lengths.
-use Rattle.laws.specs.Kit.{◌≡◌, refl, sym, ◌∙◌, ap, subst, Bool, true, false, not, ◌||◌, ℕ, zero, suc, ◌+◌, ◌<◌, ◌≤◌, arith, List, [], ◌∷◌, ◌++◌, foldl, length, get_or, set, length-set, get_or-set_same, get_or-set_other, Float}
+use Rattle.std.specs.Prelude.{◌≡◌, ◌||◌, ◌+◌, ◌<◌, ◌≤◌, ◌∷◌, ◌++◌}
+use Rattle.laws.specs.Kit.{refl, sym, ◌∙◌, ap, subst, Bool, true, false, not, ℕ, zero, suc, arith, List, [], foldl, length, get_or, set, length-set, get_or-set_same, get_or-set_other, Float}
 use native.Mathlib.Numerals.{add-one}
 use Rattle.definition.specs.Lists.{any}
 use Rattle.definition.specs.Floats.{◌⊕◌, 0·0}

@@ -1,5 +1,6 @@
 -- Words filled, and edges linked to the lists of their ends.
-use Rattle.laws.specs.Kit.{◌≡◌, refl, sym, ◌∙◌, ap, subst, ◌≢◌, Bool, true, false, ◌||◌, ℕ, suc, ◌+◌, ◌-◌, ◌*◌, ◌<◌, ◌≤◌, arith, eqb, eq-eqb, ne_eqb, List, length, get_or, set, length-set}
+use Rattle.std.specs.Prelude.{◌≡◌, ◌≢◌, ◌||◌, ◌+◌, ◌-◌, ◌*◌, ◌<◌, ◌≤◌}
+use Rattle.laws.specs.Kit.{refl, sym, ◌∙◌, ap, subst, Bool, true, false, ℕ, suc, arith, eqb, eq-eqb, ne_eqb, List, length, get_or, set, length-set}
 use native.Mathlib.Numerals.{add-one}
 use Rattle.rings.proofs.Lists.{Same, same, differ, decide}
 use Rattle.definition.specs.Plane.{Edge}

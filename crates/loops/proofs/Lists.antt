@@ -1,5 +1,6 @@
 -- Lists of edges: the others than an edge, and the first that passes.
-use Rattle.laws.specs.Kit.{◌≡◌, refl, ◌∙◌, ap, Bool, true, false, none, some, suc, ◌≤◌, arith, List, [], ◌∷◌, length}
+use Rattle.std.specs.Prelude.{◌≡◌, ◌≤◌, ◌∷◌}
+use Rattle.laws.specs.Kit.{refl, ◌∙◌, ap, Bool, true, false, none, some, suc, arith, List, [], length}
 use Rattle.definition.specs.Lists.{filter, find}
 use Rattle.definition.specs.Plane.{Edge}
 use Rattle.definition.specs.Cells.{same_edge}

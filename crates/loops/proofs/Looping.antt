@@ -1,5 +1,6 @@
 -- Loop after loop: those that are kept stand first, and the next comes behind them.
-use Rattle.laws.specs.Kit.{◌≡◌, refl, sym, ◌∙◌, ap, subst, inl, inr, true, false, ℕ, zero, suc, ◌+◌, ◌*◌, ◌<◌, ◌≤◌, arith, dec_lt, List, [], ◌∷◌, ◌++◌, append_assoc, length, get_or, length-append, Float}
+use Rattle.std.specs.Prelude.{◌≡◌, ◌+◌, ◌*◌, ◌<◌, ◌≤◌, ◌∷◌, ◌++◌}
+use Rattle.laws.specs.Kit.{refl, sym, ◌∙◌, ap, subst, inl, inr, true, false, ℕ, zero, suc, arith, dec_lt, List, [], append_assoc, length, get_or, length-append, Float}
 use Rattle.rings.proofs.Lists.{Same, same, differ, decide}
 use Rattle.definition.specs.Lists.{filter, concat, flat_map}
 use Rattle.definition.specs.Plane.{Node, Edge}

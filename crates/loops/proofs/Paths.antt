@@ -1,6 +1,7 @@
 -- The definition's walk and its loops, apart from memory: step by step,
 -- and that the loops have each edge once and none is empty.
-use Rattle.laws.specs.Kit.{◌≡◌, refl, sym, ◌∙◌, ap, subst, ◌≢◌, inl, inr, false, not, none, some, ℕ, zero, suc, ◌+◌, ◌<◌, ◌≤◌, arith, ℕ_discrete, eq-eqb, ne_eqb, not-true, List, [], ◌∷◌, ◌++◌, append_assoc, length, get_or, length-append}
+use Rattle.std.specs.Prelude.{◌≡◌, ◌≢◌, ◌+◌, ◌<◌, ◌≤◌, ◌∷◌, ◌++◌}
+use Rattle.laws.specs.Kit.{refl, sym, ◌∙◌, ap, subst, inl, inr, false, not, none, some, ℕ, zero, suc, arith, ℕ_discrete, eq-eqb, ne_eqb, not-true, List, [], append_assoc, length, get_or, length-append}
 use Rattle.definition.specs.Lists.{find, concat, flat_map}
 use Rattle.definition.specs.Plane.{Edge}
 use Rattle.definition.specs.Cells.{same_edge, has_edge_in, touches}

@@ -1,5 +1,6 @@
 -- One edge comes to its place.
-use Rattle.laws.specs.Kit.{◌≡◌, refl, ◌∙◌, ap, ◌≢◌, false, ℕ, suc, ◌+◌, ◌*◌, ◌<◌, ◌≤◌, arith, eqb, ne_eqb, List, [], ◌∷◌, ◌++◌, length, get_or, set, length-set, length-append}
+use Rattle.std.specs.Prelude.{◌≡◌, ◌≢◌, ◌+◌, ◌*◌, ◌<◌, ◌≤◌, ◌∷◌, ◌++◌}
+use Rattle.laws.specs.Kit.{refl, ◌∙◌, ap, false, ℕ, suc, arith, eqb, ne_eqb, List, [], length, get_or, set, length-set, length-append}
 use native.Mathlib.Numerals.{add-one}
 use Rattle.rings.proofs.Lists.{Same, same, differ, decide}
 use Rattle.definition.specs.Plane.{Edge}

@@ -1,5 +1,6 @@
 -- One loop: its start, its first edge and the walk.
-use Rattle.laws.specs.Kit.{◌≡◌, refl, sym, ◌∙◌, ap, subst, ◌≢◌, ℕ, ◌+◌, ◌*◌, ◌<◌, ◌≤◌, arith, eqb, List, [], ◌∷◌, length, get_or, set, length-set}
+use Rattle.std.specs.Prelude.{◌≡◌, ◌≢◌, ◌+◌, ◌*◌, ◌<◌, ◌≤◌, ◌∷◌}
+use Rattle.laws.specs.Kit.{refl, sym, ◌∙◌, ap, subst, ℕ, arith, eqb, List, [], length, get_or, set, length-set}
 use Rattle.definition.specs.Plane.{Edge}
 use Rattle.definition.specs.Loops.{walk, without_edge}
 use Rattle.laws.specs.Cells.{same_self}

@@ -1,5 +1,6 @@
 -- The edges in no loop, and the first edge at a node.
-use Rattle.laws.specs.Kit.{◌≡◌, refl, sym, ◌∙◌, ap, subst, ◌≢◌, Bool, true, false, false≢true, ℕ, zero, suc, ◌+◌, ◌-◌, ◌<◌, ◌≤◌, arith, List, [], ◌∷◌, ◌++◌, append_assoc, length, length-append}
+use Rattle.std.specs.Prelude.{◌≡◌, ◌≢◌, ◌+◌, ◌-◌, ◌<◌, ◌≤◌, ◌∷◌, ◌++◌}
+use Rattle.laws.specs.Kit.{refl, sym, ◌∙◌, ap, subst, Bool, true, false, false≢true, ℕ, zero, suc, arith, List, [], append_assoc, length, length-append}
 use native.Mathlib.Numerals.{add-one}
 use lib.Seq.{get_or-append_seam}
 use Rattle.rings.proofs.Lists.{Same, same, differ, decide}

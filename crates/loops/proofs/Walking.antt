@@ -1,5 +1,6 @@
 -- A walk along the front, step by step.
-use Rattle.laws.specs.Kit.{◌≡◌, refl, sym, ◌∙◌, ap, subst, ◌≢◌, ℕ, suc, ◌+◌, ◌*◌, ◌<◌, ◌≤◌, arith, List, [], ◌∷◌, ◌++◌, length}
+use Rattle.std.specs.Prelude.{◌≡◌, ◌≢◌, ◌+◌, ◌*◌, ◌<◌, ◌≤◌, ◌∷◌, ◌++◌}
+use Rattle.laws.specs.Kit.{refl, sym, ◌∙◌, ap, subst, ℕ, suc, arith, List, [], length}
 use Rattle.definition.specs.Plane.{Edge}
 use Rattle.definition.specs.Cells.{touches}
 use Rattle.definition.specs.Loops.{Walk, walk, without_edge}

@@ -1,5 +1,6 @@
 -- A loop that has come to its places: what it takes to see whether it is kept, and what that gives.
-use Rattle.laws.specs.Kit.{◌≡◌, true, false, ℕ, ◌+◌, ◌<◌, ◌≤◌, List, [], ◌∷◌, ◌++◌, length, Float}
+use Rattle.std.specs.Prelude.{◌≡◌, ◌+◌, ◌<◌, ◌≤◌, ◌∷◌, ◌++◌}
+use Rattle.laws.specs.Kit.{true, false, ℕ, List, [], length, Float}
 use Rattle.definition.specs.Plane.{Node, Edge}
 use Rattle.definition.specs.Cells.{Mesh}
 use Rattle.cells.specs.Rep.{Room, Pts}

@@ -1,5 +1,6 @@
 -- The front's edges come to the lists of their ends.
-use Rattle.laws.specs.Kit.{◌≡◌, true, ℕ, ◌+◌, ◌*◌, ◌<◌, ◌≤◌, List, length, get_or, set}
+use Rattle.std.specs.Prelude.{◌≡◌, ◌+◌, ◌*◌, ◌<◌, ◌≤◌}
+use Rattle.laws.specs.Kit.{true, ℕ, List, length, get_or, set}
 use Rattle.definition.specs.Plane.{Edge}
 use Rattle.cells.specs.Layout.{front_links_at, front_used_at, heads_at}
 use Rattle.cells.specs.Rep.{Room}

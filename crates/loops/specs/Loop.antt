@@ -1,5 +1,6 @@
 -- What the front's loops ask.
-use Rattle.laws.specs.Kit.{ℕ, ◌≤◌, List}
+use Rattle.std.specs.Prelude.{◌≤◌}
+use Rattle.laws.specs.Kit.{ℕ, List}
 use Rattle.definition.specs.Plane.{Edge}
 use Rattle.cells.specs.Rep.{Room}
 use Rattle.edges.specs.Stored.{Edges, EdgesAt}

@@ -1,5 +1,6 @@
 -- The front's loops that have an edge that is not blocked: what it takes to find them, and where they stand.
-use Rattle.laws.specs.Kit.{◌≡◌, Bool, not, ℕ, ◌*◌, ◌<◌, ◌≤◌, List, length, get_or, Float}
+use Rattle.std.specs.Prelude.{◌≡◌, ◌*◌, ◌<◌, ◌≤◌}
+use Rattle.laws.specs.Kit.{Bool, not, ℕ, List, length, get_or, Float}
 use Rattle.definition.specs.Lists.{any, filter}
 use Rattle.definition.specs.Plane.{Node, Edge}
 use Rattle.definition.specs.Cells.{Mesh, has_edge_in}

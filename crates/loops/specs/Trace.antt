@@ -1,5 +1,6 @@
 -- The loops in the making: the front's edges at each node, those that are in no loop yet, and those that are placed.
-use Rattle.laws.specs.Kit.{◌≡◌, Bool, true, false, cond, none, some, ℕ, zero, suc, ◌+◌, ◌*◌, ◌<◌, ◌≤◌, eqb, List, [], ◌∷◌, ◌++◌, length, get_or}
+use Rattle.std.specs.Prelude.{◌≡◌, ◌+◌, ◌*◌, ◌<◌, ◌≤◌, ◌∷◌, ◌++◌}
+use Rattle.laws.specs.Kit.{Bool, true, false, cond, none, some, ℕ, zero, suc, eqb, List, [], length, get_or}
 use Rattle.definition.specs.Lists.{find}
 use Rattle.definition.specs.Plane.{Edge}
 use Rattle.definition.specs.Cells.{touches}

@@ -1,5 +1,6 @@
 -- The mesh of the given triangles: empty rings, then triangle after triangle.
-use Rattle.laws.specs.Kit.{◌≡◌, refl, sym, ◌∙◌, ap, Bool, false, ℕ, zero, suc, ◌+◌, ◌*◌, ◌<◌, ◌≤◌, arith, List, [], ◌∷◌, ◌++◌, length, get_or, Float}
+use Rattle.std.specs.Prelude.{◌≡◌, ◌+◌, ◌*◌, ◌<◌, ◌≤◌, ◌∷◌, ◌++◌}
+use Rattle.laws.specs.Kit.{refl, sym, ◌∙◌, ap, Bool, false, ℕ, zero, suc, arith, List, [], length, get_or, Float}
 use native.Mathlib.Numerals.{add-one}
 use Rattle.rings.specs.Rings.{OpenedFrom}
 use Rattle.rings.proofs.Families.{opened}

@@ -1,5 +1,6 @@
 -- What was noted of the components is forgotten before a cell comes or goes.
-use Rattle.laws.specs.Kit.{◌≡◌, sym, ◌∙◌, ap, subst, ℕ, ◌≤◌, arith, List, length, get_or, set}
+use Rattle.std.specs.Prelude.{◌≡◌, ◌≤◌}
+use Rattle.laws.specs.Kit.{sym, ◌∙◌, ap, subst, ℕ, arith, List, length, get_or, set}
 use Rattle.definition.specs.Cells.{Mesh}
 use Rattle.laws.specs.Frames.{on, Keeps, keeps_set}
 use Rattle.cells.specs.Layout.{even_at, mesh_end}

@@ -1,5 +1,6 @@
 -- A node's edges have the same owners where a cell without the node comes or goes.
-use Rattle.laws.specs.Kit.{◌≡◌, refl, sym, ◌∙◌, ap, ◌≢◌, Bool, false, ℕ, suc, ◌+◌, ◌*◌, ◌<◌, ◌≤◌, arith, eq-eqb, ne_eqb, List, [], ◌∷◌, ◌++◌, length, get_or, set}
+use Rattle.std.specs.Prelude.{◌≡◌, ◌≢◌, ◌+◌, ◌*◌, ◌<◌, ◌≤◌, ◌∷◌, ◌++◌}
+use Rattle.laws.specs.Kit.{refl, sym, ◌∙◌, ap, Bool, false, ℕ, suc, arith, eq-eqb, ne_eqb, List, [], length, get_or, set}
 use mathlib.Core.Bool.{and-false, or-false}
 use Rattle.rings.specs.Rings.{Out}
 use Rattle.rings.proofs.Lists.{Same, same, differ, decide}

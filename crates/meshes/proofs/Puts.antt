@@ -1,6 +1,7 @@
 -- A cell comes into a slot that holds none: its kind, then node after node.
 -- What is noted of a node is forgotten before the node is placed.
-use Rattle.laws.specs.Kit.{◌≡◌, refl, sym, ◌∙◌, ap, subst, ℕ, suc, ◌+◌, ◌*◌, ◌<◌, arith, eqb, List, [], ◌∷◌, ◌++◌, append-nil, append_assoc, length, get_or, set, length-set, length-append}
+use Rattle.std.specs.Prelude.{◌≡◌, ◌+◌, ◌*◌, ◌<◌, ◌∷◌, ◌++◌}
+use Rattle.laws.specs.Kit.{refl, sym, ◌∙◌, ap, subst, ℕ, suc, arith, eqb, List, [], append-nil, append_assoc, length, get_or, set, length-set, length-append}
 use lib.ListN.{get_or-append}
 use lib.Seq.{get_or_at}
 use Rattle.rings.specs.Rings.{Out, Family, LinkedTo, CanLink, pick, more}

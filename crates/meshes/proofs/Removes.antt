@@ -1,5 +1,6 @@
 -- A cell goes from its slot: corner after corner, and what is noted of the corner's node, then its kind.
-use Rattle.laws.specs.Kit.{◌≡◌, refl, sym, ◌∙◌, ap, subst, ◌≢◌, Bool, true, false, ℕ, zero, suc, ◌+◌, ◌*◌, ◌<◌, ◌≤◌, arith, eqb, List, [], ◌∷◌, ◌++◌, length, get_or, set, length-set}
+use Rattle.std.specs.Prelude.{◌≡◌, ◌≢◌, ◌+◌, ◌*◌, ◌<◌, ◌≤◌, ◌∷◌, ◌++◌}
+use Rattle.laws.specs.Kit.{refl, sym, ◌∙◌, ap, subst, Bool, true, false, ℕ, zero, suc, arith, eqb, List, [], length, get_or, set, length-set}
 use Rattle.rings.specs.Rings.{Out, Family, UnlinkedFrom, CanUnlink, without, pick}
 use Rattle.rings.proofs.Lists.{Same, same, differ, decide, without_hit, without_miss, without_out, without_append, distinct_without, out_self}
 use Rattle.rings.proofs.Families.{family_kept, same_rings, can_unlink, unlinked}

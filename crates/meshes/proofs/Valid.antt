@@ -1,5 +1,6 @@
 -- The mesh that a memory stands for is valid in the account's sense, and a given triangle has a cell's shape.
-use Rattle.laws.specs.Kit.{◌≡◌, sym, ◌∙◌, ap, subst, ◌≢◌, inl, inr, ℕ, ◌+◌, ◌*◌, ◌<◌, List, [], ◌∷◌, length, get_or}
+use Rattle.std.specs.Prelude.{◌≡◌, ◌≢◌, ◌+◌, ◌*◌, ◌<◌, ◌∷◌}
+use Rattle.laws.specs.Kit.{sym, ◌∙◌, ap, subst, inl, inr, ℕ, List, [], length, get_or}
 use Rattle.rings.specs.Rings as rings
 use Rattle.definition.specs.Cells.{Tri, Quad, Cell, tri, quad, Live, Mesh, new_tri, nodes, tri_nodes, quad_nodes}
 use Rattle.definition.specs.Call.{tri_at}

@@ -1,5 +1,6 @@
 -- The mesh of the given triangles, and cleared slices.
-use Rattle.laws.specs.Kit.{◌≡◌, ℕ, ◌*◌, ◌<◌, ◌≤◌, List, [], length}
+use Rattle.std.specs.Prelude.{◌≡◌, ◌*◌, ◌<◌, ◌≤◌}
+use Rattle.laws.specs.Kit.{ℕ, List, [], length}
 use Rattle.definition.specs.Cells.{Mesh, tri}
 use Rattle.definition.specs.Call.{tri_at, first_tris}
 use Rattle.definition.specs.Front.{in_slots}

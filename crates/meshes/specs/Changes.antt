@@ -1,5 +1,6 @@
 -- What the writers ask and give.
-use Rattle.laws.specs.Kit.{◌≡◌, ℕ, ◌+◌, ◌*◌, ◌<◌, ◌≤◌, List, [], ◌∷◌, ◌++◌, length, get_or}
+use Rattle.std.specs.Prelude.{◌≡◌, ◌+◌, ◌*◌, ◌<◌, ◌≤◌, ◌∷◌, ◌++◌}
+use Rattle.laws.specs.Kit.{ℕ, List, [], length, get_or}
 use Rattle.rings.specs.Rings.{Out, Family}
 use Rattle.definition.specs.Plane.{Edge}
 use Rattle.definition.specs.Cells.{Quad, Cell, Mesh, tri, new_tri, quad, new_quad, new_live, with_live}

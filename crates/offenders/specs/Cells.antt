@@ -20,7 +20,7 @@ use Rattle.accept.specs.Call.{corners_at}
 use Rattle.accept.specs.Tests.{convex_decides, wide_decides}
 use Rattle.exact_tests.specs.Nodes.{at, given_at}
 use Rattle.offenders.specs.Search.{Finds}
-use Rattle.offenders.specs.declared.cells.Four.{Four}
+use Rattle.offenders.specs.declared.lent_cells.Four.{Four}
 
 -- ---- what is asked
 

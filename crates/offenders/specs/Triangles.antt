@@ -18,7 +18,7 @@ use Rattle.accept.specs.Tests.{blunt_decides}
 use Rattle.exact_tests.specs.Nodes.{at}
 use Rattle.offenders.specs.Search.{Finds, found_none}
 use Rattle.offenders.specs.Cells.{Tested, Names, StandsFor, Each, names}
-use Rattle.offenders.specs.declared.cells.Three.{Three}
+use Rattle.offenders.specs.declared.lent_cells.Three.{Three}
 
 -- ---- what is promised, whatever the number m of points that the nodes are below
 

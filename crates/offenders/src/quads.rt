@@ -5,7 +5,7 @@ ghost use Rattle.definition.specs.Account.{All};
 ghost use Rattle.exact.specs.Sides.{SameAs};
 ghost use Rattle.offenders.specs.Cells.{Tested, Limit, BelowOne, NearFour, corners_of, FirstFolded, FirstSharp};
 
-use crate::cells::{Four, four_of};
+use crate::lent_cells::{Four, four_of};
 use exact_tests::limits::cosine_up_to;
 use exact_tests::turns::turns_left;
 

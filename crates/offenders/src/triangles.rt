@@ -7,7 +7,7 @@ ghost use Rattle.exact.specs.Sides.{SameAs};
 ghost use Rattle.offenders.specs.Cells.{Tested, BelowOne};
 ghost use Rattle.offenders.specs.Triangles.{NearThree, corners_of, FirstThin};
 
-use crate::cells::{Three, three_of};
+use crate::lent_cells::{Three, three_of};
 use exact_tests::limits::cosine_up_to;
 
 // The limit that asks nothing.

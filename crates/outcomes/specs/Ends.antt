@@ -1,5 +1,6 @@
 -- What an attempt hands back is the definition's.
-use Rattle.laws.specs.Kit.{◌≡◌, ℕ, ◌≤◌, List, length, Float}
+use Rattle.std.specs.Prelude.{◌≡◌, ◌≤◌}
+use Rattle.laws.specs.Kit.{ℕ, List, length, Float}
 use Rattle.definition.specs.Counts.{Spent, Refusal, Placement, Shape, Recovery, Region, OddRegion, Want, of_points, of_slots, of_trace}
 use Rattle.definition.specs.Cells.{Quad, Mesh, new_quad, born}
 use Rattle.definition.specs.Attempt.{Attempt, placed, refused, ended}

@@ -1,5 +1,6 @@
 -- The entry of a quad: its numbers, and the slots that it replaces.
-use Rattle.laws.specs.Kit.{◌≡◌, refl, sym, ◌∙◌, ap, subst, inl, inr, not, ℕ, ◌+◌, ◌^◌, min, max, ◌<◌, ◌≤◌, arith, List, [], ◌∷◌, map, length, take, drop}
+use Rattle.std.specs.Prelude.{◌≡◌, ◌+◌, ◌^◌, ◌<◌, ◌≤◌, ◌∷◌}
+use Rattle.laws.specs.Kit.{refl, sym, ◌∙◌, ap, subst, inl, inr, not, ℕ, min, max, arith, List, [], map, length, take, drop}
 use Rattle.rings.proofs.Lists.{room}
 use Rattle.definition.specs.Lists.{filter}
 use Rattle.definition.specs.Plane.{Edge}

@@ -1,5 +1,6 @@
 -- Which edges are locked stays: through the recovery of a side, and through a pair.
-use Rattle.laws.specs.Kit.{◌≡◌, refl, sym, ◌∙◌, subst, Bool, ◌&&◌, Option, none, some, ℕ, ◌+◌, ltb, List, length}
+use Rattle.std.specs.Prelude.{◌≡◌, ◌&&◌, ◌+◌}
+use Rattle.laws.specs.Kit.{refl, sym, ◌∙◌, subst, Bool, Option, none, some, ℕ, ltb, List, length}
 use Rattle.definition.specs.Numbers.{Settings}
 use Rattle.definition.specs.Counts.{Refusal}
 use Rattle.definition.specs.Plane.{Edge}

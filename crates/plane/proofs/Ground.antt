@@ -1,5 +1,6 @@
 -- z is never read: what a node's spot gives is what the node gives.
-use Rattle.laws.specs.Kit.{◌≡◌, refl, Float}
+use Rattle.std.specs.Prelude.{◌≡◌}
+use Rattle.laws.specs.Kit.{refl, Float}
 use Rattle.definition.specs.Lists.{any}
 use Rattle.definition.specs.Plane.{Node, flat, cross, side, parts, shoelace, twice_area, from_to, dist}
 use Rattle.definition.specs.Metrics.{jacobian_at, min_scaled_jacobian, corner_of, corners, not_convex, angle_of, quad_metrics}

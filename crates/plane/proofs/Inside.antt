@@ -1,5 +1,6 @@
 -- The two inside tests, by the signs of cross products that were computed before.
-use Rattle.laws.specs.Kit.{◌≡◌, not, ◌&&◌, ◌||◌, [], ◌∷◌, Float}
+use Rattle.std.specs.Prelude.{◌≡◌, ◌&&◌, ◌||◌, ◌∷◌}
+use Rattle.laws.specs.Kit.{not, [], Float}
 use Rattle.definition.specs.Lists.{any}
 use Rattle.definition.specs.Plane.{Node, cross, positive, negative, point_strictly_inside, inside_quad}
 

@@ -1,5 +1,6 @@
 -- The least scaled Jacobian by four columns, of which two corners share each.
-use Rattle.laws.specs.Kit.{◌≡◌, false, Float, inf}
+use Rattle.std.specs.Prelude.{◌≡◌}
+use Rattle.laws.specs.Kit.{false, Float, inf}
 use Rattle.definition.specs.Floats.{lesser}
 use Rattle.definition.specs.Plane.{Node, Vec}
 use Rattle.definition.specs.Metrics.{corner, c0, c1, c2, c3, d0, d1, weights, scaled, jacobian_at, min_scaled_jacobian}

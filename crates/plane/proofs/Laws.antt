@@ -1,5 +1,6 @@
 -- Laws on floats and on tests that the proofs share.
-use Rattle.laws.specs.Kit.{◌≡◌, refl, true, false, ◌&&◌, Float, binary64, nan, fin, inf, of_bits, lt, neg, div}
+use Rattle.std.specs.Prelude.{◌≡◌, ◌&&◌}
+use Rattle.laws.specs.Kit.{refl, true, false, Float, binary64, nan, fin, inf, of_bits, lt, neg, div}
 use Rattle.definition.specs.Floats.{finite}
 
 -- between the infinities

@@ -1,5 +1,6 @@
 -- A quad's metrics, by what was computed before.
-use Rattle.laws.specs.Kit.{◌≡◌, Bool, true, not, ◌&&◌, ◌||◌, cond, [], ◌∷◌, map, Float, binary64, inf, mul, div}
+use Rattle.std.specs.Prelude.{◌≡◌, ◌&&◌, ◌||◌, ◌∷◌}
+use Rattle.laws.specs.Kit.{Bool, true, not, cond, [], map, Float, binary64, inf, mul, div}
 use Rattle.definition.specs.Floats.{◌⊗◌, ◌⊘◌, ◌≺◌, ◌≼◌, finite, greater, 0·0}
 use Rattle.definition.specs.Lists.{any}
 use Rattle.definition.specs.Numbers.{Quality}

@@ -1,6 +1,7 @@
 -- The square of a difference is that of the difference the other way round:
 -- the two differ in the sign alone, or are one zero.
-use Rattle.laws.specs.Kit.{◌≡◌, refl, sym, ◌∙◌, ap, Bool, true, false, not, ◌&&◌, cond, ℕ, zero, suc, ◌+◌, ◌-◌, ◌*◌, ◌<◌, arith, ltb, le-ltb, ltb-true, ltb-false, Float, nan, fin, inf, down, up, round, neg, add, sub, mul}
+use Rattle.std.specs.Prelude.{◌≡◌, ◌&&◌, ◌+◌, ◌-◌, ◌*◌, ◌<◌}
+use Rattle.laws.specs.Kit.{refl, sym, ◌∙◌, ap, Bool, true, false, not, cond, ℕ, zero, suc, arith, ltb, le-ltb, ltb-true, ltb-false, Float, nan, fin, inf, down, up, round, neg, add, sub, mul}
 use native.Mathlib.Nat.{mul_comm}
 use lib.Ieee.{Format, odd, units, sum}
 use Rattle.definition.specs.Floats.{◌⊖◌, ◌⊗◌}

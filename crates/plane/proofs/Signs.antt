@@ -1,5 +1,6 @@
 -- `abs` by the tests of a float with zero.
-use Rattle.laws.specs.Kit.{◌≡◌, refl, sym, ◌∙◌, ap, true, false, ◌||◌, true≢false, false≢true, ℕ, zero, suc, ◌+◌, ◌*◌, ◌^◌, ◌≤◌, arith, eqb, eq-eqb, eqb-true, ltb-true, ltb-false, ℤ, pos, negsuc, Float, binary64, nan, fin, inf, down, up, of_bits, fits, eq, lt, neg}
+use Rattle.std.specs.Prelude.{◌≡◌, ◌||◌, ◌+◌, ◌*◌, ◌^◌, ◌≤◌}
+use Rattle.laws.specs.Kit.{refl, sym, ◌∙◌, ap, true, false, true≢false, false≢true, ℕ, zero, suc, arith, eqb, eq-eqb, eqb-true, ltb-true, ltb-false, ℤ, pos, negsuc, Float, binary64, nan, fin, inf, down, up, of_bits, fits, eq, lt, neg}
 use mathlib.Core.Bool.{beq}
 use Rattle.definition.specs.Floats.{abs}
 use Rattle.laws.specs.Bools.{and_left, not_and}

@@ -1,6 +1,7 @@
 -- The metrics enum by its cases, the tests of area and corners, a quad's side lengths,
 -- and their products at its corners.
-use Rattle.laws.specs.Kit.{◌≡◌, Bool, ◌||◌}
+use Rattle.std.specs.Prelude.{◌≡◌, ◌||◌}
+use Rattle.laws.specs.Kit.{Bool}
 use Rattle.definition.specs.Floats.{◌≼◌}
 use Rattle.definition.specs.Lists.{any}
 use Rattle.definition.specs.Numbers.{tiny_cross}

@@ -1,5 +1,6 @@
 -- Nodes in the lent points: what stands for a node, and how a mesh's nodes are read from the slice.
-use Rattle.laws.specs.Kit.{◌≡◌, ap, not, ℕ, ◌+◌, ◌*◌, ◌<◌, List, length, Float}
+use Rattle.std.specs.Prelude.{◌≡◌, ◌+◌, ◌*◌, ◌<◌}
+use Rattle.laws.specs.Kit.{ap, not, ℕ, List, length, Float}
 use Rattle.definition.specs.Floats.{◌⊗◌, ◌≼◌, 0·0}
 use Rattle.definition.specs.Plane.{Node, flat, side, from_to, dist, edge_length}
 use Rattle.definition.specs.Cells.{Mesh, node_at}

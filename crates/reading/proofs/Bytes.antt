@@ -1,5 +1,6 @@
 -- The bytes from a position on, and fixed bytes read there.
-use Rattle.laws.specs.Kit.{◌≡◌, sym, none, ℕ, ◌+◌, ◌<◌, ◌≤◌, eq-eqb, ne_eqb, [], ◌∷◌, length, get_or, drop}
+use Rattle.std.specs.Prelude.{◌≡◌, ◌+◌, ◌<◌, ◌≤◌, ◌∷◌}
+use Rattle.laws.specs.Kit.{sym, none, ℕ, eq-eqb, ne_eqb, [], length, get_or, drop}
 use native.Mathlib.Numerals.{add-one}
 use lib.ListN.{drop_of_length-le}
 use lib.Seq.{drop-cons}

@@ -1,5 +1,6 @@
 -- Readings one after the other: what is known of each, and what follows of the whole.
-use Rattle.laws.specs.Kit.{◌≡◌, sym, ◌∙◌, ap, none, ℕ, [], ◌∷◌, drop}
+use Rattle.std.specs.Prelude.{◌≡◌, ◌∷◌}
+use Rattle.laws.specs.Kit.{sym, ◌∙◌, ap, none, ℕ, [], drop}
 use Rattle.definition.specs.Text.{Bytes, Reader, take_on, exactly, give, ◌>>=◌, ◌>>◌}
 use Rattle.reading.specs.Found.{taken, and_then}
 

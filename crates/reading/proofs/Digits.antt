@@ -1,5 +1,6 @@
 -- Digits read at a position: a run of decimal ones, and sixteen hexadecimal ones one after the other.
-use Rattle.laws.specs.Kit.{◌≡◌, refl, Bool, true, false, not, ◌&&◌, Option, none, some, ℕ, ◌+◌, ◌-◌, ◌*◌, ◌<◌, ◌≤◌, arith, leb, eq-eqb, ne_eqb, lt-leb, le-leb, [], ◌∷◌, foldl, length, get_or, drop}
+use Rattle.std.specs.Prelude.{◌≡◌, ◌&&◌, ◌+◌, ◌-◌, ◌*◌, ◌<◌, ◌≤◌, ◌∷◌}
+use Rattle.laws.specs.Kit.{refl, Bool, true, false, not, Option, none, some, ℕ, arith, leb, eq-eqb, ne_eqb, lt-leb, le-leb, [], foldl, length, get_or, drop}
 use native.Mathlib.Nat.{le_trans}
 use borrow.Author.Tests.{leb-true}
 use Rattle.definition.specs.Lists.{empty}

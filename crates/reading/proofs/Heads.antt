@@ -1,6 +1,7 @@
 -- The line of the input's numbers: four values, each with the byte after it.
 -- The counts' limit, which the definition tests after the line, is tested with each.
-use Rattle.laws.specs.Kit.{◌≡◌, refl, sym, ◌∙◌, subst, Bool, true, false, ◌&&◌, cond, Option, none, some, ℕ, ◌<◌, ◌≤◌, leb, lt-leb, le-leb, leb-false, [], ◌∷◌, drop}
+use Rattle.std.specs.Prelude.{◌≡◌, ◌&&◌, ◌<◌, ◌≤◌, ◌∷◌}
+use Rattle.laws.specs.Kit.{refl, sym, ◌∙◌, subst, Bool, true, false, cond, Option, none, some, ℕ, leb, lt-leb, le-leb, leb-false, [], drop}
 use borrow.Author.Tests.{leb-true}
 use Rattle.definition.specs.Text.{Bytes, Taken, Reader, take_on, ◌>>=◌, ◌>>◌, give, ensure, exactly, bytes, lit, dec, hex, one_digit, most_listed}
 use Rattle.reading.specs.Found.{taken, limited, up_to, and_then}

@@ -1,5 +1,6 @@
 -- Sixteen hexadecimal digits, one after the other.
-use Rattle.laws.specs.Kit.{◌≡◌, refl, ◌∙◌, ap, Bool, true, false, ◌&&◌, cond, Option, none, some, ℕ, zero, suc, ◌+◌, ◌-◌, ◌*◌, ◌^◌, ◌<◌, ◌≤◌, arith, eqb, leb, lt-leb, le-leb, pow-add, pow_mono, [], ◌∷◌, foldl, length, get_or, take, drop}
+use Rattle.std.specs.Prelude.{◌≡◌, ◌&&◌, ◌+◌, ◌-◌, ◌*◌, ◌^◌, ◌<◌, ◌≤◌, ◌∷◌}
+use Rattle.laws.specs.Kit.{refl, ◌∙◌, ap, Bool, true, false, cond, Option, none, some, ℕ, zero, suc, arith, eqb, leb, lt-leb, le-leb, pow-add, pow_mono, [], foldl, length, get_or, take, drop}
 use native.Mathlib.Nat.{le_trans}
 use borrow.Author.Tests.{leb-true}
 use lib.Dec.{eqb-suc-suc, eqb-zero-suc}

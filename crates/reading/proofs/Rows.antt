@@ -1,5 +1,6 @@
 -- Rows of a list, and a list of rows read one after the other.
-use Rattle.laws.specs.Kit.{◌≡◌, refl, sym, ◌∙◌, ap, Option, none, some, ℕ, zero, suc, ◌+◌, ◌-◌, ◌*◌, ◌<◌, ◌≤◌, arith, List, [], ◌∷◌, ◌++◌, append-nil, append_assoc, length, set, take, drop}
+use Rattle.std.specs.Prelude.{◌≡◌, ◌+◌, ◌-◌, ◌*◌, ◌<◌, ◌≤◌, ◌∷◌, ◌++◌}
+use Rattle.laws.specs.Kit.{refl, sym, ◌∙◌, ap, Option, none, some, ℕ, zero, suc, arith, List, [], append-nil, append_assoc, length, set, take, drop}
 use native.Mathlib.Nat.{zero-add, add-zero, suc-add, mul-suc, mul-zero, sub-zero}
 use native.Mathlib.Numerals.{add-one, add-two}
 use lib.ListN.{length-drop, take-append-drop}

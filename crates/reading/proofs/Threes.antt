@@ -1,5 +1,6 @@
 -- A line of three values: each with the byte after it.
-use Rattle.laws.specs.Kit.{◌≡◌, refl, sym, Bool, true, false, cond, Option, none, some, ℕ, leb, List, [], ◌∷◌, drop}
+use Rattle.std.specs.Prelude.{◌≡◌, ◌∷◌}
+use Rattle.laws.specs.Kit.{refl, sym, Bool, true, false, cond, Option, none, some, ℕ, leb, List, [], drop}
 use mathlib.Core.Path.{fun_ext}
 use Rattle.definition.specs.Text.{Bytes, Taken, Reader, take_on, exactly, bytes, lit, give, ensure, ◌>>=◌, ◌>>◌, dec, node, most_node, three}
 use Rattle.reading.specs.Found.{taken, limited, up_to, and_then}

@@ -1,5 +1,6 @@
 -- The whole input: the line of its numbers, its two lists, and its end.
-use Rattle.laws.specs.Kit.{◌≡◌, refl, sym, ◌∙◌, ap, Option, none, some, ℕ, ◌<◌, ◌≤◌, lt-leb, le-leb, List, length, drop}
+use Rattle.std.specs.Prelude.{◌≡◌, ◌<◌, ◌≤◌}
+use Rattle.laws.specs.Kit.{refl, sym, ◌∙◌, ap, Option, none, some, ℕ, lt-leb, le-leb, List, length, drop}
 use Rattle.definition.specs.Lists.{empty}
 use Rattle.definition.specs.Text.{Bytes, Taken, Reader, take_on, ◌>>=◌, ◌>>◌, give, lit, exactly, hex, node, three, times, most_bytes, Input, input}
 use Rattle.reading.specs.Found.{taken, triangle_list, point_list}

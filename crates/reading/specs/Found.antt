@@ -1,6 +1,7 @@
 -- What the readers' answers stand for: the definition's readings,
 -- with the bytes from the next position on as what is left.
-use Rattle.laws.specs.Kit.{◌≡◌, cond, Option, none, some, ℕ, ◌*◌, leb, List, [], ◌∷◌, drop}
+use Rattle.std.specs.Prelude.{◌≡◌, ◌*◌, ◌∷◌}
+use Rattle.laws.specs.Kit.{cond, Option, none, some, ℕ, leb, List, [], drop}
 use Rattle.definition.specs.Lists.{rows}
 use Rattle.definition.specs.Text.{Bytes, Taken, Reader, exactly, lit, dec, hex, node, three, times, give, ◌>>=◌, ◌>>◌}
 use Rattle.reading.specs.declared.found.Step.{Step}

@@ -1,5 +1,6 @@
 -- The whole input, and the definition's reply in its terms.
-use Rattle.laws.specs.Kit.{◌≡◌, refl, sym, ◌∙◌, ap, Bool, true, false, ◌&&◌, cond, Option, none, some, ℕ, zero, suc, ◌*◌, ◌≤◌, leb, List, ◌++◌, length, take, drop}
+use Rattle.std.specs.Prelude.{◌≡◌, ◌&&◌, ◌*◌, ◌≤◌, ◌++◌}
+use Rattle.laws.specs.Kit.{refl, sym, ◌∙◌, ap, Bool, true, false, cond, Option, none, some, ℕ, zero, suc, leb, List, length, take, drop}
 use Rattle.std.proofs.Common.{mul-zero, mul-suc, add_comm, take-add}
 use Rattle.definition.specs.Lists.{empty, rows, concat, flat_map}
 use Rattle.definition.specs.Call.{call}

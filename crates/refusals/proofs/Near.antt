@@ -1,5 +1,6 @@
 -- The magnitude by two comparisons, and a point as the code reads it.
-use Rattle.laws.specs.Kit.{◌≡◌, refl, true, false, ◌&&◌, ◌||◌, ℕ, ◌+◌, ◌*◌, ◌<◌, arith, ℕ_discrete, eqb, ltb, eq-eqb, lt-ltb, le-ltb, ℤ, List, length, get_or, Float, binary64, nan, fin, inf, down, up, of_bits, eq, lt, le, neg}
+use Rattle.std.specs.Prelude.{◌≡◌, ◌&&◌, ◌||◌, ◌+◌, ◌*◌, ◌<◌}
+use Rattle.laws.specs.Kit.{refl, true, false, ℕ, arith, ℕ_discrete, eqb, ltb, eq-eqb, lt-ltb, le-ltb, ℤ, List, length, get_or, Float, binary64, nan, fin, inf, down, up, of_bits, eq, lt, le, neg}
 use mathlib.Core.Bool.{and-true}
 use Rattle.definition.specs.Floats.{abs, 0·0}
 use Rattle.definition.specs.Call.{point_at}

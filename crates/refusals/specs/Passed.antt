@@ -1,6 +1,7 @@
 -- What each of the conditions before a run says where it does not hold, in terms of the slices.
 -- The laws named `pass` lead back to the condition.
-use Rattle.laws.specs.Kit.{◌≡◌, refl, sym, ◌∙◌, ◌≢◌, inl, inr, Bool, true, false, not, ◌&&◌, ◌||◌, ℕ, ◌+◌, ◌*◌, ◌<◌, ◌≤◌, arith, ℕ_discrete, eqb, ltb, leb, eq-eqb, ne_eqb, eqb-true, eqb-false, le-ltb, ltb-false, lt-leb, leb-false, not-false, List, [], ◌∷◌, length, get_or, Float}
+use Rattle.std.specs.Prelude.{◌≡◌, ◌≢◌, ◌&&◌, ◌||◌, ◌+◌, ◌*◌, ◌<◌, ◌≤◌, ◌∷◌}
+use Rattle.laws.specs.Kit.{refl, sym, ◌∙◌, inl, inr, Bool, true, false, not, ℕ, arith, ℕ_discrete, eqb, ltb, leb, eq-eqb, ne_eqb, eqb-true, eqb-false, le-ltb, ltb-false, lt-leb, leb-false, not-false, List, [], length, get_or, Float}
 use borrow.Author.Tests.{leb-true}
 use Rattle.definition.specs.Floats.{◌≼◌, abs, 0·0, 0·1, 0·5, 0·99, 1·0, 4·0}
 use Rattle.definition.specs.Lists.{any, all}

@@ -1,5 +1,6 @@
 -- The number of the first refusal, and what the call is by it.
-use Rattle.laws.specs.Kit.{◌≡◌, refl, sym, ◌∙◌, ◌≢◌, Bool, true, false, cond, Option, none, some, ℕ, ◌<◌, arith, List, [], ◌∷◌, length, Float}
+use Rattle.std.specs.Prelude.{◌≡◌, ◌≢◌, ◌<◌, ◌∷◌}
+use Rattle.laws.specs.Kit.{refl, sym, ◌∙◌, Bool, true, false, cond, Option, none, some, ℕ, arith, List, [], length, Float}
 use Rattle.definition.specs.Lists.{find}
 use Rattle.definition.specs.Front.{run_front}
 use Rattle.definition.specs.Call.{Asked, Lent, over_limit, bad_size, bad_stop, bad_quality, too_short, unknown_node, repeated_node, far_point, bad_grid, bad_joints, conditions, given_points, given_tris, given_joints, given_locks, settings_within, untouched, after_run, call_within}

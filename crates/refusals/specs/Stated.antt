@@ -1,5 +1,6 @@
 -- The code's arguments in the definition's words.
-use Rattle.laws.specs.Kit.{◌≡◌, refl, Bool, ℕ, List, [], length, replicate, Float}
+use Rattle.std.specs.Prelude.{◌≡◌}
+use Rattle.laws.specs.Kit.{refl, Bool, ℕ, List, [], length, replicate, Float}
 use Rattle.std.proofs.lemmas.List.{length-replicate}
 use Rattle.definition.specs.Floats.{0·0}
 use Rattle.definition.specs.Plane.{Node}

@@ -1,5 +1,6 @@
 -- Laws on lengths, and on three entries at a time.
-use Rattle.laws.specs.Kit.{◌≡◌, sym, subst, ℕ, ◌+◌, ◌*◌, ◌/◌, ◌<◌, ◌≤◌, arith, ℕ_discrete}
+use Rattle.std.specs.Prelude.{◌≡◌, ◌+◌, ◌*◌, ◌/◌, ◌<◌, ◌≤◌}
+use Rattle.laws.specs.Kit.{sym, subst, ℕ, arith, ℕ_discrete}
 
 -- a length that is measured as b: too small, and large enough
 pub too_small : {a b c : ℕ} → a ≤ c → c ≡ b → b < a → ⊥

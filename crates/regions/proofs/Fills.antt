@@ -1,5 +1,6 @@
 -- The tests of a region: each node inside the quad, and the areas summed, cell after cell of the list.
-use Rattle.laws.specs.Kit.{◌≡◌, refl, sym, ◌∙◌, ap, subst, ◌≢◌, Bool, true, false, not, ◌&&◌, cond, Option, none, some, ℕ, zero, suc, ◌+◌, ◌<◌, ◌≤◌, arith, List, [], ◌∷◌, ◌++◌, foldl, length, get_or, drop, Float, binary64, of_bits, lt, sub, mul}
+use Rattle.std.specs.Prelude.{◌≡◌, ◌≢◌, ◌&&◌, ◌+◌, ◌<◌, ◌≤◌, ◌∷◌, ◌++◌}
+use Rattle.laws.specs.Kit.{refl, sym, ◌∙◌, ap, subst, Bool, true, false, not, cond, Option, none, some, ℕ, zero, suc, arith, List, [], foldl, length, get_or, drop, Float, binary64, of_bits, lt, sub, mul}
 use mathlib.Core.Bool.{and-true}
 use Rattle.definition.specs.Floats.{◌⊕◌, ◌⊖◌, ◌⊗◌, ◌⊘◌, ◌≺◌, abs, greater, f64, 1·0, 2·0, 1e-9}
 use Rattle.definition.specs.Lists.{all}

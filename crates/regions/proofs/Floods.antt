@@ -1,6 +1,7 @@
 -- The flood, triangle after triangle: done are those crossed, as many as `head`;
 -- the fuel is never at its end while one is left.
-use Rattle.laws.specs.Kit.{◌≡◌, refl, sym, ◌∙◌, ap, subst, ◌≢◌, true, false≢true, Option, none, some, ℕ, zero, suc, ◌+◌, ◌<◌, ◌≤◌, arith, List, [], ◌∷◌, ◌++◌, append-nil, append_assoc, length, get_or, length-append}
+use Rattle.std.specs.Prelude.{◌≡◌, ◌≢◌, ◌+◌, ◌<◌, ◌≤◌, ◌∷◌, ◌++◌}
+use Rattle.laws.specs.Kit.{refl, sym, ◌∙◌, ap, subst, true, false≢true, Option, none, some, ℕ, zero, suc, arith, List, [], append-nil, append_assoc, length, get_or, length-append}
 use Rattle.definition.specs.Plane.{Edge}
 use Rattle.definition.specs.Cells.{Cell, tri, quad, Live, Mesh, live_tri, is_tri, new_live}
 use Rattle.definition.specs.Region.{reach_all, across, flood}

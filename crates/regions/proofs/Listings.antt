@@ -1,5 +1,6 @@
 -- The list and the marks: what one cell more changes, and how many cells there can be.
-use Rattle.laws.specs.Kit.{◌≡◌, refl, sym, ◌∙◌, Bool, true, false, ◌||◌, false≢true, ℕ, ◌<◌, ◌≤◌, arith, eqb, eq-eqb, ne_eqb, List, [], ◌∷◌, ◌++◌}
+use Rattle.std.specs.Prelude.{◌≡◌, ◌||◌, ◌<◌, ◌≤◌, ◌∷◌, ◌++◌}
+use Rattle.laws.specs.Kit.{refl, sym, ◌∙◌, Bool, true, false, false≢true, ℕ, arith, eqb, eq-eqb, ne_eqb, List, []}
 use mathlib.Core.Bool.{or-false}
 use Rattle.rings.specs.Rings.{Out, Below}
 use Rattle.rings.proofs.Lists.{Same, same, differ, decide, room}

@@ -1,5 +1,6 @@
 -- The locked edges of a region: edge after edge of a triangle, cell after cell of the list.
-use Rattle.laws.specs.Kit.{◌≡◌, refl, sym, ◌∙◌, Bool, true, false, not, ◌&&◌, ℕ}
+use Rattle.std.specs.Prelude.{◌≡◌, ◌&&◌}
+use Rattle.laws.specs.Kit.{refl, sym, ◌∙◌, Bool, true, false, not, ℕ}
 use mathlib.Core.Bool.{or-false, and-true}
 use Rattle.definition.specs.Lists.{all}
 use Rattle.definition.specs.Plane.{Edge}

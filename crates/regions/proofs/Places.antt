@@ -1,5 +1,6 @@
 -- The listed cells removed one after the other: what `remove_cells` removes at once.
-use Rattle.laws.specs.Kit.{◌≡◌, sym, ◌∙◌, ap, subst, ℕ, ◌+◌, ◌<◌, ◌≤◌, arith, List, [], ◌∷◌, map, get_or, drop}
+use Rattle.std.specs.Prelude.{◌≡◌, ◌+◌, ◌<◌, ◌≤◌, ◌∷◌}
+use Rattle.laws.specs.Kit.{sym, ◌∙◌, ap, subst, ℕ, arith, List, [], map, get_or, drop}
 use Rattle.definition.specs.Plane.{Edge}
 use Rattle.definition.specs.Cells.{quad, Live, was_placed, Mesh, with_live, remove_cell, remove_cells, push_cell, new_live}
 use Rattle.definition.specs.Attempt.{replaced}

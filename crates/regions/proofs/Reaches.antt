@@ -1,5 +1,6 @@
 -- One cell reached.
-use Rattle.laws.specs.Kit.{◌≡◌, refl, sym, ◌∙◌, ap, subst, ◌≢◌, Bool, true, false, ◌||◌, cond, ℕ, ◌+◌, ◌*◌, ◌<◌, ◌≤◌, arith, eqb, eq-eqb, ne_eqb, List, [], ◌∷◌, ◌++◌, append_assoc, length, get_or, set, length-set, length-append}
+use Rattle.std.specs.Prelude.{◌≡◌, ◌≢◌, ◌||◌, ◌+◌, ◌*◌, ◌<◌, ◌≤◌, ◌∷◌, ◌++◌}
+use Rattle.laws.specs.Kit.{refl, sym, ◌∙◌, ap, subst, Bool, true, false, cond, ℕ, arith, eqb, eq-eqb, ne_eqb, List, [], append_assoc, length, get_or, set, length-set, length-append}
 use mathlib.Core.Bool.{or-false, or-true}
 use Rattle.rings.proofs.Lists.{Same, same, differ, decide, distinct_snoc, below_append, room}
 use Rattle.definition.specs.Lists.{any}

@@ -1,5 +1,6 @@
 -- The sides of a quad.
-use Rattle.laws.specs.Kit.{◌≡◌, sym, ◌∙◌, Bool, true, false, ◌&&◌, ◌||◌, ℕ, eqb, eq-eqb, ne_eqb}
+use Rattle.std.specs.Prelude.{◌≡◌, ◌&&◌, ◌||◌}
+use Rattle.laws.specs.Kit.{sym, ◌∙◌, Bool, true, false, ℕ, eqb, eq-eqb, ne_eqb}
 use Rattle.definition.specs.Cells.{key, new_quad, quad_edges, has_edge_in, has_side}
 use Rattle.cells.proofs.Edges.{joins, quad_side}
 

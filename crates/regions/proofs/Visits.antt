@@ -1,5 +1,6 @@
 -- The owners of an edge reached one after the other, and the edges of a triangle.
-use Rattle.laws.specs.Kit.{◌≡◌, refl, sym, ◌∙◌, ap, subst, ◌≢◌, Bool, true, false, not, cond, Option, none, some, ℕ, ◌*◌, ◌/◌, ◌<◌, ◌≤◌, arith, List, [], ◌∷◌, ◌++◌, append-nil, length}
+use Rattle.std.specs.Prelude.{◌≡◌, ◌≢◌, ◌*◌, ◌/◌, ◌<◌, ◌≤◌, ◌∷◌, ◌++◌}
+use Rattle.laws.specs.Kit.{refl, sym, ◌∙◌, ap, subst, Bool, true, false, not, cond, Option, none, some, ℕ, arith, List, [], append-nil, length}
 use Rattle.definition.specs.Lists.{filter, flat_map}
 use Rattle.definition.specs.Plane.{Edge}
 use Rattle.definition.specs.Cells.{Tri, tri, Live, Mesh, key, owners, edges, tri_edges, nodes, tri_nodes, has_edge_in, new_live}

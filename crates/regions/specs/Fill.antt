@@ -1,5 +1,6 @@
 -- What the tests of a region read, and what its replacement gives.
-use Rattle.laws.specs.Kit.{ℕ, List, [], ◌∷◌, length, Float}
+use Rattle.std.specs.Prelude.{◌∷◌}
+use Rattle.laws.specs.Kit.{ℕ, List, [], length, Float}
 use Rattle.rings.specs.Rings.{Below}
 use Rattle.definition.specs.Plane.{Edge}
 use Rattle.definition.specs.Cells.{Live, Mesh}

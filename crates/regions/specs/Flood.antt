@@ -1,5 +1,6 @@
 -- The flood of a region, edge after edge.
-use Rattle.laws.specs.Kit.{◌≡◌, Bool, true, false, ℕ, List, [], ◌∷◌}
+use Rattle.std.specs.Prelude.{◌≡◌, ◌∷◌}
+use Rattle.laws.specs.Kit.{Bool, true, false, ℕ, List, []}
 use Rattle.definition.specs.Plane.{Edge}
 use Rattle.definition.specs.Cells.{Tri, tri, Live, Mesh, owners, new_live, has_edge_in}
 use Rattle.cells.specs.Rep.{Rep, TriIn}

@@ -1,5 +1,6 @@
 -- The list of the cells reached and a mark for each slot, beyond the mesh.
-use Rattle.laws.specs.Kit.{◌≡◌, true, cond, Option, none, some, ℕ, ◌+◌, ◌*◌, ◌^◌, ◌<◌, ◌≤◌, List, [], ◌∷◌, ◌++◌, length, get_or}
+use Rattle.std.specs.Prelude.{◌≡◌, ◌+◌, ◌*◌, ◌^◌, ◌<◌, ◌≤◌, ◌∷◌, ◌++◌}
+use Rattle.laws.specs.Kit.{true, cond, Option, none, some, ℕ, List, [], length, get_or}
 use Rattle.rings.specs.Rings.{Distinct}
 use Rattle.definition.specs.Lists.{any}
 use Rattle.definition.specs.Cells.{Live, Mesh, live_tri, in_slot}

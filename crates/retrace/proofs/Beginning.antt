@@ -1,6 +1,7 @@
 -- A replay that is not refused before its entries has all that building its mesh asks,
 -- and the mesh is the definition's first.
-use Rattle.laws.specs.Kit.{◌≡◌, refl, sym, ◌∙◌, ap, subst, false, ℕ, suc, ◌+◌, ◌*◌, ◌≤◌, arith, List, [], ◌∷◌, length, get_or, replicate}
+use Rattle.std.specs.Prelude.{◌≡◌, ◌+◌, ◌*◌, ◌≤◌, ◌∷◌}
+use Rattle.laws.specs.Kit.{refl, sym, ◌∙◌, ap, subst, false, ℕ, suc, arith, List, [], length, get_or, replicate}
 use lib.ListN.{length-replicate}
 use Rattle.rings.specs.Rings.{Distinct, Below}
 use Rattle.definition.specs.Lists.{filter, any, flat_map, table, numbers, below}

@@ -1,5 +1,6 @@
 -- How a replay ends, by what became of its trace.
-use Rattle.laws.specs.Kit.{◌≡◌, refl, sym, ap, ◌≢◌, ℕ, arith, List, length, take, Float}
+use Rattle.std.specs.Prelude.{◌≡◌, ◌≢◌}
+use Rattle.laws.specs.Kit.{refl, sym, ap, ℕ, arith, List, length, take, Float}
 use Rattle.definition.specs.Floats.{0·0}
 use Rattle.definition.specs.Cells.{Mesh}
 use Rattle.definition.specs.Call.{Lent, all_of, settings_within, settings}

@@ -1,5 +1,6 @@
 -- A quad's entry: what is read, what goes and what comes.
-use Rattle.laws.specs.Kit.{◌≡◌, refl, sym, ◌∙◌, ap, ap₂, subst, inl, inr, Bool, true, false, not, ◌&&◌, ◌||◌, cond, Option, none, some, ℕ, ◌+◌, ◌-◌, ◌*◌, ◌<◌, ◌≤◌, arith, eqb, ltb, eqb-true, lt-ltb, le-ltb, ltb-true, List, [], ◌∷◌, ◌++◌, map, append-nil, length, get_or, take, drop, length-append, Float}
+use Rattle.std.specs.Prelude.{◌≡◌, ◌&&◌, ◌||◌, ◌+◌, ◌-◌, ◌*◌, ◌<◌, ◌≤◌, ◌∷◌, ◌++◌}
+use Rattle.laws.specs.Kit.{refl, sym, ◌∙◌, ap, ap₂, subst, inl, inr, Bool, true, false, not, cond, Option, none, some, ℕ, arith, eqb, ltb, eqb-true, lt-ltb, le-ltb, ltb-true, List, [], map, append-nil, length, get_or, take, drop, length-append, Float}
 use lib.ListN.{length-drop}
 use lib.Seq.{drop-drop, get_or-drop}
 use borrow.Rule.Slice.PartMut.{mid_of, put_mid}

@@ -1,5 +1,6 @@
 -- A flip done again.
-use Rattle.laws.specs.Kit.{◌≡◌, refl, sym, ◌∙◌, ap, subst, ◌≢◌, inl, inr, Bool, true, false, not, ◌&&◌, ◌||◌, cond, Option, none, some, ℕ, ◌+◌, ◌*◌, ◌<◌, ◌≤◌, arith, eqb, ltb, eq-eqb, ne_eqb, lt-ltb, le-ltb, List, append-nil, length, get_or, drop, Float}
+use Rattle.std.specs.Prelude.{◌≡◌, ◌≢◌, ◌&&◌, ◌||◌, ◌+◌, ◌*◌, ◌<◌, ◌≤◌}
+use Rattle.laws.specs.Kit.{refl, sym, ◌∙◌, ap, subst, inl, inr, Bool, true, false, not, cond, Option, none, some, ℕ, arith, eqb, ltb, eq-eqb, ne_eqb, lt-ltb, le-ltb, List, append-nil, length, get_or, drop, Float}
 use Rattle.definition.specs.Lists.{any, flat_map}
 use Rattle.definition.specs.Plane.{Edge}
 use Rattle.definition.specs.Call.{quad_at, first_quads, onto, quad_words}

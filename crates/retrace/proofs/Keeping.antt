@@ -1,5 +1,6 @@
 -- What is done to a mesh is done to what is stored of it.
-use Rattle.laws.specs.Kit.{◌≡◌, refl, sym, ◌∙◌, ap, inl, inr, Bool, true, false, not, ◌&&◌, ◌||◌, Option, none, some, ℕ, suc, arith, List, [], ◌∷◌, ◌++◌, map, append-nil, length}
+use Rattle.std.specs.Prelude.{◌≡◌, ◌&&◌, ◌||◌, ◌∷◌, ◌++◌}
+use Rattle.laws.specs.Kit.{refl, sym, ◌∙◌, ap, inl, inr, Bool, true, false, not, Option, none, some, ℕ, suc, arith, List, [], map, append-nil, length}
 use Rattle.definition.specs.Lists.{filter, any}
 use Rattle.definition.specs.Plane.{Node, Edge}
 use Rattle.definition.specs.Cells.{Tri, Quad, Cell, tri, quad, Live, Event, was_split, was_flipped, was_placed, Mesh, new_tri, new_live, node_at, is_tri, live_tri, owns, owners, is_locked, in_slot, with_live, noting, without, among, without_all, remove_cells, set_cell, push_cell}

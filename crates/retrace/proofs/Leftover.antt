@@ -1,5 +1,6 @@
 -- The triangles of what is stored are those of the mesh: a cell that is not stored is a quad.
-use Rattle.laws.specs.Kit.{◌≡◌, refl, sym, ◌∙◌, ap, Bool, true, false, cond, ℕ, arith, ltb, le-ltb, ltb-true, ltb-false, List, [], ◌∷◌, ◌++◌}
+use Rattle.std.specs.Prelude.{◌≡◌, ◌∷◌, ◌++◌}
+use Rattle.laws.specs.Kit.{refl, sym, ◌∙◌, ap, Bool, true, false, cond, ℕ, arith, ltb, le-ltb, ltb-true, ltb-false, List, []}
 use Rattle.definition.specs.Lists.{filter, insert, sort, flat_map}
 use Rattle.definition.specs.Cells.{Tri, Cell, tri, quad, Live, Mesh, tri_of, tris_of, in_slot_order, triangles, with_live}
 use Rattle.definition.specs.Account.{All}

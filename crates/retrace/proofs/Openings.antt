@@ -1,6 +1,7 @@
 -- The tests that open a replay are those of a call with no joints, size, stop rule,
 -- quality set or profile, and one more.
-use Rattle.laws.specs.Kit.{◌≡◌, refl, sym, ◌∙◌, ◌≢◌, Bool, true, false, cond, none, ℕ, ◌<◌, ◌≤◌, arith, ltb, lt-ltb, le-ltb, ltb-false, length, take, of_bits, eq, le}
+use Rattle.std.specs.Prelude.{◌≡◌, ◌≢◌, ◌<◌, ◌≤◌}
+use Rattle.laws.specs.Kit.{refl, sym, ◌∙◌, Bool, true, false, cond, none, ℕ, arith, ltb, lt-ltb, le-ltb, ltb-false, length, take, of_bits, eq, le}
 use Rattle.definition.specs.Lists.{any, find, table, numbers, below}
 use Rattle.definition.specs.Floats.{◌≼◌, f64, 0·0, 0·1, 0·3, 0·5, 0·90630778703665, 0·99, 1·0, 2·2, 4·0}
 use Rattle.definition.specs.Numbers.{base}

@@ -1,5 +1,6 @@
 -- A quad placed again: its nodes, its slots, its words.
-use Rattle.laws.specs.Kit.{◌≡◌, refl, sym, ◌∙◌, ap, subst, ◌≢◌, Bool, true, false, not, ◌&&◌, ◌||◌, Option, none, some, ℕ, suc, ◌+◌, ◌-◌, ◌<◌, ◌≤◌, arith, eqb, ltb, eq-eqb, ne_eqb, lt-ltb, le-ltb, List, [], ◌∷◌, length, get_or, take, drop}
+use Rattle.std.specs.Prelude.{◌≡◌, ◌≢◌, ◌&&◌, ◌||◌, ◌+◌, ◌-◌, ◌<◌, ◌≤◌, ◌∷◌}
+use Rattle.laws.specs.Kit.{refl, sym, ◌∙◌, ap, subst, Bool, true, false, not, Option, none, some, ℕ, suc, arith, eqb, ltb, eq-eqb, ne_eqb, lt-ltb, le-ltb, List, [], length, get_or, take, drop}
 use lib.Seq.{drop-cons}
 use Rattle.rings.specs.Rings.{Distinct}
 use Rattle.definition.specs.Lists.{any, all, flat_map}

@@ -1,5 +1,6 @@
 -- An entry as the definition reads it.
-use Rattle.laws.specs.Kit.{◌≡◌, refl, sym, ◌∙◌, ap, subst, ◌≢◌, Option, none, some, ℕ, zero, suc, ◌+◌, ◌-◌, ◌<◌, ◌≤◌, arith, eq-eqb, ne_eqb, lt-leb, le-leb, List, [], ◌∷◌, length, get_or, take, drop, Float}
+use Rattle.std.specs.Prelude.{◌≡◌, ◌≢◌, ◌+◌, ◌-◌, ◌<◌, ◌≤◌, ◌∷◌}
+use Rattle.laws.specs.Kit.{refl, sym, ◌∙◌, ap, subst, Option, none, some, ℕ, zero, suc, arith, eq-eqb, ne_eqb, lt-leb, le-leb, List, [], length, get_or, take, drop, Float}
 use lib.ListN.{length-drop, drop_of_length-le}
 use lib.Seq.{drop-drop, get_or-drop, drop-cons}
 use Rattle.definition.specs.Numbers.{Settings}

@@ -1,5 +1,6 @@
 -- What stands in the slices at the end of a replay is what the definition's replay returns.
-use Rattle.laws.specs.Kit.{◌≡◌, refl, sym, ◌∙◌, ap, ◌≢◌, ℕ, arith, List, [], length, take, Float}
+use Rattle.std.specs.Prelude.{◌≡◌, ◌≢◌}
+use Rattle.laws.specs.Kit.{refl, sym, ◌∙◌, ap, ℕ, arith, List, [], length, take, Float}
 use Rattle.definition.specs.Lists.{flat_map}
 use Rattle.definition.specs.Floats.{0·0}
 use Rattle.definition.specs.Cells.{Tri, Mesh, tri_nodes, triangles}

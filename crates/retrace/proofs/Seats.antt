@@ -1,5 +1,6 @@
 -- The slots and the quads of the live cells, as cells come and go.
-use Rattle.laws.specs.Kit.{◌≡◌, refl, sym, ◌∙◌, ap, subst, inl, inr, Bool, true, false, some, ℕ, suc, ◌<◌, arith, eqb, eqb-true, not-false, List, [], ◌∷◌, ◌++◌, append-nil}
+use Rattle.std.specs.Prelude.{◌≡◌, ◌<◌, ◌∷◌, ◌++◌}
+use Rattle.laws.specs.Kit.{refl, sym, ◌∙◌, ap, subst, inl, inr, Bool, true, false, some, ℕ, suc, arith, eqb, eqb-true, not-false, List, [], append-nil}
 use Rattle.rings.specs.Rings.{Out, Distinct, Below, without as without_number}
 use Rattle.rings.proofs.Lists.{below_append, distinct_snoc, below_without, distinct_without, out_self}
 use Rattle.definition.specs.Lists.{filter, flat_map}

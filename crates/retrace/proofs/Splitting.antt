@@ -1,5 +1,6 @@
 -- A split done again.
-use Rattle.laws.specs.Kit.{◌≡◌, refl, sym, ◌∙◌, ap, subst, inl, inr, Bool, true, false, not, cond, Option, none, some, ℕ, ◌+◌, ◌*◌, ◌<◌, ◌≤◌, arith, eqb, eqb-true, lt-ltb, le-ltb, lt-leb, le-leb, List, [], ◌∷◌, append-nil, length, set, drop, length-set, length-append, Float}
+use Rattle.std.specs.Prelude.{◌≡◌, ◌+◌, ◌*◌, ◌<◌, ◌≤◌, ◌∷◌}
+use Rattle.laws.specs.Kit.{refl, sym, ◌∙◌, ap, subst, inl, inr, Bool, true, false, not, cond, Option, none, some, ℕ, arith, eqb, eqb-true, lt-ltb, le-ltb, lt-leb, le-leb, List, [], append-nil, length, set, drop, length-set, length-append, Float}
 use lib.Seq.{drop-drop, drop-set-lt}
 use Rattle.rings.specs.Rings.{Out, Distinct, Below}
 use Rattle.definition.specs.Lists.{filter, find, any, flat_map}

@@ -1,5 +1,6 @@
 -- Slots given up one after the other are the definition's: each has a triangle, and none stands twice.
-use Rattle.laws.specs.Kit.{◌≡◌, refl, sym, ◌∙◌, ap, ap₂, inl, inr, Bool, true, false, not, ◌&&◌, ◌||◌, cond, Option, none, some, ℕ, arith, eqb, eq-eqb, eqb-true, List, [], ◌∷◌, ◌++◌}
+use Rattle.std.specs.Prelude.{◌≡◌, ◌&&◌, ◌||◌, ◌∷◌, ◌++◌}
+use Rattle.laws.specs.Kit.{refl, sym, ◌∙◌, ap, ap₂, inl, inr, Bool, true, false, not, cond, Option, none, some, ℕ, arith, eqb, eq-eqb, eqb-true, List, []}
 use Rattle.definition.specs.Lists.{filter, any, all, find, flat_map, contains}
 use Rattle.definition.specs.Cells.{Live, Mesh, in_slot, cell_of, with_live, without, among, without_all, remove_cell, remove_cells}
 use Rattle.definition.specs.Replay.{cells_in, all_different, triangles_in}

@@ -1,5 +1,6 @@
 -- The lists of a replay that came to its end.
-use Rattle.laws.specs.Kit.{◌≡◌, ℕ, List, length}
+use Rattle.std.specs.Prelude.{◌≡◌}
+use Rattle.laws.specs.Kit.{ℕ, List, length}
 use Rattle.definition.specs.Lists.{flat_map}
 use Rattle.definition.specs.Cells.{Mesh, tri_nodes, triangles}
 use Rattle.definition.specs.Components.{component_sizes}

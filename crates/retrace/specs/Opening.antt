@@ -1,5 +1,6 @@
 -- The tests that open a replay, and the mesh that it starts from.
-use Rattle.laws.specs.Kit.{◌≡◌, false, ℕ, ◌≤◌, List, length}
+use Rattle.std.specs.Prelude.{◌≡◌, ◌≤◌}
+use Rattle.laws.specs.Kit.{false, ℕ, List, length}
 use Rattle.definition.specs.Lists.{find}
 use Rattle.definition.specs.Cells.{Mesh}
 use Rattle.definition.specs.Front.{new_mesh}

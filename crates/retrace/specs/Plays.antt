@@ -1,5 +1,6 @@
 -- The state of a replay: what the slices and the numbers stand for after an entry.
-use Rattle.laws.specs.Kit.{◌≡◌, false, not, ℕ, ◌+◌, ◌*◌, ◌<◌, ◌≤◌, List, [], ◌∷◌, length, drop, Float}
+use Rattle.std.specs.Prelude.{◌≡◌, ◌+◌, ◌*◌, ◌<◌, ◌≤◌, ◌∷◌}
+use Rattle.laws.specs.Kit.{false, not, ℕ, List, [], length, drop, Float}
 use Rattle.rings.specs.Rings.{Distinct, Below}
 use Rattle.definition.specs.Lists.{any, flat_map}
 use Rattle.definition.specs.Cells.{Quad, Cell, tri, quad, Live, Mesh}

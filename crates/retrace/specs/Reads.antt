@@ -1,5 +1,6 @@
 -- What became of an entry that was read, and of a whole trace.
-use Rattle.laws.specs.Kit.{◌≡◌, Option, none, some, ℕ, ◌+◌, ◌<◌, ◌≤◌, List, length, get_or, drop, Float}
+use Rattle.std.specs.Prelude.{◌≡◌, ◌+◌, ◌<◌, ◌≤◌}
+use Rattle.laws.specs.Kit.{Option, none, some, ℕ, List, length, get_or, drop, Float}
 use Rattle.definition.specs.Numbers.{Settings}
 use Rattle.definition.specs.Cells.{Mesh}
 use Rattle.definition.specs.Replay.{Read, redo, Replayed, whole, broken}

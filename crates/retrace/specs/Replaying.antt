@@ -1,5 +1,6 @@
 -- What a replay promises: all that the definition's gives.
-use Rattle.laws.specs.Kit.{◌≡◌, ℕ, List, [], Float}
+use Rattle.std.specs.Prelude.{◌≡◌}
+use Rattle.laws.specs.Kit.{ℕ, List, [], Float}
 use Rattle.definition.specs.Call.{Lent, Lengths}
 use Rattle.definition.specs.Replay as defined
 use Rattle.definition.specs.Replay.{ReplayAnswer, rebuilt, unplayed, ReplayReturned}

@@ -1,5 +1,6 @@
 -- The mesh of a replay as it is stored: a quad that has a node twice is not among its cells.
-use Rattle.laws.specs.Kit.{Bool, true, not, ◌&&◌, eqb}
+use Rattle.std.specs.Prelude.{◌&&◌}
+use Rattle.laws.specs.Kit.{Bool, true, not, eqb}
 use Rattle.definition.specs.Lists.{filter}
 use Rattle.definition.specs.Cells.{Quad, Cell, tri, quad, Live, Mesh, with_live}
 

@@ -1,5 +1,6 @@
 -- Slots given up one after the other.
-use Rattle.laws.specs.Kit.{◌≡◌, Bool, true, false, not, Option, none, some, ℕ, ◌+◌, ◌<◌, ◌≤◌, List, [], ◌∷◌, ◌++◌, length, get_or, take, drop}
+use Rattle.std.specs.Prelude.{◌≡◌, ◌+◌, ◌<◌, ◌≤◌, ◌∷◌, ◌++◌}
+use Rattle.laws.specs.Kit.{Bool, true, false, not, Option, none, some, ℕ, List, [], length, get_or, take, drop}
 use Rattle.definition.specs.Lists.{any, flat_map}
 use Rattle.definition.specs.Plane.{Edge}
 use Rattle.definition.specs.Cells.{Quad, Mesh, quad, live_tri, remove_cell, push_cell}

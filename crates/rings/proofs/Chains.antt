@@ -1,5 +1,6 @@
 -- Linked chains: what a link and an unlink do to one.
-use Rattle.laws.specs.Kit.{◌≡◌, sym, ◌∙◌, ap, subst, ℕ, ◌<◌, List, [], ◌∷◌, ◌++◌}
+use Rattle.std.specs.Prelude.{◌≡◌, ◌<◌, ◌∷◌, ◌++◌}
+use Rattle.laws.specs.Kit.{sym, ◌∙◌, ap, subst, ℕ, List, []}
 use Rattle.rings.specs.Rings.{Linked, Out, Distinct, Below, without}
 use Rattle.rings.proofs.Lists.{Same, same, differ, decide, without_hit, without_miss, without_out}
 

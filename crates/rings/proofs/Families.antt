@@ -1,5 +1,6 @@
 -- All rings at once: a code comes into one of them, or goes.
-use Rattle.laws.specs.Kit.{◌≡◌, ◌∙◌, subst, ◌≢◌, Bool, true, false, ℕ, ◌+◌, ◌<◌, ◌≤◌, arith, eqb, eq-eqb, ne_eqb, List, [], ◌∷◌, ◌++◌, append-nil, length, get_or}
+use Rattle.std.specs.Prelude.{◌≡◌, ◌≢◌, ◌+◌, ◌<◌, ◌≤◌, ◌∷◌, ◌++◌}
+use Rattle.laws.specs.Kit.{◌∙◌, subst, Bool, true, false, ℕ, arith, eqb, eq-eqb, ne_eqb, List, [], append-nil, length, get_or}
 use Rattle.rings.specs.Rings.{nx, pv, Linked, Out, Below, Ring, LinkedTo, UnlinkedFrom, OpenedFrom, CanLink, CanUnlink, CanOpen, Family, pick, more, less}
 use Rattle.rings.proofs.Lists.{Same, same, differ, decide, below_append, below_without, out_append}
 use Rattle.rings.proofs.Chains.{both}

@@ -1,5 +1,6 @@
 -- Lists of numbers: out, distinct, below, without; how long a list of distinct numbers below n can be.
-use Rattle.laws.specs.Kit.{◌≡◌, refl, sym, ◌∙◌, ap, subst, Bool, true, false, cond, ℕ, zero, suc, ◌+◌, ◌≤◌, arith, eqb, eq-eqb, ne_eqb, eqb-true, eqb-false, List, [], ◌∷◌, ◌++◌, length}
+use Rattle.std.specs.Prelude.{◌≡◌, ◌+◌, ◌≤◌, ◌∷◌, ◌++◌}
+use Rattle.laws.specs.Kit.{refl, sym, ◌∙◌, ap, subst, Bool, true, false, cond, ℕ, zero, suc, arith, eqb, eq-eqb, ne_eqb, eqb-true, eqb-false, List, [], length}
 use Rattle.rings.specs.Rings.{Out, Distinct, Below, without}
 
 pub out_append : (c : ℕ) (l k : List ℕ) → Out c l → Out c k → Out c (l ++ k)

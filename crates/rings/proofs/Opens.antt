@@ -1,5 +1,6 @@
 -- Empty rings: the sentinels from t up to c are linked to themselves, and nothing else changed.
-use Rattle.laws.specs.Kit.{◌≡◌, ◌∙◌, ℕ, ◌+◌, ◌<◌, ◌≤◌, arith, List, length, set, length-set}
+use Rattle.std.specs.Prelude.{◌≡◌, ◌+◌, ◌<◌, ◌≤◌}
+use Rattle.laws.specs.Kit.{◌∙◌, ℕ, arith, List, length, set, length-set}
 use Rattle.laws.specs.Frames.{on, off}
 use Rattle.rings.specs.Rings.{nx, pv, Kept, OpenedFrom}
 use Rattle.rings.proofs.Lists.{Same, same, differ, decide}

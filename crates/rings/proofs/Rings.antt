@@ -1,5 +1,6 @@
 -- What the stores of link and unlink do to the rings of a memory.
-use Rattle.laws.specs.Kit.{◌≡◌, refl, sym, ◌∙◌, ◌≢◌, ℕ, ◌+◌, ◌<◌, ◌≤◌, arith, List, [], ◌∷◌, length, set, length-set}
+use Rattle.std.specs.Prelude.{◌≡◌, ◌≢◌, ◌+◌, ◌<◌, ◌≤◌, ◌∷◌}
+use Rattle.laws.specs.Kit.{refl, sym, ◌∙◌, ℕ, arith, List, [], length, set, length-set}
 use Rattle.laws.specs.Frames.{on, off}
 use Rattle.rings.specs.Rings.{nx, pv, Linked, Out, Below, linkedW, unlinkedW, Kept, LinkedTo, UnlinkedFrom}
 use Rattle.rings.proofs.Lists.{out_append, below_append, distinct_snoc, out_without, below_without, distinct_without}

@@ -1,6 +1,7 @@
 -- Rings of codes in a memory of numbers: next[] of n codes stands at b, prev[] at b + n.
 -- A ring is named by its sentinel, which is a code too.
-use Rattle.laws.specs.Kit.{◌≡◌, Bool, true, false, cond, ℕ, ◌+◌, ◌^◌, ◌<◌, ◌≤◌, eqb, List, [], ◌∷◌, ◌++◌, length, get_or, set}
+use Rattle.std.specs.Prelude.{◌≡◌, ◌+◌, ◌^◌, ◌<◌, ◌≤◌, ◌∷◌, ◌++◌}
+use Rattle.laws.specs.Kit.{Bool, true, false, cond, ℕ, eqb, List, [], length, get_or, set}
 use Rattle.laws.specs.Frames.{Only}
 
 -- the code after i, and the code before i

@@ -2,7 +2,8 @@
 -- and what the exact result says of the double itself.
 -- Nothing is rounded here.
 -- Assumes nothing.
-use Rattle.laws.specs.Kit.{◌≡◌, refl, sym, ◌∙◌, ap, false, ℕ, ◌+◌, ◌-◌, ◌*◌, ◌/◌, ◌%◌, ◌^◌, ◌<◌, ◌≤◌, arith, dec_le, pow_pos, pow-add, Float, binary64, nan, fin, inf, down, up, of_bits}
+use Rattle.std.specs.Prelude.{◌≡◌, ◌+◌, ◌-◌, ◌*◌, ◌/◌, ◌%◌, ◌^◌, ◌<◌, ◌≤◌}
+use Rattle.laws.specs.Kit.{refl, sym, ◌∙◌, ap, false, ℕ, arith, dec_le, pow_pos, pow-add, Float, binary64, nan, fin, inf, down, up, of_bits}
 use Rattle.std.proofs.Common.{lt_of_not-le, mul_right_comm}
 use native.Mathlib.Nat.{eq_of_mul-eq-mul_right}
 use lib.Ieee.Exact.{HasValue}

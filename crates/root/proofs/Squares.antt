@@ -1,5 +1,6 @@
 -- What the square of a guess leaves over, by halves of 27 digits, from differences modulo 2 ^ 64. Assumes nothing.
-use Rattle.laws.specs.Kit.{◌≡◌, sym, subst, ℕ, ◌+◌, ◌*◌, ◌/◌, ◌%◌, ◌^◌, ◌<◌, ◌≤◌, arith}
+use Rattle.std.specs.Prelude.{◌≡◌, ◌+◌, ◌*◌, ◌/◌, ◌%◌, ◌^◌, ◌<◌, ◌≤◌}
+use Rattle.laws.specs.Kit.{sym, subst, ℕ, arith}
 use Rattle.root.specs.Exact.{WholeRoot}
 
 square_of : (t a b : ℕ) → t ≡ a * 2 ^ 27 + b → t * t ≡ a * a * 2 ^ 54 + a * b * 2 * 2 ^ 27 + b * b

@@ -1,5 +1,6 @@
 -- The exact result of a square root, over whole numbers. Nothing is rounded here. Definitions only.
-use Rattle.laws.specs.Kit.{◌≡◌, ℕ, ◌+◌, ◌-◌, ◌*◌, ◌/◌, ◌^◌, ◌<◌, ◌≤◌}
+use Rattle.std.specs.Prelude.{◌≡◌, ◌+◌, ◌-◌, ◌*◌, ◌/◌, ◌^◌, ◌<◌, ◌≤◌}
+use Rattle.laws.specs.Kit.{ℕ}
 use Rattle.rounding.specs.Parts.{Significand, Leading, Evened}
 
 -- the whole root of n, and what is left over: n is root * root + rest, and the next square is above n

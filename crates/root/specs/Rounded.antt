@@ -1,5 +1,6 @@
 -- The rounding of an exact root to nearest, ties to even, over whole numbers. Definitions only.
-use Rattle.laws.specs.Kit.{◌≡◌, ℕ, ◌+◌, ◌/◌, ◌%◌, ◌<◌}
+use Rattle.std.specs.Prelude.{◌≡◌, ◌+◌, ◌/◌, ◌%◌, ◌<◌}
+use Rattle.laws.specs.Kit.{ℕ}
 
 -- q is the whole number nearest to half of the exact root, of which `root` is the whole part and the rest says
 -- whether there is more; the exact middle goes to the even one

@@ -1,5 +1,6 @@
 -- The bucket key of a coordinate c is `floor (c ⊘ b)`.
-use Rattle.laws.specs.Kit.{◌≡◌, refl, sym, ◌∙◌, ap, inl, inr, Bool, true, false, ◌&&◌, cond, true≢false, ℕ, zero, suc, ◌+◌, ◌-◌, ◌*◌, ◌/◌, ◌<◌, ◌≤◌, arith, mul-pos, mul-le-mul_right, le_of_mul-le-mul_right, eqb, T, ℤ, pos, Float, binary64, nan, fin, inf, down, up, of_bits, round, lt, le, div}
+use Rattle.std.specs.Prelude.{◌≡◌, ◌&&◌, ◌+◌, ◌-◌, ◌*◌, ◌/◌, ◌<◌, ◌≤◌}
+use Rattle.laws.specs.Kit.{refl, sym, ◌∙◌, ap, inl, inr, Bool, true, false, cond, true≢false, ℕ, zero, suc, arith, mul-pos, mul-le-mul_right, le_of_mul-le-mul_right, eqb, T, ℤ, pos, Float, binary64, nan, fin, inf, down, up, of_bits, round, lt, le, div}
 use Rattle.std.proofs.Common.{zero-lt-suc, mul-one, div-lt_iff_lt-mul, ltb→lt, eqb→eq}
 use Rattle.std.specs.Float.Ieee.{unlike}
 use Rattle.std.specs.Float.Ieee.Fits.{up_pos, down_pos}

@@ -1,5 +1,6 @@
 -- `sqrt x` is within half a unit of the root of x, and every other double is further away,
-use Rattle.laws.specs.Kit.{◌≡◌, refl, sym, ◌∙◌, ap, subst, ◌⊎◌, inl, inr, Bool, false, ℕ, zero, suc, ◌+◌, ◌-◌, ◌*◌, ◌/◌, ◌%◌, ◌^◌, ◌<◌, ◌≤◌, arith, dec_le, mul-pos, mul-le-mul, mul-le-mul_right, mul-lt-mul_of_pos_right, T, pow_pos, pow-add, pow_mono, ℤ, Float, binary64, nan, fin, inf, down, up, to_bits, fits}
+use Rattle.std.specs.Prelude.{◌≡◌, ◌⊎◌, ◌+◌, ◌-◌, ◌*◌, ◌/◌, ◌%◌, ◌^◌, ◌<◌, ◌≤◌}
+use Rattle.laws.specs.Kit.{refl, sym, ◌∙◌, ap, subst, inl, inr, Bool, false, ℕ, zero, suc, arith, dec_le, mul-pos, mul-le-mul, mul-le-mul_right, mul-lt-mul_of_pos_right, T, pow_pos, pow-add, pow_mono, ℤ, Float, binary64, nan, fin, inf, down, up, to_bits, fits}
 use Rattle.std.proofs.Common.{subst₂, le_trans, le_of_eq, lt_of_lt_of_le, lt_of_le_of_lt, mul_assoc, mul_comm, lt_of_mul-lt-mul_right, mul-div_cancel, add-mul, zero-mul, lt_of_not-le}
 use Rattle.std.proofs.Math.Nat.{mul-mul-mul_comm, zero-div}
 use Rattle.std.proofs.Math.Arith.{lt_of_le-ne}

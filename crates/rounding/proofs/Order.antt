@@ -1,5 +1,6 @@
 -- The order of doubles: that of signed fractions, with an infinity at each end and a NaN nowhere.
-use Rattle.laws.specs.Kit.{◌≡◌, refl, sym, ◌∙◌, ap, subst, ◌⊎◌, inl, inr, Bool, true, false, not, ◌||◌, cond, ℕ, zero, suc, ◌+◌, ◌-◌, ◌*◌, ◌/◌, ◌^◌, ◌<◌, ◌≤◌, arith, dec_lt, mul-le-mul_right, le_of_mul-le-mul_right, eqb, ltb, T, ℤ, Float, binary64, nan, fin, inf, down, up, round, lt, le, neg}
+use Rattle.std.specs.Prelude.{◌≡◌, ◌⊎◌, ◌||◌, ◌+◌, ◌-◌, ◌*◌, ◌/◌, ◌^◌, ◌<◌, ◌≤◌}
+use Rattle.laws.specs.Kit.{refl, sym, ◌∙◌, ap, subst, inl, inr, Bool, true, false, not, cond, ℕ, zero, suc, arith, dec_lt, mul-le-mul_right, le_of_mul-le-mul_right, eqb, ltb, T, ℤ, Float, binary64, nan, fin, inf, down, up, round, lt, le, neg}
 use Rattle.std.specs.Bool.{beq}
 use Rattle.std.proofs.Common.{zero-mul, zero-lt-suc, ltb→lt, lt→ltb, eqb→eq}
 use Rattle.std.specs.Float.{Format}

@@ -1,5 +1,6 @@
 -- The square root keeps the order of doubles: a root is beyond a number where that of a smaller double is,
-use Rattle.laws.specs.Kit.{◌≡◌, refl, sym, ◌∙◌, ap, subst, Bool, true, false, cond, true≢false, false≢true, ℕ, zero, suc, ◌+◌, ◌*◌, ◌^◌, ◌<◌, ◌≤◌, arith, dec_le, mul-pos, mul-le-mul_right, mul-lt-mul_of_pos_right, le_of_mul-le-mul_right, ltb, T, lt-ltb, ltb-true, pow_pos, ℤ, Float, binary64, nan, fin, inf, down, up, fits, round, lt}
+use Rattle.std.specs.Prelude.{◌≡◌, ◌+◌, ◌*◌, ◌^◌, ◌<◌, ◌≤◌}
+use Rattle.laws.specs.Kit.{refl, sym, ◌∙◌, ap, subst, Bool, true, false, cond, true≢false, false≢true, ℕ, zero, suc, arith, dec_le, mul-pos, mul-le-mul_right, mul-lt-mul_of_pos_right, le_of_mul-le-mul_right, ltb, T, lt-ltb, ltb-true, pow_pos, ℤ, Float, binary64, nan, fin, inf, down, up, fits, round, lt}
 use Rattle.std.proofs.Common.{lt_of_mul-lt-mul_right, le_of_lt, lt_of_not-le, zero-mul, lt_irrefl}
 use Rattle.std.specs.Float.Ieee.{units, odd, low, emax, prec}
 use Rattle.std.specs.Float.Ieee.Fits.{down_pos, round_is, round-fits}

@@ -1,7 +1,8 @@
 -- How far a significand is shifted up so that its leading digit stands at 2 ^ 52:
 -- by 11 less than the leading zeros of a word.
 -- Assumes nothing.
-use Rattle.laws.specs.Kit.{◌≡◌, sym, ◌∙◌, ap, subst, ℕ, suc, ◌+◌, ◌-◌, ◌*◌, ◌^◌, ◌<◌, ◌≤◌, arith, mul-le-mul_right, mul-lt-mul_of_pos_right, pow_pos, pow-add, pow_mono}
+use Rattle.std.specs.Prelude.{◌≡◌, ◌+◌, ◌-◌, ◌*◌, ◌^◌, ◌<◌, ◌≤◌}
+use Rattle.laws.specs.Kit.{sym, ◌∙◌, ap, subst, ℕ, suc, arith, mul-le-mul_right, mul-lt-mul_of_pos_right, pow_pos, pow-add, pow_mono}
 use Rattle.std.proofs.Common.{lt_of_lt_of_le, le_of_suc-le-suc, lt_of_not-le, not-le_of_lt}
 use Rattle.std.specs.Int.Count.{count_leading_zeros}
 use Rattle.std.proofs.lemmas.Nat.{leading_top}

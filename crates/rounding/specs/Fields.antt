@@ -1,7 +1,8 @@
 -- The value that a double's bit pattern stands for, and the pattern of a value,
 -- for finite doubles that are not negative.
 -- Assumes nothing.
-use Rattle.laws.specs.Kit.{◌≡◌, refl, sym, ◌∙◌, ap, subst, Bool, true, false, ◌&&◌, cond, true≢false, ℕ, zero, suc, ◌+◌, ◌-◌, ◌*◌, ◌/◌, ◌%◌, ◌^◌, ◌<◌, ◌≤◌, arith, dec_lt, mul-le-mul_right, mul-lt-mul_of_pos_right, eqb, ltb, leb, T, le-leb, pow_pos, pow-add, pow_mono, ℤ, Float, binary64, nan, fin, inf, down, up, of_bits, to_bits, fits}
+use Rattle.std.specs.Prelude.{◌≡◌, ◌&&◌, ◌+◌, ◌-◌, ◌*◌, ◌/◌, ◌%◌, ◌^◌, ◌<◌, ◌≤◌}
+use Rattle.laws.specs.Kit.{refl, sym, ◌∙◌, ap, subst, Bool, true, false, cond, true≢false, ℕ, zero, suc, arith, dec_lt, mul-le-mul_right, mul-lt-mul_of_pos_right, eqb, ltb, leb, T, le-leb, pow_pos, pow-add, pow_mono, ℤ, Float, binary64, nan, fin, inf, down, up, of_bits, to_bits, fits}
 use Rattle.std.proofs.Common.{zero-add, add_assoc, zero-mul, mul-div_cancel, mod-eq_of_lt, le_trans, le_of_eq, lt_of_lt_of_le, mul_right_comm, div-lt_iff_lt-mul, eqb→eq, ltb→lt}
 use Rattle.std.proofs.Math.Nat.{zero-div}
 use Rattle.std.proofs.Math.Dec.{not_T}

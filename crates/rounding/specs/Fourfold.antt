@@ -1,7 +1,8 @@
 -- A vector that is doubled is twice as long, in floats too: where nothing underflows and nothing overflows,
 -- each square, the sum and the root are scaled and rounded alike.
 -- Assumes nothing.
-use Rattle.laws.specs.Kit.{◌≡◌, refl, sym, ◌∙◌, ap, subst, ◌⊎◌, inl, inr, Bool, true, false, true≢false, ℕ, zero, suc, ◌+◌, ◌-◌, ◌*◌, ◌/◌, ◌%◌, ◌^◌, ◌<◌, ◌≤◌, arith, mul-pos, mul-le-mul, mul-le-mul_right, mul-lt-mul_of_pos_right, lit<, lit≤, T, pow_pos, pow-add, pow_mono, ℤ, Float, binary64, nan, fin, inf, down, up, of_bits, fits, round, add, mul}
+use Rattle.std.specs.Prelude.{◌≡◌, ◌⊎◌, ◌+◌, ◌-◌, ◌*◌, ◌/◌, ◌%◌, ◌^◌, ◌<◌, ◌≤◌}
+use Rattle.laws.specs.Kit.{refl, sym, ◌∙◌, ap, subst, inl, inr, Bool, true, false, true≢false, ℕ, zero, suc, arith, mul-pos, mul-le-mul, mul-le-mul_right, mul-lt-mul_of_pos_right, lit<, lit≤, T, pow_pos, pow-add, pow_mono, ℤ, Float, binary64, nan, fin, inf, down, up, of_bits, fits, round, add, mul}
 use Prim.Native.Nat.{compare}
 use Rattle.std.proofs.Common.{le_trans, le_of_eq, lt_of_lt_of_le, lt_of_le_of_lt, lt_of_not-le, not-le_of_lt, zero-lt-suc, zero-mul, mul_assoc, le-mul_of_pos_right, le-div_iff_mul-le, div-lt_iff_lt-mul}
 use Rattle.std.proofs.Math.Nat.{mul-mul-mul_comm, eq_of_mul-eq-mul_right, div-div-eq-div-mul}

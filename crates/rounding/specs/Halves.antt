@@ -1,7 +1,8 @@
 -- A vector's length from the length of its double, where tests of floats show that nothing
 -- underflows and nothing overflows.
 -- Assumes nothing.
-use Rattle.laws.specs.Kit.{◌≡◌, refl, sym, ◌∙◌, ap, inl, inr, Bool, true, false, ◌||◌, ℕ, zero, suc, ◌*◌, ◌^◌, ◌≤◌, arith, mul-pos, le_of_mul-le-mul_right, eqb, lit≤, T, pow_pos, ℤ, Float, binary64, nan, fin, inf, down, up, of_bits, fits, round, eq, mul}
+use Rattle.std.specs.Prelude.{◌≡◌, ◌||◌, ◌*◌, ◌^◌, ◌≤◌}
+use Rattle.laws.specs.Kit.{refl, sym, ◌∙◌, ap, inl, inr, Bool, true, false, ℕ, zero, suc, arith, mul-pos, le_of_mul-le-mul_right, eqb, lit≤, T, pow_pos, ℤ, Float, binary64, nan, fin, inf, down, up, of_bits, fits, round, eq, mul}
 use Rattle.std.proofs.Common.{le_trans, zero-mul, eqb→eq}
 use Rattle.std.proofs.Math.Nat.{mul-mul-mul_comm}
 use Rattle.std.specs.Bool.{beq}

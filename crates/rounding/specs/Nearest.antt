@@ -1,7 +1,8 @@
 -- What it is for a double to be nearest to the root of another, over the whole numbers.
 -- `Near` shows it of `sqrt`.
 -- Definitions only.
-use Rattle.laws.specs.Kit.{◌≡◌, ℕ, ◌+◌, ◌-◌, ◌*◌, ◌/◌, ◌^◌, ◌<◌, ◌≤◌, Float, nan, fin, inf, down, up}
+use Rattle.std.specs.Prelude.{◌≡◌, ◌+◌, ◌-◌, ◌*◌, ◌/◌, ◌^◌, ◌<◌, ◌≤◌}
+use Rattle.laws.specs.Kit.{ℕ, Float, nan, fin, inf, down, up}
 
 -- The size of a finite double, counted in the smallest double, 2 ^ -1074. No double has a fraction of that.
 unfoldable pub ulps : Float → ℕ

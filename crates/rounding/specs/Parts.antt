@@ -1,6 +1,7 @@
 -- A finite double taken apart by its bits: significand, exponent, and the number whose whole root is taken.
 -- Definitions only.
-use Rattle.laws.specs.Kit.{◌≡◌, ℕ, ◌+◌, ◌-◌, ◌*◌, ◌%◌, ◌^◌, ◌<◌, ◌≤◌}
+use Rattle.std.specs.Prelude.{◌≡◌, ◌+◌, ◌-◌, ◌*◌, ◌%◌, ◌^◌, ◌<◌, ◌≤◌}
+use Rattle.laws.specs.Kit.{ℕ}
 
 -- m is the significand of the pattern b, whose sign is left out:
 -- the double is m * 2 ^ (b / 2 ^ 52 - 1) units of 2 ^ -1074

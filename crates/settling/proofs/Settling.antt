@@ -1,5 +1,6 @@
 -- What `settle` asks of its callees and makes of what they give.
-use Rattle.laws.specs.Kit.{◌≡◌, refl, sym, ◌∙◌, ap, subst, ℕ, ◌+◌, ◌*◌, ◌≤◌, arith, List, ◌∷◌}
+use Rattle.std.specs.Prelude.{◌≡◌, ◌+◌, ◌*◌, ◌≤◌, ◌∷◌}
+use Rattle.laws.specs.Kit.{refl, sym, ◌∙◌, ap, subst, ℕ, arith, List}
 use Rattle.definition.specs.Counts.{◌⊞◌, spending, Refusal, Placement, Shape, Recovery, Region, OddRegion, refused_by, Want, of_points, of_slots, of_trace}
 use Rattle.definition.specs.Plane.{Edge}
 use Rattle.definition.specs.Cells.{Quad}

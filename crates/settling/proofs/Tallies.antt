@@ -1,5 +1,6 @@
 -- Counts of a standing, field by field.
-use Rattle.laws.specs.Kit.{◌≡◌, ◌∙◌, ap, ℕ, ◌+◌, arith}
+use Rattle.std.specs.Prelude.{◌≡◌, ◌+◌}
+use Rattle.laws.specs.Kit.{◌∙◌, ap, ℕ, arith}
 use Rattle.definition.specs.Counts.{Counts, tally, ◌⊞◌, one_attempt, spending, at_limit, emptied, Refusal, Placement, Shape, Recovery, Region, OddRegion, refused_by}
 use Rattle.outcomes.specs.declared.End.{End}
 use Rattle.outcomes.specs.Ends.{end_of, spent}

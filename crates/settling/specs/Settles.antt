@@ -1,5 +1,6 @@
 -- What a quad and a refusal leave in the lent memory and in the standing.
-use Rattle.laws.specs.Kit.{◌≡◌, ℕ, suc, ◌+◌, ◌*◌, ◌^◌, ◌<◌, ◌≤◌, List, [], ◌∷◌, ◌++◌, length}
+use Rattle.std.specs.Prelude.{◌≡◌, ◌+◌, ◌*◌, ◌^◌, ◌<◌, ◌≤◌, ◌∷◌, ◌++◌}
+use Rattle.laws.specs.Kit.{ℕ, suc, List, [], length}
 use Rattle.definition.specs.Lists.{flat_map}
 use Rattle.definition.specs.Counts.{Counts, ◌⊞◌, spending, Refusal, refused_by, Want, of_points, of_slots, of_trace}
 use Rattle.definition.specs.Plane.{Edge}

@@ -1,5 +1,6 @@
 -- A run's standing: what it counted, in the definition's counts.
-use Rattle.laws.specs.Kit.{◌≡◌, Bool, true, false, ℕ, ◌+◌, ◌^◌, ◌<◌}
+use Rattle.std.specs.Prelude.{◌≡◌, ◌+◌, ◌^◌, ◌<◌}
+use Rattle.laws.specs.Kit.{Bool, true, false, ℕ}
 use Rattle.definition.specs.Counts.{Counts, ◌⊞◌, one_attempt, spending}
 use Rattle.cells.specs.Counting.{Attempted}
 use Rattle.outcomes.specs.Ends.{spent}

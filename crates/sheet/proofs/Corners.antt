@@ -1,5 +1,6 @@
 -- The corners of a quad, one after the other: the first that is none of the points, and the metrics where all are.
-use Rattle.laws.specs.Kit.{◌≡◌, true, ℕ, ◌+◌, ◌*◌, ◌<◌, ◌≤◌, leb, lt-leb, le-leb, List, get_or, Float}
+use Rattle.std.specs.Prelude.{◌≡◌, ◌+◌, ◌*◌, ◌<◌, ◌≤◌}
+use Rattle.laws.specs.Kit.{true, ℕ, leb, lt-leb, le-leb, List, get_or, Float}
 use Rattle.definition.specs.Lists.{any}
 use Rattle.definition.specs.Metrics.{quad_metrics}
 use Rattle.definition.specs.Cells.{quad_nodes}

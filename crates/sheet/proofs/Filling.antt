@@ -1,5 +1,6 @@
 -- The sheet of the first quads, and one quad more.
-use Rattle.laws.specs.Kit.{◌≡◌, refl, sym, ◌∙◌, ap, subst, ◌≢◌, Bool, cond, none, ℕ, suc, ◌+◌, ◌*◌, ◌<◌, ◌≤◌, arith, ℕ_discrete, eqb, eq-eqb, ne_eqb, List, [], ◌∷◌, ◌++◌, foldl, append-nil, append_assoc, length, get_or, set, drop, replicate, length-set, length-append, length-map, get_or-set_same, get_or-set_other, Float}
+use Rattle.std.specs.Prelude.{◌≡◌, ◌≢◌, ◌+◌, ◌*◌, ◌<◌, ◌≤◌, ◌∷◌, ◌++◌}
+use Rattle.laws.specs.Kit.{refl, sym, ◌∙◌, ap, subst, Bool, cond, none, ℕ, suc, arith, ℕ_discrete, eqb, eq-eqb, ne_eqb, List, [], foldl, append-nil, append_assoc, length, get_or, set, drop, replicate, length-set, length-append, length-map, get_or-set_same, get_or-set_other, Float}
 use mathlib.Core.List.{map-append, foldl-append}
 use native.Mathlib.Numerals.{add-one}
 use lib.ListN.{length-drop}

@@ -1,5 +1,6 @@
 -- A sheet's numbers as thirteen stores, and what a caller finds in the answer.
-use Rattle.laws.specs.Kit.{◌≡◌, refl, sym, ◌∙◌, ap, ◌≢◌, ℕ, ◌<◌, ◌≤◌, arith, ℕ_discrete, lt-ltb, le-ltb, List, [], ◌∷◌, ◌++◌, map, length, get_or, set, length-map, Float}
+use Rattle.std.specs.Prelude.{◌≡◌, ◌≢◌, ◌<◌, ◌≤◌, ◌∷◌, ◌++◌}
+use Rattle.laws.specs.Kit.{refl, sym, ◌∙◌, ap, ℕ, arith, ℕ_discrete, lt-ltb, le-ltb, List, [], map, length, get_or, set, length-map, Float}
 use lib.Seq.{sets-eq, ext_get_or}
 use Rattle.definition.specs.Lists.{numbers}
 use Rattle.definition.specs.Call.{onto}

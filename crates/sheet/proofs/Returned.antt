@@ -1,5 +1,6 @@
 -- What the code's two answers say.
-use Rattle.laws.specs.Kit.{◌≡◌, refl, ◌≢◌, ℕ, List, replicate, Float}
+use Rattle.std.specs.Prelude.{◌≡◌, ◌≢◌}
+use Rattle.laws.specs.Kit.{refl, ℕ, List, replicate, Float}
 use Rattle.definition.specs.Sheet.{Listed, refused, no_sheet, places, sheet_of, call}
 use Rattle.refusals.specs.Refusals.{number_of}
 use Rattle.sheet_steps.specs.declared.Worst.TheVariants.{Absent}

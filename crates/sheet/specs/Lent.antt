@@ -1,5 +1,6 @@
 -- A sheet's numbers in a lent slice.
-use Rattle.laws.specs.Kit.{◌≡◌, ◌||◌, cond, ℕ, ltb, List, [], ◌∷◌, ◌++◌, length, Float}
+use Rattle.std.specs.Prelude.{◌≡◌, ◌||◌, ◌∷◌, ◌++◌}
+use Rattle.laws.specs.Kit.{cond, ℕ, ltb, List, [], length, Float}
 use Rattle.definition.specs.Call.{onto, most_slots, most_capacity}
 use Rattle.definition.specs.Sheet.{Sheet, Listed, Answer, Returned, filed, refusal, call}
 use Rattle.sheet_steps.specs.Values.{quad_of}

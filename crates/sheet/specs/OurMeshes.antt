@@ -1,6 +1,7 @@
 -- The sheet on what `run_front` handed back, from the account that it promises and nothing else of it:
 -- `quads_points` carries that 5 does not come up, `quads_pass` the rest.
-use Rattle.laws.specs.Kit.{◌≡◌, refl, sym, ◌∙◌, ap, Bool, true, false, not, ◌&&◌, some, ℕ, ◌*◌, ◌≤◌, arith, eqb, ne_eqb, le-ltb, lt-leb, not-true, List, [], ◌∷◌, map, length, get_or, Float}
+use Rattle.std.specs.Prelude.{◌≡◌, ◌&&◌, ◌*◌, ◌≤◌, ◌∷◌}
+use Rattle.laws.specs.Kit.{refl, sym, ◌∙◌, ap, Bool, true, false, not, some, ℕ, arith, eqb, ne_eqb, le-ltb, lt-leb, not-true, List, [], map, length, get_or, Float}
 use Rattle.definition.specs.Lists.{any}
 use Rattle.definition.specs.Floats.{◌≺◌, finite}
 use Rattle.definition.specs.Numbers.{Quality}

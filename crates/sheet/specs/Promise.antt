@@ -1,5 +1,6 @@
 -- The code's arguments and answers in the definition's words, and what its functions promise.
-use Rattle.laws.specs.Kit.{◌≡◌, ℕ, ◌+◌, ◌*◌, ◌<◌, ◌≤◌, List, length, get_or, Float}
+use Rattle.std.specs.Prelude.{◌≡◌, ◌+◌, ◌*◌, ◌<◌, ◌≤◌}
+use Rattle.laws.specs.Kit.{ℕ, List, length, get_or, Float}
 use Rattle.std.proofs.lemmas.List.Edits.{sets}
 use Rattle.definition.specs.Lists.{flat_map}
 use Rattle.definition.specs.Metrics.{Metrics}

@@ -1,5 +1,6 @@
 -- The number of a list's first refusal, and what the call is by it.
-use Rattle.laws.specs.Kit.{◌≡◌, sym, ◌∙◌, ap, ◌≢◌, Bool, false, ◌||◌, cond, none, ℕ, ◌+◌, ◌*◌, ◌<◌, arith, ltb, leb, ltb-false, leb-false, List, length, get_or}
+use Rattle.std.specs.Prelude.{◌≡◌, ◌≢◌, ◌||◌, ◌+◌, ◌*◌, ◌<◌}
+use Rattle.laws.specs.Kit.{sym, ◌∙◌, ap, Bool, false, cond, none, ℕ, arith, ltb, leb, ltb-false, leb-false, List, length, get_or}
 use Rattle.definition.specs.Lists.{any, find, flat_map}
 use Rattle.definition.specs.Cells.{Quad, quad_nodes}
 use Rattle.definition.specs.Call.{quad_at, first_quads, onto, most_slots, most_capacity}

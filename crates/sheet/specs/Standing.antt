@@ -1,5 +1,6 @@
 -- The worst values stand in the rows that are written: a caller who knows the quad finds its value there.
-use Rattle.laws.specs.Kit.{◌≡◌, refl, ◌∙◌, ap, some, ℕ, suc, ◌+◌, ◌*◌, ◌<◌, arith, List, [], ◌∷◌, ◌++◌, length, get_or, drop, Float}
+use Rattle.std.specs.Prelude.{◌≡◌, ◌+◌, ◌*◌, ◌<◌, ◌∷◌, ◌++◌}
+use Rattle.laws.specs.Kit.{refl, ◌∙◌, ap, some, ℕ, suc, arith, List, [], length, get_or, drop, Float}
 use Rattle.std.proofs.Math.ListN.{get_or-append}
 use Rattle.definition.specs.Lists.{flat_map}
 use Rattle.definition.specs.Floats.{0·0}

@@ -1,5 +1,6 @@
 -- The steps: a scaled Jacobian reaches exactly the bounds below its step, since the bounds ascend.
-use Rattle.laws.specs.Kit.{◌≡◌, refl, inl, inr, Bool, true, false, ℕ, zero, suc, ◌<◌, ◌≤◌, arith, List, [], ◌∷◌, length, get_or, Float, of_bits, le}
+use Rattle.std.specs.Prelude.{◌≡◌, ◌<◌, ◌≤◌, ◌∷◌}
+use Rattle.laws.specs.Kit.{refl, inl, inr, Bool, true, false, ℕ, zero, suc, arith, List, [], length, get_or, Float, of_bits, le}
 use Rattle.definition.specs.Lists.{filter}
 use Rattle.definition.specs.Floats.{◌≼◌, f64, 0·0, 0·1, 0·2, 0·3, 0·4, 0·5, 0·6, 0·7, 0·8, 0·9}
 use Rattle.definition.specs.Metrics.{measured}

@@ -1,5 +1,6 @@
 -- What holds of every sheet.
-use Rattle.laws.specs.Kit.{◌≡◌, refl, sym, ◌∙◌, ap, cond, none, some, ℕ, zero, suc, ◌+◌, ◌<◌, ◌≤◌, arith, ℕ_discrete, dec_lt, eqb, ltb, eq-eqb, ne_eqb, lt-ltb, le-ltb, List, [], ◌∷◌, map, length, get_or, length-map, Float}
+use Rattle.std.specs.Prelude.{◌≡◌, ◌+◌, ◌<◌, ◌≤◌, ◌∷◌}
+use Rattle.laws.specs.Kit.{refl, sym, ◌∙◌, ap, cond, none, some, ℕ, zero, suc, arith, ℕ_discrete, dec_lt, eqb, ltb, eq-eqb, ne_eqb, lt-ltb, le-ltb, List, [], map, length, get_or, length-map, Float}
 use Rattle.definition.specs.Lists.{filter, numbers, below}
 use Rattle.definition.specs.Floats.{◌≺◌, ◌≼◌, 0·0}
 use Rattle.definition.specs.Metrics.{Metrics, absent, measured}

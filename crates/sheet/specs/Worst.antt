@@ -1,6 +1,7 @@
 -- The worst of a list of values: it is there where a value is, it is one of them,
 -- none is worse, and none before it is as bad.
-use Rattle.laws.specs.Kit.{◌≡◌, refl, sym, ◌∙◌, ap, subst, inl, inr, Bool, true, false, none, some, ℕ, suc, List, [], ◌∷◌, ◌++◌, foldl, append-nil, append_assoc, Float}
+use Rattle.std.specs.Prelude.{◌≡◌, ◌∷◌, ◌++◌}
+use Rattle.laws.specs.Kit.{refl, sym, ◌∙◌, ap, subst, inl, inr, Bool, true, false, none, some, ℕ, suc, List, [], foldl, append-nil, append_assoc, Float}
 use Rattle.laws.specs.Numbers.{clash}
 use Rattle.definition.specs.Floats.{◌≺◌, ◌≼◌}
 use Rattle.definition.specs.Metrics.{Metrics, absent, measured}

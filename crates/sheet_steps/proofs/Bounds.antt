@@ -1,5 +1,6 @@
 -- The place of a quad as a sum over the bounds.
-use Rattle.laws.specs.Kit.{◌≡◌, cond, ℕ, ◌+◌, arith, Float}
+use Rattle.std.specs.Prelude.{◌≡◌, ◌+◌}
+use Rattle.laws.specs.Kit.{cond, ℕ, arith, Float}
 use Rattle.definition.specs.Floats.{◌≼◌, 0·1, 0·2, 0·3, 0·4, 0·5, 0·6, 0·7, 0·8, 0·9}
 use Rattle.definition.specs.Metrics.{measured}
 use Rattle.definition.specs.Sheet.{bounds, place}

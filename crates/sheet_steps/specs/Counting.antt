@@ -1,5 +1,6 @@
 -- How many elements of a list pass a test, and the counts of a sheet.
-use Rattle.laws.specs.Kit.{◌≡◌, refl, ◌∙◌, ap, Bool, true, false, cond, ℕ, zero, suc, ◌+◌, ◌<◌, ◌≤◌, arith, eqb, List, [], ◌∷◌, map, length, get_or, length-map, Float}
+use Rattle.std.specs.Prelude.{◌≡◌, ◌+◌, ◌<◌, ◌≤◌, ◌∷◌}
+use Rattle.laws.specs.Kit.{refl, ◌∙◌, ap, Bool, true, false, cond, ℕ, zero, suc, arith, eqb, List, [], map, length, get_or, length-map, Float}
 use Rattle.definition.specs.Lists.{filter, numbers, below}
 use Rattle.definition.specs.Floats.{◌≼◌}
 use Rattle.definition.specs.Metrics.{Metrics, absent, measured}

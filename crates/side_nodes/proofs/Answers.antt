@@ -1,5 +1,6 @@
 -- What an insertion's answer says of the side nodes.
-use Rattle.laws.specs.Kit.{◌≡◌, refl, sym, ◌∙◌, ap, subst, Bool, true, false, ℕ, zero, suc, ◌+◌, ◌*◌, ◌^◌, ◌<◌, ◌≤◌, arith, not-suc-le-zero, List, [], ◌∷◌, length, get_or, set, take, drop, length-set, get_or-set_same, get_or-set_other, Float}
+use Rattle.std.specs.Prelude.{◌≡◌, ◌+◌, ◌*◌, ◌^◌, ◌<◌, ◌≤◌, ◌∷◌}
+use Rattle.laws.specs.Kit.{refl, sym, ◌∙◌, ap, subst, Bool, true, false, ℕ, zero, suc, arith, not-suc-le-zero, List, [], length, get_or, set, take, drop, length-set, get_or-set_same, get_or-set_other, Float}
 use native.Mathlib.Nat.{le_of_suc-le-suc}
 use native.Mathlib.Numerals.{add-one}
 use Rattle.definition.specs.Counts.{of_points, of_slots, of_trace, Spent, inserting}

@@ -1,5 +1,6 @@
 -- What is said of the side nodes at one end.
-use Rattle.laws.specs.Kit.{◌≡◌, Bool, ℕ, ◌+◌, ◌^◌, ◌<◌, ◌≤◌, List, length, get_or, take, drop, Float}
+use Rattle.std.specs.Prelude.{◌≡◌, ◌+◌, ◌^◌, ◌<◌, ◌≤◌}
+use Rattle.laws.specs.Kit.{Bool, ℕ, List, length, get_or, take, drop, Float}
 use Rattle.definition.specs.Counts.{Spent, of_points, of_slots, of_trace}
 use Rattle.definition.specs.Plane.{Vec}
 use Rattle.definition.specs.Cells.{Mesh}

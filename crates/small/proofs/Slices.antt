@@ -1,5 +1,6 @@
 -- A list in a lent slice: its stores, and the answer to a caller whose slice is too short.
-use Rattle.laws.specs.Kit.{◌≡◌, refl, sym, ◌∙◌, ap, subst, ℕ, ◌+◌, ◌<◌, ◌≤◌, arith, lt-ltb, le-ltb, List, [], ◌∷◌, ◌++◌, length, set, drop}
+use Rattle.std.specs.Prelude.{◌≡◌, ◌+◌, ◌<◌, ◌≤◌, ◌∷◌, ◌++◌}
+use Rattle.laws.specs.Kit.{refl, sym, ◌∙◌, ap, subst, ℕ, arith, lt-ltb, le-ltb, List, [], length, set, drop}
 use lib.Seq.{sets, sets-eq}
 use Rattle.definition.specs.Call.{onto}
 use Rattle.small.specs.Small.{Answer, mesh, ended, refused}

@@ -1,5 +1,6 @@
 -- The list at a place in a lent slice.
-use Rattle.laws.specs.Kit.{◌≡◌, cond, ℕ, ltb, List, [], ◌∷◌, length}
+use Rattle.std.specs.Prelude.{◌≡◌, ◌∷◌}
+use Rattle.laws.specs.Kit.{cond, ℕ, ltb, List, [], length}
 use Rattle.definition.specs.Lists.{concat}
 use Rattle.definition.specs.Call.{onto}
 use Rattle.small.specs.Small.{Answer, mesh, ended, refused, answer}

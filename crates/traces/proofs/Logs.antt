@@ -1,5 +1,6 @@
 -- A log one event further.
-use Rattle.laws.specs.Kit.{◌≡◌, refl, sym, ◌∙◌, ap, subst, ◌≢◌, true, ℕ, zero, suc, ◌+◌, ◌-◌, ◌/◌, ◌%◌, ◌≤◌, arith, leb, le-leb, List, [], ◌∷◌, ◌++◌, append-nil, append_assoc, length, set, take, drop, length-append, Float, binary64, to_bits}
+use Rattle.std.specs.Prelude.{◌≡◌, ◌≢◌, ◌+◌, ◌-◌, ◌/◌, ◌%◌, ◌≤◌, ◌∷◌, ◌++◌}
+use Rattle.laws.specs.Kit.{refl, sym, ◌∙◌, ap, subst, true, ℕ, zero, suc, arith, leb, le-leb, List, [], append-nil, append_assoc, length, set, take, drop, length-append, Float, binary64, to_bits}
 use lib.Seq.{sets-eq}
 use borrow.Author.Tests.{leb-true}
 use borrow.Rule.Slice.PartMut.{mid_of, put_mid}

@@ -1,5 +1,6 @@
 -- Words put into a slice behind those that stand at its front.
-use Rattle.laws.specs.Kit.{◌≡◌, sym, ◌∙◌, ap, ℕ, suc, ◌+◌, ◌-◌, ◌<◌, ◌≤◌, arith, List, [], ◌∷◌, ◌++◌, append_assoc, length, get_or, set, take, drop, length-set, length-append}
+use Rattle.std.specs.Prelude.{◌≡◌, ◌+◌, ◌-◌, ◌<◌, ◌≤◌, ◌∷◌, ◌++◌}
+use Rattle.laws.specs.Kit.{sym, ◌∙◌, ap, ℕ, suc, arith, List, [], append_assoc, length, get_or, set, take, drop, length-set, length-append}
 use lib.ListN.{length-take, length-drop, take-append-drop}
 use lib.Seq.{length-take-le, drop-cons, take-suc, get_or-drop, set-append_seam}
 use borrow.Rule.Slice.PartMut.{mid_of, put_mid}

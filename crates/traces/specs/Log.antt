@@ -1,5 +1,6 @@
 -- The lent trace stands for what happened to a mesh.
-use Rattle.laws.specs.Kit.{◌≡◌, true, ℕ, ◌+◌, ◌^◌, ◌<◌, ◌≤◌, List, [], ◌∷◌, ◌++◌, length, take, drop}
+use Rattle.std.specs.Prelude.{◌≡◌, ◌+◌, ◌^◌, ◌<◌, ◌≤◌, ◌∷◌, ◌++◌}
+use Rattle.laws.specs.Kit.{true, ℕ, List, [], length, take, drop}
 use Rattle.definition.specs.Cells.{Quad, Event, was_placed, Mesh}
 use Rattle.definition.specs.Trace.{traced, in_room}
 use Rattle.definition.specs.Call.{onto}

@@ -1,5 +1,6 @@
 -- The order by length does not change when points are added behind.
-use Rattle.laws.specs.Kit.{◌≡◌, refl, ap, ℕ, arith, List, [], ◌∷◌, ◌++◌, map, length}
+use Rattle.std.specs.Prelude.{◌≡◌, ◌∷◌, ◌++◌}
+use Rattle.laws.specs.Kit.{refl, ap, ℕ, arith, List, [], map, length}
 use Rattle.definition.specs.Account.{All}
 use Rattle.definition.specs.Plane.{Node, Edge, edge_length}
 use Rattle.definition.specs.Loops.{Ranked, ranked_edge, in_order, by_length}

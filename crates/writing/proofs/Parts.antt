@@ -1,5 +1,6 @@
 -- The parts of an answer put together.
-use Rattle.laws.specs.Kit.{◌≡◌, refl, sym, ◌∙◌, ap, ℕ, ◌+◌, ◌≤◌, arith, List, [], ◌∷◌, ◌++◌, append-nil, append_assoc, length, take}
+use Rattle.std.specs.Prelude.{◌≡◌, ◌+◌, ◌≤◌, ◌∷◌, ◌++◌}
+use Rattle.laws.specs.Kit.{refl, sym, ◌∙◌, ap, ℕ, arith, List, [], append-nil, append_assoc, length, take}
 use Rattle.definition.specs.Lists.{flat_map, rows}
 use Rattle.definition.specs.Counts as def
 use Rattle.definition.specs.Call.{Lent}

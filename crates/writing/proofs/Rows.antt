@@ -1,5 +1,6 @@
 -- Lines and tables of numbers.
-use Rattle.laws.specs.Kit.{◌≡◌, refl, sym, ◌∙◌, ap, ℕ, zero, suc, ◌+◌, ◌-◌, ◌*◌, ◌<◌, ◌≤◌, arith, List, [], ◌∷◌, ◌++◌, map, append-nil, append_assoc, length, get_or, take, drop}
+use Rattle.std.specs.Prelude.{◌≡◌, ◌+◌, ◌-◌, ◌*◌, ◌<◌, ◌≤◌, ◌∷◌, ◌++◌}
+use Rattle.laws.specs.Kit.{refl, sym, ◌∙◌, ap, ℕ, zero, suc, arith, List, [], map, append-nil, append_assoc, length, get_or, take, drop}
 use native.Mathlib.Nat.{mul-zero, mul-suc, add_comm}
 use native.Mathlib.Numerals.{add-one, add-two}
 use lib.ListN.{length-drop}

@@ -1,5 +1,6 @@
 -- Digits of numbers.
-use Rattle.laws.specs.Kit.{◌≡◌, refl, sym, ◌∙◌, ap, Bool, true, false, cond, ℕ, zero, suc, ◌+◌, ◌-◌, ◌*◌, ◌/◌, ◌%◌, ◌^◌, ◌<◌, ◌≤◌, arith, ltb, lt-ltb, le-ltb, ltb-true, ltb-false, [], ◌∷◌, ◌++◌, length, length-append}
+use Rattle.std.specs.Prelude.{◌≡◌, ◌+◌, ◌-◌, ◌*◌, ◌/◌, ◌%◌, ◌^◌, ◌<◌, ◌≤◌, ◌∷◌, ◌++◌}
+use Rattle.laws.specs.Kit.{refl, sym, ◌∙◌, ap, Bool, true, false, cond, ℕ, zero, suc, arith, ltb, lt-ltb, le-ltb, ltb-true, ltb-false, [], length, length-append}
 use native.Mathlib.Nat.{pow-suc}
 use Rattle.definition.specs.Text.{decimal_in, show, hex_in}
 

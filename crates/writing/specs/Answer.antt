@@ -1,5 +1,6 @@
 -- What the code's structs stand for, and what writing an answer gives.
-use Rattle.laws.specs.Kit.{◌≡◌, refl, ℕ, ◌*◌, ◌≤◌, List, [], ◌∷◌, length, take, drop, Float}
+use Rattle.std.specs.Prelude.{◌≡◌, ◌*◌, ◌≤◌, ◌∷◌}
+use Rattle.laws.specs.Kit.{refl, ℕ, List, [], length, take, drop, Float}
 use Rattle.definition.specs.Counts as def
 use Rattle.definition.specs.Call.{Lent}
 use Rattle.definition.specs.Call as call

@@ -1,5 +1,6 @@
 -- A text written into a slice of bytes.
-use Rattle.laws.specs.Kit.{◌≡◌, ℕ, ◌+◌, ◌≤◌, List, ◌++◌, length, take, drop}
+use Rattle.std.specs.Prelude.{◌≡◌, ◌+◌, ◌≤◌, ◌++◌}
+use Rattle.laws.specs.Kit.{ℕ, List, length, take, drop}
 use Rattle.definition.specs.Text.{Bytes}
 
 -- the slice with t from place p on, and all else as it was

@@ -1,5 +1,6 @@
 -- One test after the other.
-use Rattle.laws.specs.Kit.{◌≡◌, false, ◌*◌, ◌/◌, ◌≤◌, arith, rules, mul-le-mul, eqb, ltb, leb, eq-eqb, ne_eqb, lt-ltb, le-ltb, lt-leb, le-leb}
+use Rattle.std.specs.Prelude.{◌≡◌, ◌*◌, ◌/◌, ◌≤◌}
+use Rattle.laws.specs.Kit.{false, arith, rules, mul-le-mul, eqb, ltb, leb, eq-eqb, ne_eqb, lt-ltb, le-ltb, lt-leb, le-leb}
 use native.Mathlib.Nat.{div-le_self}
 use Rattle.definition.specs.Job.{most_meshes, most_allowance, share, bad_job}
 use Rattle.allowances.proofs.bad_job.Statement.{statement}

@@ -1,5 +1,6 @@
 -- One more is done, and the rest is left.
-use Rattle.laws.specs.Kit.{◌≡◌, ℕ, suc, ◌+◌, ◌-◌, arith, rules}
+use Rattle.std.specs.Prelude.{◌≡◌, ◌+◌, ◌-◌}
+use Rattle.laws.specs.Kit.{ℕ, suc, arith, rules}
 use Rattle.definition.specs.Job as defined
 use Rattle.definition.specs.Job.{handed_on}
 use Rattle.allowances.specs.States.{job_of}

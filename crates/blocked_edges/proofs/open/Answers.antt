@@ -1,5 +1,6 @@
 -- The loop's invariant: the nodes below v are opened (Opening.Opened).
-use Rattle.laws.specs.Kit.{◌-◌, arith, rules, length-set}
+use Rattle.std.specs.Prelude.{◌-◌}
+use Rattle.laws.specs.Kit.{arith, rules, length-set}
 use Rattle.blocked_edges.proofs.Opening.{Opened, open_none, open_more, open_done}
 use Rattle.blocked_edges.proofs.open.Goals as goal
 

@@ -1,4 +1,5 @@
-use Rattle.laws.specs.Kit.{◌-◌, arith, rules, length-set}
+use Rattle.std.specs.Prelude.{◌-◌}
+use Rattle.laws.specs.Kit.{arith, rules, length-set}
 use Rattle.blocked_edges.proofs.Opening.{Opened, open_none, open_more, open_done}
 use Rattle.blocked_edges.proofs.open.Given as goal
 

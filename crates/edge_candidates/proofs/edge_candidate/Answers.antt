@@ -1,4 +1,5 @@
-use Rattle.laws.specs.Kit.{◌≡◌, sym, ◌∙◌, ap, rules, not-true, not-false, Float}
+use Rattle.std.specs.Prelude.{◌≡◌}
+use Rattle.laws.specs.Kit.{sym, ◌∙◌, ap, rules, not-true, not-false, Float}
 use Rattle.definition.specs.Plane.{Edge, Vec, norm, over}
 use Rattle.definition.specs.Cells.{tri, new_live, key, tri_owner}
 use Rattle.definition.specs.Candidates.{toward}

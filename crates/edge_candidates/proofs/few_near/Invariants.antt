@@ -1,4 +1,5 @@
-use Rattle.laws.specs.Kit.{◌≡◌, sym, ◌∙◌, ap, false, ℕ, ◌-◌, ◌<◌, ◌≤◌, arith, rules}
+use Rattle.std.specs.Prelude.{◌≡◌, ◌-◌, ◌<◌, ◌≤◌}
+use Rattle.laws.specs.Kit.{sym, ◌∙◌, ap, false, ℕ, arith, rules}
 use Rattle.plane.specs.Vectors.{vec}
 use Rattle.edge_candidates.specs.Wanted.{near}
 use Rattle.edge_candidates.specs.Wishes.{kept_test}

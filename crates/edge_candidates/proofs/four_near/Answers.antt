@@ -1,4 +1,5 @@
-use Rattle.laws.specs.Kit.{◌≡◌, ◌∙◌, ap, subst, Bool, ◌||◌, ◌+◌, ◌*◌, arith, rules}
+use Rattle.std.specs.Prelude.{◌≡◌, ◌||◌, ◌+◌, ◌*◌}
+use Rattle.laws.specs.Kit.{◌∙◌, ap, subst, Bool, arith, rules}
 use Rattle.definition.specs.Plane.{Vec}
 use Rattle.plane.specs.Vectors.{vec}
 use Rattle.edge_candidates.specs.Words.{vec_at, Numbers}

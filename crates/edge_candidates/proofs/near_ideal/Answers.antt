@@ -1,4 +1,5 @@
-use Rattle.laws.specs.Kit.{sym, ◌∙◌, ap, subst, ◌+◌, ◌*◌, ◌<◌, arith, rules}
+use Rattle.std.specs.Prelude.{◌+◌, ◌*◌, ◌<◌}
+use Rattle.laws.specs.Kit.{sym, ◌∙◌, ap, subst, arith, rules}
 use Rattle.plane.specs.Vectors.{vec}
 use Rattle.edge_candidates.specs.Wanted.{turn, near}
 use Rattle.edge_candidates.specs.Wishes.{Tested, kept_test}

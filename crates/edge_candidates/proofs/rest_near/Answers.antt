@@ -1,5 +1,6 @@
 -- The loop's invariant: the nodes from place k to place i give no ideal that is near. The measure is how many are left.
-use Rattle.laws.specs.Kit.{◌≡◌, sym, ◌∙◌, ap, subst, false, ℕ, ◌-◌, ◌<◌, ◌≤◌, arith, rules}
+use Rattle.std.specs.Prelude.{◌≡◌, ◌-◌, ◌<◌, ◌≤◌}
+use Rattle.laws.specs.Kit.{sym, ◌∙◌, ap, subst, false, ℕ, arith, rules}
 use Rattle.plane.specs.Points.{Within}
 use Rattle.plane.specs.Vectors.{vec}
 use Rattle.edge_candidates.specs.Wanted.{near}

@@ -1,5 +1,6 @@
 -- The measure is how many ideals are left.
-use Rattle.laws.specs.Kit.{◌≡◌, sym, ◌∙◌, ap, false≢true, ◌-◌, ◌≤◌, arith, rules}
+use Rattle.std.specs.Prelude.{◌≡◌, ◌-◌, ◌≤◌}
+use Rattle.laws.specs.Kit.{sym, ◌∙◌, ap, false≢true, arith, rules}
 use Rattle.plane.specs.Vectors.{vec}
 use Rattle.edge_candidates.specs.Wanted.{near}
 use Rattle.edge_candidates.specs.Wishes.{kept_test}

@@ -1,5 +1,6 @@
 -- The first node, then the second.
-use Rattle.laws.specs.Kit.{sym, subst, ℕ, ◌+◌, ◌*◌, ◌<◌, arith, List, length, get_or, set, length-set}
+use Rattle.std.specs.Prelude.{◌+◌, ◌*◌, ◌<◌}
+use Rattle.laws.specs.Kit.{sym, subst, ℕ, arith, List, length, get_or, set, length-set}
 use Rattle.front_edges.specs.Noting.{CopyTo}
 use Rattle.front_edges.proofs.Copies.{copy_done}
 use Rattle.front_edges.proofs.copy_edge.Goals as goal

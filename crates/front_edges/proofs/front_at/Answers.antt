@@ -1,5 +1,6 @@
 -- The edges gathered, then sorted by their second nodes.
-use Rattle.laws.specs.Kit.{subst, ℕ, ◌+◌, arith}
+use Rattle.std.specs.Prelude.{◌+◌}
+use Rattle.laws.specs.Kit.{subst, ℕ, arith}
 use Rattle.front_edges.specs.Rows.{SortTo}
 use Rattle.front_edges.proofs.Gathers.{can_sort, sorted}
 use Rattle.front_edges.proofs.front_at.Goals as goal

@@ -1,5 +1,6 @@
 -- The front edges of the nodes below u stand in the first k places.
-use Rattle.laws.specs.Kit.{◌≡◌, ◌-◌, ◌≤◌, length}
+use Rattle.std.specs.Prelude.{◌≡◌, ◌-◌, ◌≤◌}
+use Rattle.laws.specs.Kit.{length}
 use Rattle.definition.specs.Cells.{Mesh}
 use Rattle.cells.specs.Rep.{Rep}
 use Rattle.front_edges.proofs.Fronts.{Sofar}

@@ -1,5 +1,6 @@
 -- A number that 4 divides is followed by three more below the word's bound.
-use Rattle.laws.specs.Kit.{◌≡◌, sym, ap, subst, ℕ, ◌+◌, ◌%◌, arith, get_or, set}
+use Rattle.std.specs.Prelude.{◌≡◌, ◌+◌, ◌%◌}
+use Rattle.laws.specs.Kit.{sym, ap, subst, ℕ, arith, get_or, set}
 use Rattle.front_edges.proofs.mark.Goals as goal
 
 pub overflow_add-w : goal.overflow_add-w

@@ -1,5 +1,6 @@
 -- By the note where it has a front part.
-use Rattle.laws.specs.Kit.{◌≡◌, ap, subst, ℕ, ◌+◌, ◌%◌, get_or}
+use Rattle.std.specs.Prelude.{◌≡◌, ◌+◌, ◌%◌}
+use Rattle.laws.specs.Kit.{ap, subst, ℕ, get_or}
 use Rattle.front_edges.proofs.node_fronts.Goals as goal
 
 pub walk_and_note-requires : goal.walk_and_note-requires

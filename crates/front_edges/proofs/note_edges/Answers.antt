@@ -1,5 +1,6 @@
 -- As many edges as the places tell.
-use Rattle.laws.specs.Kit.{refl, ◌+◌, arith, [], ◌∷◌, get_or}
+use Rattle.std.specs.Prelude.{◌+◌, ◌∷◌}
+use Rattle.laws.specs.Kit.{refl, arith, [], get_or}
 use Rattle.cells.specs.Layout.{front_v_at}
 use Rattle.front_edges.proofs.Noting.{note_left, note_done, none_is, one_is, two_is}
 use Rattle.front_edges.proofs.note_edges.Goals as goal

@@ -1,5 +1,6 @@
 -- The other end, then the note's word.
-use Rattle.laws.specs.Kit.{◌∙◌, ◌+◌, ◌*◌, arith, get_or, length-set}
+use Rattle.std.specs.Prelude.{◌+◌, ◌*◌}
+use Rattle.laws.specs.Kit.{◌∙◌, arith, get_or, length-set}
 use Rattle.front_edges.proofs.Noting.{can_mark, one_written}
 use Rattle.front_edges.proofs.note_one.Goals as goal
 

@@ -1,5 +1,6 @@
 -- Both other ends, then the note's word.
-use Rattle.laws.specs.Kit.{◌∙◌, ◌+◌, ◌*◌, ◌<◌, arith, length, get_or, set, length-set}
+use Rattle.std.specs.Prelude.{◌+◌, ◌*◌, ◌<◌}
+use Rattle.laws.specs.Kit.{◌∙◌, arith, length, get_or, set, length-set}
 use Rattle.front_edges.proofs.Noting.{can_mark, two_written}
 use Rattle.front_edges.proofs.note_two.Goals as goal
 

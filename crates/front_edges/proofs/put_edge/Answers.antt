@@ -1,5 +1,6 @@
 -- The first node, then the second.
-use Rattle.laws.specs.Kit.{sym, subst, ℕ, ◌+◌, ◌<◌, arith, List, length, set, length-set}
+use Rattle.std.specs.Prelude.{◌+◌, ◌<◌}
+use Rattle.laws.specs.Kit.{sym, subst, ℕ, arith, List, length, set, length-set}
 use Rattle.front_edges.specs.Runs.{PutTo}
 use Rattle.front_edges.proofs.Puts.{put_done}
 use Rattle.front_edges.proofs.put_edge.Goals as goal

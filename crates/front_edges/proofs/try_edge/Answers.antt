@@ -1,5 +1,6 @@
 -- The edge comes in where it passes both tests.
-use Rattle.laws.specs.Kit.{◌≡◌, refl, sym, ◌∙◌, ap, false≢true, ℕ, arith}
+use Rattle.std.specs.Prelude.{◌≡◌}
+use Rattle.laws.specs.Kit.{refl, sym, ◌∙◌, ap, false≢true, ℕ, arith}
 use Rattle.definition.specs.Cells.{Mesh, key, is_front}
 use Rattle.cells.proofs.Edges.{key_swap}
 use Rattle.front_edges.specs.Runs.{passed, taken}

@@ -1,5 +1,6 @@
 -- No joint passed is u-v; the first that is answers.
-use Rattle.laws.specs.Kit.{◌≡◌, sym, ◌∙◌, false, ℕ, ◌-◌, ◌<◌, ◌≤◌, arith, rules, not-suc-le-zero}
+use Rattle.std.specs.Prelude.{◌≡◌, ◌-◌, ◌<◌, ◌≤◌}
+use Rattle.laws.specs.Kit.{sym, ◌∙◌, false, ℕ, arith, rules, not-suc-le-zero}
 use borrow.Author.Count.{below_more}
 use Rattle.definition.specs.Cells.{same_edge}
 use Rattle.joints.specs.Table.{edge_in}

@@ -1,4 +1,5 @@
-use Rattle.laws.specs.Kit.{◌≡◌, refl, ◌∙◌, ◌-◌, ◌≤◌, arith, length, length-set}
+use Rattle.std.specs.Prelude.{◌≡◌, ◌-◌, ◌≤◌}
+use Rattle.laws.specs.Kit.{refl, ◌∙◌, arith, length, length-set}
 use Rattle.definition.specs.Call.{joint_at}
 use Rattle.joints.proofs.Puts.{Begun, begun_none, begun_more, begun_all}
 use Rattle.joints.proofs.put_joints.Given as goal

@@ -1,4 +1,5 @@
-use Rattle.laws.specs.Kit.{◌≡◌, sym, ◌∙◌, ap, ◌-◌, arith, rules, List, length}
+use Rattle.std.specs.Prelude.{◌≡◌, ◌-◌}
+use Rattle.laws.specs.Kit.{sym, ◌∙◌, ap, arith, rules, List, length}
 use Rattle.leftovers.proofs.Orders.{tris_all, tris_below}
 use Rattle.leftovers.proofs.Texts.{Writing, writing_none, writing_more}
 use Rattle.definition.specs.Lists.{flat_map}

@@ -1,5 +1,6 @@
 -- `header`: the line of names, then four values, each with its byte.
-use Rattle.laws.specs.Kit.{◌≡◌, drop}
+use Rattle.std.specs.Prelude.{◌≡◌}
+use Rattle.laws.specs.Kit.{drop}
 use Rattle.reading.proofs.Chains.{found}
 use Rattle.reading.proofs.Heads.{no_names, no_triangles, no_points, no_size, no_rule, all_read, within}
 use Rattle.definition.specs.Text.{exactly, bytes, hex, one_digit}

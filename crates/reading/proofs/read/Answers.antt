@@ -1,5 +1,6 @@
 -- `read`: the length, the line of numbers, the two lists, the end. A law for each way out.
-use Rattle.laws.specs.Kit.{◌≡◌, subst, ◌≤◌, arith, length, drop}
+use Rattle.std.specs.Prelude.{◌≡◌, ◌≤◌}
+use Rattle.laws.specs.Kit.{subst, arith, length, drop}
 use Rattle.reading.proofs.Chains.{found}
 use Rattle.reading.proofs.Wholes.{too_long, no_start, no_triangles, no_points, more, all_read}
 use Rattle.definition.specs.Lists.{rows}

@@ -1,5 +1,6 @@
 -- Without the profile nothing is tested; in it the size, then the points.
-use Rattle.laws.specs.Kit.{◌≡◌, refl, true, false, rules, not-true, not-false}
+use Rattle.std.specs.Prelude.{◌≡◌}
+use Rattle.laws.specs.Kit.{refl, true, false, rules, not-true, not-false}
 use Rattle.definition.specs.Floats.{0·0, f64}
 use Rattle.definition.specs.Call.{given_points, bad_grid}
 use Rattle.refusals.proofs.bad_grid.Goals as goal

@@ -1,5 +1,6 @@
 -- No joint passed is bad; the first that is answers.
-use Rattle.laws.specs.Kit.{◌≡◌, sym, ◌∙◌, false, ℕ, ◌-◌, ◌<◌, ◌≤◌, arith, rules, not-suc-le-zero}
+use Rattle.std.specs.Prelude.{◌≡◌, ◌-◌, ◌<◌, ◌≤◌}
+use Rattle.laws.specs.Kit.{sym, ◌∙◌, false, ℕ, arith, rules, not-suc-le-zero}
 use borrow.Author.Count.{below_more}
 use Rattle.definition.specs.Call.{joint_at, bad_joint}
 use Rattle.laws.specs.Bools.{never, holds}

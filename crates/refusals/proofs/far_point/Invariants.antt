@@ -1,4 +1,5 @@
-use Rattle.laws.specs.Kit.{◌≡◌, sym, ◌∙◌, ap, false, ℕ, ◌+◌, ◌-◌, ◌*◌, ◌<◌, ◌≤◌, arith, rules, not-suc-le-zero, get_or}
+use Rattle.std.specs.Prelude.{◌≡◌, ◌+◌, ◌-◌, ◌*◌, ◌<◌, ◌≤◌}
+use Rattle.laws.specs.Kit.{sym, ◌∙◌, ap, false, ℕ, arith, rules, not-suc-le-zero, get_or}
 use borrow.Author.Count.{below_more}
 use Rattle.definition.specs.Floats.{0·0}
 use Rattle.definition.specs.Call.{point_at, outside}

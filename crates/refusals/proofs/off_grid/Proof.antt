@@ -1,5 +1,6 @@
 -- Of doubles within the limit the two tests are the definition's.
-use Rattle.laws.specs.Kit.{◌≡◌, sym, ◌∙◌, ap, false, not, ◌&&◌, rules, Float, binary64}
+use Rattle.std.specs.Prelude.{◌≡◌, ◌&&◌}
+use Rattle.laws.specs.Kit.{sym, ◌∙◌, ap, false, not, rules, Float, binary64}
 use Rattle.definition.specs.Floats.{finite}
 use Rattle.definition.specs.Call.{grid_node}
 use Rattle.laws.specs.Bools.{both, to_T}

@@ -1,5 +1,6 @@
 -- Every point passed is on the grid; the first that is not answers.
-use Rattle.laws.specs.Kit.{◌≡◌, refl, sym, ◌∙◌, ap, false, not, ℕ, ◌+◌, ◌-◌, ◌*◌, ◌<◌, ◌≤◌, arith, not-suc-le-zero, [], get_or}
+use Rattle.std.specs.Prelude.{◌≡◌, ◌+◌, ◌-◌, ◌*◌, ◌<◌, ◌≤◌}
+use Rattle.laws.specs.Kit.{refl, sym, ◌∙◌, ap, false, not, ℕ, arith, not-suc-le-zero, [], get_or}
 use borrow.Author.Count.{below_more}
 use Rattle.definition.specs.Floats.{0·0}
 use Rattle.definition.specs.Call.{Lent, point_at, outside, grid_node}

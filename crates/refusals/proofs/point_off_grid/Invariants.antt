@@ -1,4 +1,5 @@
-use Rattle.laws.specs.Kit.{◌≡◌, refl, sym, ◌∙◌, ap, false, not, ℕ, ◌+◌, ◌-◌, ◌*◌, ◌<◌, ◌≤◌, arith, not-suc-le-zero, [], get_or}
+use Rattle.std.specs.Prelude.{◌≡◌, ◌+◌, ◌-◌, ◌*◌, ◌<◌, ◌≤◌}
+use Rattle.laws.specs.Kit.{refl, sym, ◌∙◌, ap, false, not, ℕ, arith, not-suc-le-zero, [], get_or}
 use borrow.Author.Count.{below_more}
 use Rattle.definition.specs.Floats.{0·0}
 use Rattle.definition.specs.Call.{Lent, point_at, outside, grid_node}

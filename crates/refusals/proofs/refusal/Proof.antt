@@ -1,5 +1,6 @@
 -- One refusal after the other, in the definition's order; `no-k` is what passing test k gave.
-use Rattle.laws.specs.Kit.{◌≡◌, sym, ◌∙◌, false, cond, arith, rules}
+use Rattle.std.specs.Prelude.{◌≡◌}
+use Rattle.laws.specs.Kit.{sym, ◌∙◌, false, cond, arith, rules}
 use Rattle.definition.specs.Call.{Lent, over_limit, bad_size, bad_stop, bad_quality, too_short, unknown_node, repeated_node, far_point, bad_grid, bad_joints}
 use Rattle.refusals.specs.Stated.{asked, Lends, blank, blank_lends}
 use Rattle.refusals.specs.Passed.{Roomy, limited, roomy}

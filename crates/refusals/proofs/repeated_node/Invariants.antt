@@ -1,4 +1,5 @@
-use Rattle.laws.specs.Kit.{◌≡◌, sym, ◌∙◌, false, ℕ, ◌-◌, ◌<◌, ◌≤◌, arith, rules, not-suc-le-zero}
+use Rattle.std.specs.Prelude.{◌≡◌, ◌-◌, ◌<◌, ◌≤◌}
+use Rattle.laws.specs.Kit.{sym, ◌∙◌, false, ℕ, arith, rules, not-suc-le-zero}
 use borrow.Author.Count.{below_more}
 use Rattle.definition.specs.Call.{tri_at, twice}
 use Rattle.laws.specs.Bools.{never, holds}

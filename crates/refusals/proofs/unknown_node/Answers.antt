@@ -1,5 +1,6 @@
 -- Every entry passed is below the given points; the first that is not answers.
-use Rattle.laws.specs.Kit.{sym, ℕ, ◌-◌, ◌<◌, ◌≤◌, arith, rules, get_or}
+use Rattle.std.specs.Prelude.{◌-◌, ◌<◌, ◌≤◌}
+use Rattle.laws.specs.Kit.{sym, ℕ, arith, rules, get_or}
 use borrow.Author.Count.{below_more}
 use Rattle.laws.specs.Bools.{holds}
 use Rattle.refusals.specs.Stated.{asked}

@@ -1,4 +1,5 @@
-use Rattle.laws.specs.Kit.{sym, ℕ, ◌-◌, ◌<◌, ◌≤◌, arith, rules, get_or}
+use Rattle.std.specs.Prelude.{◌-◌, ◌<◌, ◌≤◌}
+use Rattle.laws.specs.Kit.{sym, ℕ, arith, rules, get_or}
 use borrow.Author.Count.{below_more}
 use Rattle.laws.specs.Bools.{holds}
 use Rattle.refusals.specs.Stated.{asked}

@@ -1,6 +1,7 @@
 -- The loop's invariant: the codes from t up to c are the sentinels of empty rings, and nothing else changed.
 -- The measure is what is left.
-use Rattle.laws.specs.Kit.{◌+◌, ◌-◌, arith, rules, length-set}
+use Rattle.std.specs.Prelude.{◌+◌, ◌-◌}
+use Rattle.laws.specs.Kit.{arith, rules, length-set}
 use Rattle.laws.specs.Frames.{only_refl}
 use Rattle.rings.proofs.Opens.{Opened, open_more, open_done}
 use Rattle.rings.proofs.open.Goals as goal

@@ -1,4 +1,5 @@
-use Rattle.laws.specs.Kit.{◌+◌, ◌-◌, arith, rules, length-set}
+use Rattle.std.specs.Prelude.{◌+◌, ◌-◌}
+use Rattle.laws.specs.Kit.{arith, rules, length-set}
 use Rattle.laws.specs.Frames.{only_refl}
 use Rattle.rings.proofs.Opens.{Opened, open_more, open_done}
 use Rattle.rings.proofs.open.Given as goal

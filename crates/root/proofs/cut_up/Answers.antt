@@ -1,5 +1,6 @@
 -- `root::cut_up` meets its contract, by `proofs/Cut.antt`. Assumes nothing.
-use Rattle.laws.specs.Kit.{sym, ◌∙◌, ap, ℕ, ◌+◌, ◌^◌, arith, rules, lit<, binary64, of_bits}
+use Rattle.std.specs.Prelude.{◌+◌, ◌^◌}
+use Rattle.laws.specs.Kit.{sym, ◌∙◌, ap, ℕ, arith, rules, lit<, binary64, of_bits}
 use Rattle.definition.specs.Root.{floor}
 use Rattle.root.proofs.Cut.{code_zero, code_low_up, code_same, code_up}
 use Rattle.root.proofs.cut_up.Goals as goal

@@ -1,5 +1,6 @@
 -- `root::floor` meets its contract, by `proofs/Cut.antt`. Assumes nothing.
-use Rattle.laws.specs.Kit.{◌+◌, ◌^◌, arith, rules}
+use Rattle.std.specs.Prelude.{◌+◌, ◌^◌}
+use Rattle.laws.specs.Kit.{arith, rules}
 use Rattle.laws.specs.Numbers.{no_nan, no_nan_bits}
 use Rattle.laws.specs.Bools.{to_T}
 use Rattle.root.proofs.Cut.{floor_nan, floor_large, floor_down, floor_up}

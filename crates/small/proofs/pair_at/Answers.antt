@@ -2,7 +2,8 @@
 -- The loop's invariant: the pair asked for stands at `left` of the pairs of `first`
 -- and the `after` numbers behind it.
 -- The measure is `after`.
-use Rattle.laws.specs.Kit.{sym, ◌+◌, arith, [], ◌∷◌}
+use Rattle.std.specs.Prelude.{◌+◌, ◌∷◌}
+use Rattle.laws.specs.Kit.{sym, arith, []}
 use Rattle.small.proofs.Places.{CountingOff, begun, passed, reached, ones, single}
 use Rattle.small.proofs.pair_at.Goals as goal
 

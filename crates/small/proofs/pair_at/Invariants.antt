@@ -1,4 +1,5 @@
-use Rattle.laws.specs.Kit.{sym, ◌+◌, arith, [], ◌∷◌}
+use Rattle.std.specs.Prelude.{◌+◌, ◌∷◌}
+use Rattle.laws.specs.Kit.{sym, arith, []}
 use Rattle.small.proofs.Places.{CountingOff, begun, passed, reached, ones, single}
 use Rattle.small.proofs.pair_at.Given as goal
 

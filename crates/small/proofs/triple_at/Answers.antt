@@ -2,7 +2,8 @@
 -- The loop's invariant: the triple asked for stands at `left` of the triples of `first` and the `after` numbers
 -- behind it, and `block` is how many pairs those have.
 -- The measure is `after`.
-use Rattle.laws.specs.Kit.{◌≡◌, arith, [], ◌∷◌}
+use Rattle.std.specs.Prelude.{◌≡◌, ◌∷◌}
+use Rattle.laws.specs.Kit.{arith, []}
 use Rattle.small.specs.Counts.{choices}
 use Rattle.small.proofs.Places.{CountingOff, begun, passed, reached}
 use Rattle.small.proofs.triple_at.Goals as goal

@@ -1,4 +1,5 @@
-use Rattle.laws.specs.Kit.{◌≡◌, arith, [], ◌∷◌}
+use Rattle.std.specs.Prelude.{◌≡◌, ◌∷◌}
+use Rattle.laws.specs.Kit.{arith, []}
 use Rattle.small.specs.Counts.{choices}
 use Rattle.small.proofs.Places.{CountingOff, begun, passed, reached}
 use Rattle.small.proofs.triple_at.Given as goal

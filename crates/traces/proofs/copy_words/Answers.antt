@@ -1,5 +1,6 @@
 -- The loop's invariant: the first k words are those of w.
-use Rattle.laws.specs.Kit.{◌≡◌, refl, subst, ℕ, ◌-◌, arith, rules, ◌++◌, take, drop}
+use Rattle.std.specs.Prelude.{◌≡◌, ◌-◌, ◌++◌}
+use Rattle.laws.specs.Kit.{refl, subst, ℕ, arith, rules, take, drop}
 use Rattle.traces.proofs.Parts.{Copied, copied_more}
 use Rattle.traces.proofs.copy_words.Goals as goal
 

@@ -1,4 +1,5 @@
-use Rattle.laws.specs.Kit.{◌≡◌, refl, subst, ℕ, ◌-◌, arith, rules, ◌++◌, take, drop}
+use Rattle.std.specs.Prelude.{◌≡◌, ◌-◌, ◌++◌}
+use Rattle.laws.specs.Kit.{refl, subst, ℕ, arith, rules, take, drop}
 use Rattle.traces.proofs.Parts.{Copied, copied_more}
 use Rattle.traces.proofs.copy_words.Given as goal
 

@@ -1,4 +1,5 @@
-use Rattle.laws.specs.Kit.{refl, ◌≢◌, ◌+◌, ◌≤◌, arith, rules, length}
+use Rattle.std.specs.Prelude.{◌≢◌, ◌+◌, ◌≤◌}
+use Rattle.laws.specs.Kit.{refl, arith, rules, length}
 use Rattle.definition.specs.Cells.{was_flipped}
 use Rattle.definition.specs.Trace.{entry}
 use Rattle.traces.proofs.Logs.{log_none, log_put, enters_within}

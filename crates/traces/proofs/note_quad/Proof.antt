@@ -1,4 +1,5 @@
-use Rattle.laws.specs.Kit.{◌≡◌, refl, ◌≢◌, ℕ, ◌+◌, ◌-◌, ◌≤◌, arith, rules, List, length}
+use Rattle.std.specs.Prelude.{◌≡◌, ◌≢◌, ◌+◌, ◌-◌, ◌≤◌}
+use Rattle.laws.specs.Kit.{refl, ℕ, arith, rules, List, length}
 use borrow.Rule.Slice.PartMut.{put_mid}
 use Rattle.definition.specs.Cells.{was_placed}
 use Rattle.traces.specs.Log.{heads}

@@ -1,4 +1,5 @@
-use Rattle.laws.specs.Kit.{refl, ◌≢◌, ◌+◌, ◌≤◌, arith, rules, length}
+use Rattle.std.specs.Prelude.{◌≢◌, ◌+◌, ◌≤◌}
+use Rattle.laws.specs.Kit.{refl, arith, rules, length}
 use Rattle.definition.specs.Plane.{flat}
 use Rattle.definition.specs.Cells.{was_split}
 use Rattle.definition.specs.Trace.{two_words, entry}

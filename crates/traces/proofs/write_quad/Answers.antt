@@ -1,4 +1,5 @@
-use Rattle.laws.specs.Kit.{arith, rules, [], ◌∷◌}
+use Rattle.std.specs.Prelude.{◌∷◌}
+use Rattle.laws.specs.Kit.{arith, rules, []}
 use lib.Seq.{lt-length-sets, sets-eq}
 use Rattle.traces.specs.Log.{heads}
 use Rattle.traces.proofs.write_quad.Goals as goal

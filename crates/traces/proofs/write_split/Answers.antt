@@ -1,4 +1,5 @@
-use Rattle.laws.specs.Kit.{◌/◌, ◌%◌, arith, rules, [], ◌∷◌}
+use Rattle.std.specs.Prelude.{◌/◌, ◌%◌, ◌∷◌}
+use Rattle.laws.specs.Kit.{arith, rules, []}
 use lib.Seq.{lt-length-sets}
 use Rattle.traces.proofs.Logs.{split_words}
 use Rattle.traces.proofs.write_split.Goals as goal

@@ -1,5 +1,6 @@
 -- `counted`: the counts are a table of one row of nine.
-use Rattle.laws.specs.Kit.{refl, ap, ◌++◌}
+use Rattle.std.specs.Prelude.{◌++◌}
+use Rattle.laws.specs.Kit.{refl, ap}
 use Rattle.writing.proofs.Puts.{same_text}
 use Rattle.writing.proofs.Parts.{one_line}
 use Rattle.definition.specs.Text.{Bytes, bytes, show}

@@ -1,5 +1,6 @@
 -- `sized`: the lengths are a table of one row of four.
-use Rattle.laws.specs.Kit.{refl, ap, ◌++◌}
+use Rattle.std.specs.Prelude.{◌++◌}
+use Rattle.laws.specs.Kit.{refl, ap}
 use Rattle.writing.proofs.Puts.{same_text}
 use Rattle.writing.proofs.Parts.{one_line}
 use Rattle.definition.specs.Text.{Bytes, bytes, show}

@@ -1,5 +1,6 @@
 -- Both words are stored.
-use Rattle.laws.specs.Kit.{◌≡◌, ◌+◌, ◌*◌, ◌/◌, ◌%◌, arith, rules}
+use Rattle.std.specs.Prelude.{◌≡◌, ◌+◌, ◌*◌, ◌/◌, ◌%◌}
+use Rattle.laws.specs.Kit.{arith, rules}
 use Rattle.sorting.specs.Words.{stored}
 use Rattle.balance.proofs.places.put.Goals as goal
 

@@ -1,4 +1,5 @@
-use Rattle.laws.specs.Kit.{◌≡◌, refl, ◌∙◌, ap, ℕ, ◌+◌, ◌-◌, ◌<◌, ◌≤◌, arith, not-suc-le-zero, length, get_or}
+use Rattle.std.specs.Prelude.{◌≡◌, ◌+◌, ◌-◌, ◌<◌, ◌≤◌}
+use Rattle.laws.specs.Kit.{refl, ◌∙◌, ap, ℕ, arith, not-suc-le-zero, length, get_or}
 use borrow.Author.Count.{below_more}
 use Rattle.sorting.specs.Places.{key_at}
 use Rattle.balance.specs.Codes.{next, side_at, either, code}

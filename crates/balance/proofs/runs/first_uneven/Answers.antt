@@ -1,5 +1,6 @@
 -- The edges passed have as many sides in both directions.
-use Rattle.laws.specs.Kit.{ap, ◌-◌, ◌/◌, arith}
+use Rattle.std.specs.Prelude.{◌-◌, ◌/◌}
+use Rattle.laws.specs.Kit.{ap, arith}
 use Rattle.sorting.specs.Places.{key_at}
 use Rattle.balance.proofs.Passes.{Passed, passed_start, moves, passed_next, first_is}
 use Rattle.balance.proofs.runs.first_uneven.Goals as goal

@@ -1,4 +1,5 @@
-use Rattle.laws.specs.Kit.{ap, ◌-◌, ◌/◌, arith}
+use Rattle.std.specs.Prelude.{◌-◌, ◌/◌}
+use Rattle.laws.specs.Kit.{ap, arith}
 use Rattle.sorting.specs.Places.{key_at}
 use Rattle.balance.proofs.Passes.{Passed, passed_start, moves, passed_next, first_is}
 use Rattle.balance.proofs.runs.first_uneven.Given as goal

@@ -1,5 +1,6 @@
 -- The test that is taken.
-use Rattle.laws.specs.Kit.{◌≡◌, ℕ, arith, eqb-true, eqb-false, not-true, not-false}
+use Rattle.std.specs.Prelude.{◌≡◌}
+use Rattle.laws.specs.Kit.{ℕ, arith, eqb-true, eqb-false, not-true, not-false}
 use Rattle.balance.proofs.runs.is_uneven.Goals as goal
 
 pub returns-then-u-v : goal.returns-then-u-v

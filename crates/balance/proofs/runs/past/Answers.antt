@@ -1,5 +1,6 @@
 -- The places passed have the number k.
-use Rattle.laws.specs.Kit.{◌≡◌, sym, ◌∙◌, ap, ℕ, ◌-◌, ◌<◌, ◌≤◌, arith, ℕ_discrete}
+use Rattle.std.specs.Prelude.{◌≡◌, ◌-◌, ◌<◌, ◌≤◌}
+use Rattle.laws.specs.Kit.{sym, ◌∙◌, ap, ℕ, arith, ℕ_discrete}
 use Rattle.sorting.specs.Places.{key_at}
 use Rattle.balance.proofs.runs.past.Goals as goal
 

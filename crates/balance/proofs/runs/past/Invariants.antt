@@ -1,4 +1,5 @@
-use Rattle.laws.specs.Kit.{◌≡◌, sym, ◌∙◌, ap, ℕ, ◌-◌, ◌<◌, ◌≤◌, arith, ℕ_discrete}
+use Rattle.std.specs.Prelude.{◌≡◌, ◌-◌, ◌<◌, ◌≤◌}
+use Rattle.laws.specs.Kit.{sym, ◌∙◌, ap, ℕ, arith, ℕ_discrete}
 use Rattle.sorting.specs.Places.{key_at}
 use Rattle.balance.proofs.runs.past.Given as goal
 

@@ -1,6 +1,7 @@
 -- Met are those up to the corner c, where the next one is, unless the ring ends there.
 -- Each one more is listed, and there is room for so many.
-use Rattle.laws.specs.Kit.{◌≡◌, refl, ◌∙◌, ◌+◌, ◌-◌, ◌^◌, ◌≤◌, arith, rules, List, length}
+use Rattle.std.specs.Prelude.{◌≡◌, ◌+◌, ◌-◌, ◌^◌, ◌≤◌}
+use Rattle.laws.specs.Kit.{refl, ◌∙◌, arith, rules, List, length}
 use Rattle.definition.specs.Cells.{Mesh, Live}
 use Rattle.components.specs.Flood.{Marked}
 use Rattle.components.proofs.Grows.{few}

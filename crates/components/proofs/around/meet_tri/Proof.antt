@@ -1,4 +1,5 @@
-use Rattle.laws.specs.Kit.{◌∙◌, arith, rules, List, ◌++◌}
+use Rattle.std.specs.Prelude.{◌++◌}
+use Rattle.laws.specs.Kit.{◌∙◌, arith, rules, List}
 use Rattle.definition.specs.Cells.{Mesh, Live}
 use Rattle.cells.specs.Rep.{TriIn}
 use Rattle.cells.proofs.Slots.{rep_see}

@@ -1,5 +1,6 @@
 -- The flood goes on: what is listed and crossed is a flood from the same triangle, and never fewer are listed.
-use Rattle.laws.specs.Kit.{◌≡◌, refl, ◌∙◌, ◌+◌, ◌-◌, ◌^◌, ◌≤◌, arith, rules, List, ◌∷◌, ◌++◌, length}
+use Rattle.std.specs.Prelude.{◌≡◌, ◌+◌, ◌-◌, ◌^◌, ◌≤◌, ◌∷◌, ◌++◌}
+use Rattle.laws.specs.Kit.{refl, ◌∙◌, arith, rules, List, length}
 use Rattle.definition.specs.Cells.{Mesh, Live}
 use Rattle.components.specs.Flood.{Beside, Flooding}
 use Rattle.components.proofs.Floods.{flood_few, flood_can, popped, popped_tri, flood_on}

@@ -1,4 +1,5 @@
-use Rattle.laws.specs.Kit.{◌≡◌, refl, ◌∙◌, ◌-◌, ◌^◌, ◌≤◌, arith, rules, List, [], length}
+use Rattle.std.specs.Prelude.{◌≡◌, ◌-◌, ◌^◌, ◌≤◌}
+use Rattle.laws.specs.Kit.{refl, ◌∙◌, arith, rules, List, [], length}
 use Rattle.definition.specs.Cells.{Mesh, Live}
 use Rattle.regions.specs.Listing.{Listed}
 use Rattle.regions.proofs.Listings.{few, aside_trans}

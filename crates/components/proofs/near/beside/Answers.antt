@@ -1,5 +1,6 @@
 -- One of the region after the other: no triangle beside those passed is left.
-use Rattle.laws.specs.Kit.{ℕ, ◌-◌, arith, rules, List}
+use Rattle.std.specs.Prelude.{◌-◌}
+use Rattle.laws.specs.Kit.{ℕ, arith, rules, List}
 use Rattle.definition.specs.Cells.{Mesh, Live}
 use Rattle.components.specs.Flood.{Beside}
 use Rattle.components.specs.Near.{BesideOne, Around}

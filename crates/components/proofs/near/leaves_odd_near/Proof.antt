@@ -1,5 +1,6 @@
 -- Piece after piece: those taken are whole and even, and t is a triangle beside the region that is not listed.
-use Rattle.laws.specs.Kit.{◌≡◌, refl, ◌∙◌, ◌-◌, ◌<◌, ◌≤◌, arith, List, ◌++◌, length}
+use Rattle.std.specs.Prelude.{◌≡◌, ◌-◌, ◌<◌, ◌≤◌, ◌++◌}
+use Rattle.laws.specs.Kit.{refl, ◌∙◌, arith, List, length}
 use Rattle.definition.specs.Cells.{Mesh, Live}
 use Rattle.components.specs.Flood.{Marked, tri_live}
 use Rattle.components.specs.Near.{Pieced}

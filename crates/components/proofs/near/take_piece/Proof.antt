@@ -1,5 +1,6 @@
 -- Stretch after stretch: the flood so far, with what the last look around the region found.
-use Rattle.laws.specs.Kit.{◌≡◌, refl, ◌∙◌, ◌-◌, ◌^◌, ◌<◌, ◌≤◌, arith, List, ◌++◌, length}
+use Rattle.std.specs.Prelude.{◌≡◌, ◌-◌, ◌^◌, ◌<◌, ◌≤◌, ◌++◌}
+use Rattle.laws.specs.Kit.{refl, ◌∙◌, arith, List, length}
 use Rattle.definition.specs.Cells.{Mesh, Live}
 use Rattle.rings.specs.Rings.{Out}
 use Rattle.cells.specs.Rep.{TriIn, slots}

@@ -1,4 +1,5 @@
-use Rattle.laws.specs.Kit.{◌≡◌, refl, ◌∙◌, ◌-◌, ◌^◌, ◌≤◌, arith, rules, List, ◌++◌, length}
+use Rattle.std.specs.Prelude.{◌≡◌, ◌-◌, ◌^◌, ◌≤◌, ◌++◌}
+use Rattle.laws.specs.Kit.{refl, ◌∙◌, arith, rules, List, length}
 use Rattle.definition.specs.Cells.{Mesh, Live}
 use Rattle.components.specs.Flood.{Marked}
 use Rattle.components.proofs.Sweeps.{joined}

@@ -1,5 +1,6 @@
 -- The box bounds the nodes of the places that were passed; what is still to come has every other neighbour.
-use Rattle.laws.specs.Kit.{◌+◌, ◌*◌, arith, Float}
+use Rattle.std.specs.Prelude.{◌+◌, ◌*◌}
+use Rattle.laws.specs.Kit.{arith, Float}
 use Rattle.definition.specs.Cells.{Mesh}
 use Rattle.cells.specs.Walk.{left}
 use Rattle.crossings.specs.Cross.{Known}

@@ -1,4 +1,5 @@
-use Rattle.laws.specs.Kit.{◌+◌, ◌*◌, arith, Float}
+use Rattle.std.specs.Prelude.{◌+◌, ◌*◌}
+use Rattle.laws.specs.Kit.{arith, Float}
 use Rattle.definition.specs.Cells.{Mesh}
 use Rattle.cells.specs.Walk.{left}
 use Rattle.crossings.specs.Cross.{Known}

@@ -1,4 +1,5 @@
-use Rattle.laws.specs.Kit.{◌∙◌, ap, ℕ, ◌+◌, rules, get_or}
+use Rattle.std.specs.Prelude.{◌+◌}
+use Rattle.laws.specs.Kit.{◌∙◌, ap, ℕ, rules, get_or}
 use Rattle.crossings.proofs.boxes.note_of.Goals as goal
 
 pub returns : goal.returns

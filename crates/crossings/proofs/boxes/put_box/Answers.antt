@@ -1,4 +1,5 @@
-use Rattle.laws.specs.Kit.{◌≡◌, ap, ℕ, ◌+◌, arith, rules, get_or, length-set}
+use Rattle.std.specs.Prelude.{◌≡◌, ◌+◌}
+use Rattle.laws.specs.Kit.{ap, ℕ, arith, rules, get_or, length-set}
 use Rattle.cells.specs.Notes.{note}
 use Rattle.crossings.proofs.Noted.{put_is}
 use Rattle.crossings.proofs.boxes.put_box.Goals as goal

@@ -1,4 +1,5 @@
-use Rattle.laws.specs.Kit.{◌≡◌, ◌∙◌, ap, ℕ, ◌+◌, ◌*◌, rules, get_or}
+use Rattle.std.specs.Prelude.{◌≡◌, ◌+◌, ◌*◌}
+use Rattle.laws.specs.Kit.{◌∙◌, ap, ℕ, rules, get_or}
 use Rattle.plane.specs.Points.{ground}
 use Rattle.definition.specs.Call.{point_at}
 use Rattle.cells.specs.Notes.{bound}

@@ -1,4 +1,5 @@
-use Rattle.laws.specs.Kit.{◌≡◌, refl, sym, ◌∙◌, false, ◌<◌, arith, rules, not-true, not-false}
+use Rattle.std.specs.Prelude.{◌≡◌, ◌<◌}
+use Rattle.laws.specs.Kit.{refl, sym, ◌∙◌, false, arith, rules, not-true, not-false}
 use Rattle.definition.specs.Plane.{parts}
 use Rattle.definition.specs.Cells.{Mesh}
 use Rattle.definition.specs.Call.{point_at}

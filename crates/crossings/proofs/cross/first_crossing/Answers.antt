@@ -1,5 +1,6 @@
 -- Where no edge of a node below `from` crosses, none of a node below a does; the memory stands for the same mesh.
-use Rattle.laws.specs.Kit.{◌∙◌, ◌-◌, ◌≤◌, arith, rules}
+use Rattle.std.specs.Prelude.{◌-◌, ◌≤◌}
+use Rattle.laws.specs.Kit.{◌∙◌, arith, rules}
 use Rattle.definition.specs.Cells.{Mesh}
 use Rattle.laws.specs.Frames.{Keeps, keeps_refl, keeps_trans}
 use Rattle.cells.specs.Layout.{mesh_end}

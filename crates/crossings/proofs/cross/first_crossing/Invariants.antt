@@ -1,4 +1,5 @@
-use Rattle.laws.specs.Kit.{◌∙◌, ◌-◌, ◌≤◌, arith, rules}
+use Rattle.std.specs.Prelude.{◌-◌, ◌≤◌}
+use Rattle.laws.specs.Kit.{◌∙◌, arith, rules}
 use Rattle.definition.specs.Cells.{Mesh}
 use Rattle.laws.specs.Frames.{Keeps, keeps_refl, keeps_trans}
 use Rattle.cells.specs.Layout.{mesh_end}

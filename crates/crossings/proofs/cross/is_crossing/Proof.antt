@@ -1,4 +1,5 @@
-use Rattle.laws.specs.Kit.{◌≡◌, rules, not-true, not-false}
+use Rattle.std.specs.Prelude.{◌≡◌}
+use Rattle.laws.specs.Kit.{rules, not-true, not-false}
 use Rattle.definition.specs.Plane.{segments_cross}
 use Rattle.definition.specs.Call.{point_at}
 use Rattle.crossings.proofs.Tests.{parts_side, cross_rest, shares_a, shares_b, parts_not, parts_rest}

@@ -1,5 +1,6 @@
 use Rattle.crossings.proofs.Tests.{drawn, can_try, ring_read}
-use Rattle.laws.specs.Kit.{◌+◌, ◌*◌, arith}
+use Rattle.std.specs.Prelude.{◌+◌, ◌*◌}
+use Rattle.laws.specs.Kit.{arith}
 use Rattle.definition.specs.Cells.{Mesh}
 use Rattle.cells.specs.Walk.{left}
 use Rattle.crossings.specs.Cross.{Known}

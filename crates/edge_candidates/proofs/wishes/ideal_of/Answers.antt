@@ -1,4 +1,5 @@
-use Rattle.laws.specs.Kit.{◌≡◌, sym, ◌∙◌, ap, subst, true, false, arith, rules, Float}
+use Rattle.std.specs.Prelude.{◌≡◌}
+use Rattle.laws.specs.Kit.{sym, ◌∙◌, ap, subst, true, false, arith, rules, Float}
 use Rattle.definition.specs.Floats.{◌≺◌, ◌≼◌, 0·2, 1e-12, f64}
 use Rattle.definition.specs.Numbers.{ideal_sum, tiny_length}
 use Rattle.definition.specs.Plane.{Vec, norm, over}

@@ -1,6 +1,7 @@
 -- The loop's invariant: all nodes that give an ideal but those whose edges with a the cells to come have are listed.
 -- The measure is how many links are left.
-use Rattle.laws.specs.Kit.{◌≡◌, refl, sym, ◌∙◌, subst, ℕ, arith, rules, length}
+use Rattle.std.specs.Prelude.{◌≡◌}
+use Rattle.laws.specs.Kit.{refl, sym, ◌∙◌, subst, ℕ, arith, rules, length}
 use Rattle.definition.specs.Cells.{Mesh}
 use Rattle.cells.specs.Walk.{left}
 use Rattle.plane.specs.Vectors.{vec}

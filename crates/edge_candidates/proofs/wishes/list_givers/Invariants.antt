@@ -1,4 +1,5 @@
-use Rattle.laws.specs.Kit.{◌≡◌, refl, sym, ◌∙◌, subst, ℕ, arith, rules, length}
+use Rattle.std.specs.Prelude.{◌≡◌}
+use Rattle.laws.specs.Kit.{refl, sym, ◌∙◌, subst, ℕ, arith, rules, length}
 use Rattle.definition.specs.Cells.{Mesh}
 use Rattle.cells.specs.Walk.{left}
 use Rattle.plane.specs.Vectors.{vec}

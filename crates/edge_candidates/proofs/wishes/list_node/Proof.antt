@@ -1,4 +1,5 @@
-use Rattle.laws.specs.Kit.{◌≡◌, refl, sym, ◌∙◌, true, ◌+◌, arith, not-true, not-false, length-set}
+use Rattle.std.specs.Prelude.{◌≡◌, ◌+◌}
+use Rattle.laws.specs.Kit.{refl, sym, ◌∙◌, true, arith, not-true, not-false, length-set}
 use Rattle.plane.specs.Vectors.{vec}
 use Rattle.edge_candidates.proofs.Keeping.{node_none, node_some}
 use Rattle.edge_candidates.proofs.wishes.list_node.Statement.{statement}

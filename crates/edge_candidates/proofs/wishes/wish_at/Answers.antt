@@ -1,4 +1,5 @@
-use Rattle.laws.specs.Kit.{◌≡◌, refl, ◌∙◌, ap, rules, Float}
+use Rattle.std.specs.Prelude.{◌≡◌}
+use Rattle.laws.specs.Kit.{refl, ◌∙◌, ap, rules, Float}
 use Rattle.definition.specs.Floats.{◌≼◌, 1e-12, f64}
 use Rattle.definition.specs.Numbers.{tiny_length}
 use Rattle.definition.specs.Plane.{Vec, norm, over}

@@ -1,5 +1,6 @@
 -- One refusal after the other, in the definition's order.
-use Rattle.laws.specs.Kit.{◌≡◌, refl, sym, ◌∙◌, ap, false, rules, lt-ltb, le-ltb}
+use Rattle.std.specs.Prelude.{◌≡◌}
+use Rattle.laws.specs.Kit.{refl, sym, ◌∙◌, ap, false, rules, lt-ltb, le-ltb}
 use Rattle.definition.specs.Floats.{0·0, f64}
 use Rattle.definition.specs.Call.{most_given, unknown_node, repeated_node, far_point}
 use Rattle.refusals.specs.Stated as stated

@@ -1,4 +1,4 @@
-use Rattle.laws.specs.Kit.{◌≡◌, ◌-◌, ◌≤◌}
+use Rattle.std.specs.Prelude.{◌≡◌, ◌-◌, ◌≤◌}
 use Rattle.sorting.specs.Places.{key_at}
 use Rattle.filing.specs.Filing.{order_numbers}
 use Rattle.filing.proofs.Marks.{whole, rest}

@@ -1,5 +1,6 @@
 -- By x, and by y where x is the same.
-use Rattle.laws.specs.Kit.{sym, ◌∙◌, ◌+◌, ◌*◌, arith, get_or, nan}
+use Rattle.std.specs.Prelude.{◌+◌, ◌*◌}
+use Rattle.laws.specs.Kit.{sym, ◌∙◌, arith, get_or, nan}
 use Rattle.filing.specs.Filing.{then, order_floats}
 use Rattle.filing.proofs.Marks.{decides, passes_on, read_points}
 use Rattle.filing.proofs.orders.order_point.Goals as goal

@@ -1,4 +1,4 @@
-use Rattle.laws.specs.Kit.{◌≡◌, ◌-◌, ◌≤◌}
+use Rattle.std.specs.Prelude.{◌≡◌, ◌-◌, ◌≤◌}
 use Rattle.definition.specs.Call.{point_at}
 use Rattle.filing.specs.Filing.{order_points}
 use Rattle.filing.proofs.Marks.{whole, rest}

@@ -1,5 +1,6 @@
 -- Both coordinates are the same.
-use Rattle.laws.specs.Kit.{sym, ◌∙◌, ap, ◌+◌, ◌*◌, arith, get_or, nan}
+use Rattle.std.specs.Prelude.{◌+◌, ◌*◌}
+use Rattle.laws.specs.Kit.{sym, ◌∙◌, ap, arith, get_or, nan}
 use Rattle.filing.specs.Filing.{is_same, order_floats}
 use Rattle.filing.proofs.Marks.{decides, passes_on, read_points}
 use Rattle.filing.proofs.orders.same_point.Goals as goal

@@ -1,5 +1,6 @@
 -- Both words are stored.
-use Rattle.laws.specs.Kit.{◌≡◌, ◌+◌, ◌*◌, ◌/◌, ◌%◌, arith, rules}
+use Rattle.std.specs.Prelude.{◌≡◌, ◌+◌, ◌*◌, ◌/◌, ◌%◌}
+use Rattle.laws.specs.Kit.{arith, rules}
 use Rattle.definition.specs.Cells.{new_tri}
 use Rattle.filing.specs.Places.{key}
 use Rattle.sorting.specs.Words.{stored}

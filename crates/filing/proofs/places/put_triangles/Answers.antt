@@ -1,5 +1,6 @@
 -- The places passed have their triangles' numbers.
-use Rattle.laws.specs.Kit.{refl, sym, ◌∙◌, ap, ◌+◌, ◌*◌, arith, not-suc-le-zero, map}
+use Rattle.std.specs.Prelude.{◌+◌, ◌*◌}
+use Rattle.laws.specs.Kit.{refl, sym, ◌∙◌, ap, arith, not-suc-le-zero, map}
 use borrow.Author.Count.{below_more}
 use Rattle.definition.specs.Lists.{below}
 use Rattle.definition.specs.Cells.{new_tri}

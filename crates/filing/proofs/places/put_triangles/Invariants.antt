@@ -1,4 +1,5 @@
-use Rattle.laws.specs.Kit.{◌≡◌, ℕ, ◌-◌, ◌<◌, ◌≤◌, length}
+use Rattle.std.specs.Prelude.{◌≡◌, ◌-◌, ◌<◌, ◌≤◌}
+use Rattle.laws.specs.Kit.{ℕ, length}
 use Rattle.definition.specs.Call.{tri_at}
 use Rattle.filing.specs.Filing.{rotated}
 use Rattle.sorting.specs.Places.{key_at}

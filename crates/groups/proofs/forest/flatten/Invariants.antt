@@ -1,4 +1,5 @@
-use Rattle.laws.specs.Kit.{◌≡◌, ℕ, ◌-◌, ◌<◌, ◌≤◌, get_or}
+use Rattle.std.specs.Prelude.{◌≡◌, ◌-◌, ◌<◌, ◌≤◌}
+use Rattle.laws.specs.Kit.{ℕ, get_or}
 use Rattle.groups.specs.Forest.{root, Kept}
 use Rattle.groups.proofs.forest.flatten.Given as goal
 

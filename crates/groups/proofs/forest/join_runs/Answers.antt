@@ -1,5 +1,6 @@
 -- The numbers passed are joined.
-use Rattle.laws.specs.Kit.{sym, subst, ◌-◌, ◌<◌, arith}
+use Rattle.std.specs.Prelude.{◌-◌, ◌<◌}
+use Rattle.laws.specs.Kit.{sym, subst, arith}
 use mathlib.Core.Path.{subst₂}
 use Rattle.groups.specs.Joins.{tri_of, Joined}
 use Rattle.groups.proofs.Links.{run_start, run_next, run_end}

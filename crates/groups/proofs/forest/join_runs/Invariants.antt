@@ -1,4 +1,4 @@
-use Rattle.laws.specs.Kit.{◌-◌}
+use Rattle.std.specs.Prelude.{◌-◌}
 use Rattle.groups.proofs.Links.{Running}
 use Rattle.groups.proofs.forest.join_runs.Given as goal
 

@@ -1,4 +1,5 @@
-use Rattle.laws.specs.Kit.{◌≡◌, ℕ, ◌-◌, ◌<◌, ◌≤◌, length, get_or}
+use Rattle.std.specs.Prelude.{◌≡◌, ◌-◌, ◌<◌, ◌≤◌}
+use Rattle.laws.specs.Kit.{ℕ, length, get_or}
 use Rattle.groups.proofs.forest.start.Given as goal
 
 abbrev pub invariant-loop-i : goal.invariant-loop-i

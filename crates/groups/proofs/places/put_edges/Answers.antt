@@ -1,5 +1,6 @@
 -- The places passed have the numbers of their edges.
-use Rattle.laws.specs.Kit.{refl, ◌∙◌, ap, ◌/◌, arith, not-suc-le-zero, get_or}
+use Rattle.std.specs.Prelude.{◌/◌}
+use Rattle.laws.specs.Kit.{refl, ◌∙◌, ap, arith, not-suc-le-zero, get_or}
 use borrow.Author.Count.{below_more}
 use Rattle.balance.specs.Codes.{next, side_at}
 use Rattle.balance.proofs.Corners.{next_within}

@@ -1,4 +1,5 @@
-use Rattle.laws.specs.Kit.{◌≡◌, ℕ, ◌-◌, ◌/◌, ◌<◌, ◌≤◌, length}
+use Rattle.std.specs.Prelude.{◌≡◌, ◌-◌, ◌/◌, ◌<◌, ◌≤◌}
+use Rattle.laws.specs.Kit.{ℕ, length}
 use Rattle.sorting.specs.Places.{key_at}
 use Rattle.balance.specs.Codes.{side_at}
 use Rattle.groups.specs.Edges.{tagged}

@@ -1,4 +1,4 @@
-use Rattle.laws.specs.Kit.{◌-◌, ◌≤◌}
+use Rattle.std.specs.Prelude.{◌-◌, ◌≤◌}
 use Rattle.definition.specs.Plane.{flat}
 use Rattle.definition.specs.Cells.{Mesh}
 use Rattle.insertion.specs.Hold.{Drawn}

@@ -1,5 +1,6 @@
 -- The cells from place j on decide.
-use Rattle.laws.specs.Kit.{◌∙◌, ap, true, false, ℕ, ◌+◌, arith, get_or}
+use Rattle.std.specs.Prelude.{◌+◌}
+use Rattle.laws.specs.Kit.{◌∙◌, ap, true, false, ℕ, arith, get_or}
 use Rattle.definition.specs.Lists.{find}
 use Rattle.definition.specs.Plane.{flat}
 use Rattle.cells.proofs.Slots.{sizes}

@@ -1,4 +1,5 @@
-use Rattle.laws.specs.Kit.{◌-◌, ◌≤◌, List}
+use Rattle.std.specs.Prelude.{◌-◌, ◌≤◌}
+use Rattle.laws.specs.Kit.{List}
 use Rattle.definition.specs.Lists.{find}
 use Rattle.definition.specs.Plane.{flat}
 use Rattle.definition.specs.Cells.{Live, Mesh}

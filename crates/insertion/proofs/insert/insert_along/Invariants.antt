@@ -1,4 +1,4 @@
-use Rattle.laws.specs.Kit.{◌-◌, ◌≤◌}
+use Rattle.std.specs.Prelude.{◌-◌, ◌≤◌}
 use Rattle.plane.specs.Vectors.{vec}
 use Rattle.insertion.proofs.Shares.{Trying}
 use Rattle.insertion.proofs.insert.insert_along.Given as goal

@@ -1,5 +1,6 @@
 -- The loop's invariant: the edges passed are in loops. The measure is how many are left.
-use Rattle.laws.specs.Kit.{sym, ◌∙◌, ap, ℕ, ◌+◌, arith, eqb, eq-eqb, ne_eqb, get_or}
+use Rattle.std.specs.Prelude.{◌+◌}
+use Rattle.laws.specs.Kit.{sym, ◌∙◌, ap, ℕ, arith, eqb, eq-eqb, ne_eqb, get_or}
 use Rattle.loops.proofs.Looping.{passing_start, passing_on}
 use Rattle.loops.proofs.front.next_fresh.Goals as goal
 

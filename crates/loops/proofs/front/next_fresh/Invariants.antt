@@ -1,4 +1,4 @@
-use Rattle.laws.specs.Kit.{◌≡◌, ◌-◌}
+use Rattle.std.specs.Prelude.{◌≡◌, ◌-◌}
 use Rattle.cells.specs.Layout.{front_used_at}
 use Rattle.loops.proofs.Looping.{Passing}
 use Rattle.loops.proofs.front.next_fresh.Given as goal

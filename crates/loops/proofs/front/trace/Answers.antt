@@ -1,4 +1,5 @@
-use Rattle.laws.specs.Kit.{refl, ◌∙◌, ap, ℕ, ◌+◌, arith, [], ◌∷◌, get_or, set, length-set}
+use Rattle.std.specs.Prelude.{◌+◌, ◌∷◌}
+use Rattle.laws.specs.Kit.{refl, ◌∙◌, ap, ℕ, arith, [], get_or, set, length-set}
 use Rattle.edges.specs.Parts.{edge_of}
 use Rattle.loops.proofs.Tracing.{started, trace_start, trace_place, trace_walk, trace_to}
 use Rattle.loops.proofs.front.trace.Goals as goal

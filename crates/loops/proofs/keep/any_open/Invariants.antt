@@ -1,4 +1,5 @@
-use Rattle.laws.specs.Kit.{ℕ, ◌-◌, ◌≤◌, List}
+use Rattle.std.specs.Prelude.{◌-◌, ◌≤◌}
+use Rattle.laws.specs.Kit.{ℕ, List}
 use Rattle.definition.specs.Plane.{Edge}
 use Rattle.loops.specs.Keep.{OpenLoop}
 use Rattle.loops.proofs.Keeping.{Asking}

@@ -1,4 +1,5 @@
-use Rattle.laws.specs.Kit.{sym, ◌∙◌, ap, subst, not, ℕ, ◌*◌}
+use Rattle.std.specs.Prelude.{◌*◌}
+use Rattle.laws.specs.Kit.{sym, ◌∙◌, ap, subst, not, ℕ}
 use Rattle.definition.specs.Cells.{has_edge_in}
 use Rattle.laws.specs.Cells.{same_ends}
 use Rattle.blocked_edges.specs.Records.{IsEdge}

@@ -1,4 +1,5 @@
-use Rattle.laws.specs.Kit.{◌-◌, ◌≤◌, List, length}
+use Rattle.std.specs.Prelude.{◌-◌, ◌≤◌}
+use Rattle.laws.specs.Kit.{List, length}
 use Rattle.definition.specs.Plane.{Edge}
 use Rattle.definition.specs.Cells.{Mesh}
 use Rattle.cells.specs.Rep.{Pts}

@@ -1,5 +1,6 @@
 -- The loop's invariant: the first i words are filled, and nothing else changed. The measure is how many are left.
-use Rattle.laws.specs.Kit.{◌≡◌, subst, ℕ, arith}
+use Rattle.std.specs.Prelude.{◌≡◌}
+use Rattle.laws.specs.Kit.{subst, ℕ, arith}
 use Rattle.loops.specs.Link.{Filled}
 use Rattle.loops.proofs.Linking.{fill_start, fill_more}
 use Rattle.loops.proofs.links.fill.Goals as goal

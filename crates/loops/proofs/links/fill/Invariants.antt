@@ -1,4 +1,4 @@
-use Rattle.laws.specs.Kit.{◌-◌, ◌≤◌}
+use Rattle.std.specs.Prelude.{◌-◌, ◌≤◌}
 use Rattle.loops.specs.Link.{Filled}
 use Rattle.loops.proofs.links.fill.Given as goal
 

@@ -1,4 +1,5 @@
-use Rattle.laws.specs.Kit.{◌≡◌, ℕ, List, length}
+use Rattle.std.specs.Prelude.{◌≡◌}
+use Rattle.laws.specs.Kit.{ℕ, List, length}
 use Rattle.definition.specs.Plane.{Edge}
 use Rattle.loops.specs.Link.{Linking}
 use Rattle.loops.proofs.Linking.{Going}

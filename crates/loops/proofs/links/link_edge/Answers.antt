@@ -1,4 +1,5 @@
-use Rattle.laws.specs.Kit.{◌∙◌, ap, ℕ, ◌+◌, get_or}
+use Rattle.std.specs.Prelude.{◌+◌}
+use Rattle.laws.specs.Kit.{◌∙◌, ap, ℕ, get_or}
 use Rattle.loops.proofs.Linking.{can_link_first, can_link_second, link_edge_to}
 use Rattle.loops.proofs.links.link_edge.Goals as goal
 

@@ -1,4 +1,5 @@
-use Rattle.laws.specs.Kit.{◌∙◌, ap, ℕ, ◌+◌, get_or}
+use Rattle.std.specs.Prelude.{◌+◌}
+use Rattle.laws.specs.Kit.{◌∙◌, ap, ℕ, get_or}
 use Rattle.loops.proofs.Ends.{far_by_first, far_by_second}
 use Rattle.loops.proofs.walks.far.Goals as goal
 

@@ -1,6 +1,7 @@
 -- The loop's invariant: the first edge in no loop at the node is the first such from c on.
 -- The measure is how many edges stand from c on.
-use Rattle.laws.specs.Kit.{sym, ◌∙◌, ap, ℕ, ◌+◌, arith, eqb, eq-eqb, ne_eqb, get_or}
+use Rattle.std.specs.Prelude.{◌+◌}
+use Rattle.laws.specs.Kit.{sym, ◌∙◌, ap, ℕ, arith, eqb, eq-eqb, ne_eqb, get_or}
 use Rattle.loops.proofs.Unused.{seeking_start, seeking_end, seeking_found, seeking_past, seeking_on, seeking_at, behind}
 use Rattle.loops.proofs.walks.first_left.Goals as goal
 

@@ -1,4 +1,5 @@
-use Rattle.laws.specs.Kit.{◌≡◌, ℕ, ◌-◌, ◌<◌, List}
+use Rattle.std.specs.Prelude.{◌≡◌, ◌-◌, ◌<◌}
+use Rattle.laws.specs.Kit.{ℕ, List}
 use Rattle.definition.specs.Plane.{Edge}
 use Rattle.cells.specs.Layout.{front_used_at}
 use Rattle.loops.specs.Trace.{Ready}

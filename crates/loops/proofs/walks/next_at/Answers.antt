@@ -1,4 +1,5 @@
-use Rattle.laws.specs.Kit.{◌∙◌, ap, ℕ, ◌+◌, ◌*◌, get_or}
+use Rattle.std.specs.Prelude.{◌+◌, ◌*◌}
+use Rattle.laws.specs.Kit.{◌∙◌, ap, ℕ, get_or}
 use Rattle.loops.proofs.Ends.{next_by_first, next_by_second}
 use Rattle.loops.proofs.walks.next_at.Goals as goal
 

@@ -1,5 +1,6 @@
 -- The loop's invariant: the memory stands for every mesh of the first i triangles. The measure is how many are left.
-use Rattle.laws.specs.Kit.{◌≡◌, ◌∙◌, ◌-◌, ◌≤◌, arith, rules}
+use Rattle.std.specs.Prelude.{◌≡◌, ◌-◌, ◌≤◌}
+use Rattle.laws.specs.Kit.{◌∙◌, arith, rules}
 use Rattle.definition.specs.Cells.{Mesh}
 use Rattle.laws.specs.Frames.{Keeps, keeps_refl, keeps_trans}
 use Rattle.cells.specs.Layout.{mesh_end}

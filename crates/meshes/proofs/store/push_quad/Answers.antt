@@ -1,5 +1,6 @@
 -- What was noted of the components is forgotten; a push puts the cell into the next slot.
-use Rattle.laws.specs.Kit.{◌∙◌, ℕ, suc, ◌≤◌, arith}
+use Rattle.std.specs.Prelude.{◌≤◌}
+use Rattle.laws.specs.Kit.{◌∙◌, ℕ, suc, arith}
 use Rattle.laws.specs.Frames.{keeps_trans}
 use Rattle.cells.specs.Layout.{mesh_end}
 use Rattle.definition.specs.Plane.{Edge}

@@ -1,5 +1,6 @@
 -- The kind is stored, then node after node is placed.
-use Rattle.laws.specs.Kit.{refl, ◌∙◌, arith, rules, [], ◌∷◌, set, length-set}
+use Rattle.std.specs.Prelude.{◌∷◌}
+use Rattle.laws.specs.Kit.{refl, ◌∙◌, arith, rules, [], set, length-set}
 use Rattle.definition.specs.Cells.{nodes, tri_nodes, new_tri}
 use Rattle.laws.specs.Frames.{keeps_trans, keeps_more, keeps_set}
 use Rattle.cells.specs.Layout.{fronts_at, mesh_end}

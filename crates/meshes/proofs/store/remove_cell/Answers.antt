@@ -1,5 +1,6 @@
 -- What was noted of the components is forgotten, then the cell is taken out.
-use Rattle.laws.specs.Kit.{◌∙◌, ◌≤◌, arith}
+use Rattle.std.specs.Prelude.{◌≤◌}
+use Rattle.laws.specs.Kit.{◌∙◌, arith}
 use Rattle.laws.specs.Frames.{keeps_trans}
 use Rattle.cells.specs.Layout.{mesh_end}
 use Rattle.meshes.proofs.Evens.{forgotten_rep, forgotten_none, forgotten_keeps, forgotten_length}

@@ -1,5 +1,6 @@
 -- The old cell goes, then the new one is put into its slot.
-use Rattle.laws.specs.Kit.{◌∙◌, ◌≤◌, arith}
+use Rattle.std.specs.Prelude.{◌≤◌}
+use Rattle.laws.specs.Kit.{◌∙◌, arith}
 use Rattle.definition.specs.Cells.{remove_cell}
 use Rattle.laws.specs.Frames.{keeps_trans}
 use Rattle.cells.specs.Layout.{mesh_end}

@@ -1,7 +1,8 @@
 -- The loop's invariant: the first k corners of the slot were taken out of their rings,
 -- and nothing is noted of their nodes.
 -- The measure is how many are left.
-use Rattle.laws.specs.Kit.{◌≡◌, ◌-◌, ◌≤◌, arith, rules, get_or, set, length-set}
+use Rattle.std.specs.Prelude.{◌≡◌, ◌-◌, ◌≤◌}
+use Rattle.laws.specs.Kit.{arith, rules, get_or, set, length-set}
 use Rattle.definition.specs.Cells.{Mesh}
 use Rattle.laws.specs.Frames.{Keeps, keeps_refl, keeps_trans, keeps_more, keeps_set}
 use Rattle.cells.specs.Layout.{rings_at, codes, fronts_at, mesh_end}

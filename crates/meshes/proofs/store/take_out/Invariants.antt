@@ -1,4 +1,5 @@
-use Rattle.laws.specs.Kit.{◌≡◌, ◌-◌, ◌≤◌, arith, rules, get_or, set, length-set}
+use Rattle.std.specs.Prelude.{◌≡◌, ◌-◌, ◌≤◌}
+use Rattle.laws.specs.Kit.{arith, rules, get_or, set, length-set}
 use Rattle.definition.specs.Cells.{Mesh}
 use Rattle.laws.specs.Frames.{Keeps, keeps_refl, keeps_trans, keeps_more, keeps_set}
 use Rattle.cells.specs.Layout.{rings_at, codes, fronts_at, mesh_end}

@@ -1,4 +1,5 @@
-use Rattle.laws.specs.Kit.{◌≡◌, sym, rules}
+use Rattle.std.specs.Prelude.{◌≡◌}
+use Rattle.laws.specs.Kit.{sym, rules}
 use Rattle.definition.specs.Floats.{◌≼◌}
 use Rattle.definition.specs.Numbers.{tiny_cross}
 use Rattle.definition.specs.Plane.{twice_area}

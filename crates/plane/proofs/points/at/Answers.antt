@@ -1,4 +1,5 @@
-use Rattle.laws.specs.Kit.{ap₂, ◌+◌, ◌*◌, arith, rules, nan}
+use Rattle.std.specs.Prelude.{◌+◌, ◌*◌}
+use Rattle.laws.specs.Kit.{ap₂, arith, rules, nan}
 use Rattle.definition.specs.Floats.{0·0}
 use Rattle.definition.specs.Plane.{flat}
 use Rattle.definition.specs.Call.{point_at}

@@ -1,5 +1,6 @@
 -- `lists::corners`: three values one after the other, each with its byte.
-use Rattle.laws.specs.Kit.{◌≡◌, drop}
+use Rattle.std.specs.Prelude.{◌≡◌}
+use Rattle.laws.specs.Kit.{drop}
 use Rattle.reading.proofs.Chains.{found}
 use Rattle.reading.proofs.Threes.{three_off, three_one, three_two, three_all, node_is}
 use Rattle.reading.specs.Found.{taken, number_as, up_to, and_then}

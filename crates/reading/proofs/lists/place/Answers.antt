@@ -1,5 +1,6 @@
 -- `lists::place`: three values one after the other, each with its byte.
-use Rattle.laws.specs.Kit.{◌≡◌, drop}
+use Rattle.std.specs.Prelude.{◌≡◌}
+use Rattle.laws.specs.Kit.{drop}
 use Rattle.reading.proofs.Chains.{found}
 use Rattle.reading.proofs.Threes.{three_off, three_one, three_two, three_all}
 use Rattle.definition.specs.Text.{hex}

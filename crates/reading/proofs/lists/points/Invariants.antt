@@ -1,4 +1,5 @@
-use Rattle.laws.specs.Kit.{◌≡◌, ℕ, ◌-◌, ◌*◌, ◌≤◌, List, length, drop}
+use Rattle.std.specs.Prelude.{◌≡◌, ◌-◌, ◌*◌, ◌≤◌}
+use Rattle.laws.specs.Kit.{ℕ, List, length, drop}
 use Rattle.reading.proofs.Rows.{prepend}
 use Rattle.definition.specs.Lists.{rows}
 use Rattle.definition.specs.Text.{three, hex, times}

@@ -1,4 +1,5 @@
-use Rattle.laws.specs.Kit.{◌≡◌, ◌-◌, ◌*◌, ◌^◌, ◌<◌, ◌≤◌, drop}
+use Rattle.std.specs.Prelude.{◌≡◌, ◌-◌, ◌*◌, ◌^◌, ◌<◌, ◌≤◌}
+use Rattle.laws.specs.Kit.{drop}
 use Rattle.reading.proofs.Hexes.{hexes}
 use Rattle.definition.specs.Text.{hex}
 use Rattle.reading.proofs.values.bits.Given as goal

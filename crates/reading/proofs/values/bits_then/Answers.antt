@@ -1,5 +1,6 @@
 -- `values::bits_then`: a value, then a byte, by the laws of readings one after the other.
-use Rattle.laws.specs.Kit.{◌≡◌, drop}
+use Rattle.std.specs.Prelude.{◌≡◌}
+use Rattle.laws.specs.Kit.{drop}
 use Rattle.reading.proofs.Chains.{found, then_off, then_other, then_both}
 use Rattle.definition.specs.Text.{hex}
 use Rattle.reading.specs.Found.{taken, step_as, bits_as}

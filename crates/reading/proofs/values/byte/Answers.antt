@@ -1,5 +1,6 @@
 -- `values::byte` reads one byte: the laws of fixed bytes at a text of one.
-use Rattle.laws.specs.Kit.{sym, ◌∙◌, ◌+◌, arith, [], ◌∷◌}
+use Rattle.std.specs.Prelude.{◌+◌, ◌∷◌}
+use Rattle.laws.specs.Kit.{sym, ◌∙◌, arith, []}
 use Rattle.reading.proofs.Bytes.{same_byte, other_byte, no_byte, all_bytes}
 use Rattle.reading.proofs.values.byte.Goals as goal
 

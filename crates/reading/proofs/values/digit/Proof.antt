@@ -1,5 +1,6 @@
 -- `values::digit` reads one digit: a law for each way out.
-use Rattle.laws.specs.Kit.{◌≡◌, sym, ◌∙◌, true, arith, rules, get_or}
+use Rattle.std.specs.Prelude.{◌≡◌}
+use Rattle.laws.specs.Kit.{sym, ◌∙◌, true, arith, rules, get_or}
 use Rattle.definition.specs.Text.{is_digit}
 use Rattle.reading.proofs.Digits.{digit_within, one_end, one_here, one_other}
 use Rattle.reading.proofs.values.digit.Statement.{statement}

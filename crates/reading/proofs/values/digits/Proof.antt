@@ -1,6 +1,7 @@
 -- `values::digits`.
 -- Invariant: v is the number of the digits up to p, at most `most`, and the definition's number goes on from it.
-use Rattle.laws.specs.Kit.{◌≡◌, sym, ◌∙◌, ap, true, ◌+◌, ◌-◌, ◌≤◌, arith, rules, length, get_or, drop}
+use Rattle.std.specs.Prelude.{◌≡◌, ◌+◌, ◌-◌, ◌≤◌}
+use Rattle.laws.specs.Kit.{sym, ◌∙◌, ap, true, arith, rules, length, get_or, drop}
 use Rattle.definition.specs.Text.{is_digit, decimal, run}
 use Rattle.reading.specs.Found.{limited}
 use Rattle.reading.proofs.Digits.{digit_within, decimal_on, decimal_start, turn_more, turn_other, turn_end, decimal_over}

@@ -1,4 +1,5 @@
-use Rattle.laws.specs.Kit.{◌≡◌, ◌-◌, ◌≤◌, length, drop}
+use Rattle.std.specs.Prelude.{◌≡◌, ◌-◌, ◌≤◌}
+use Rattle.laws.specs.Kit.{length, drop}
 use Rattle.definition.specs.Text.{exactly}
 use Rattle.reading.proofs.values.expect.Given as goal
 

@@ -1,5 +1,6 @@
 -- `values::well_formed`: a law for each way out.
-use Rattle.laws.specs.Kit.{◌≡◌, sym, ◌∙◌, ap, true, not, arith, rules, get_or}
+use Rattle.std.specs.Prelude.{◌≡◌}
+use Rattle.laws.specs.Kit.{sym, ◌∙◌, ap, true, not, arith, rules, get_or}
 use Rattle.reading.proofs.Digits.{formed_end, formed_other, formed_nonzero, formed_zero, formed_more}
 use Rattle.definition.specs.Text.{is_digit}
 use Rattle.reading.proofs.values.well_formed.Statement.{statement}

@@ -1,4 +1,5 @@
-use Rattle.laws.specs.Kit.{refl, ◌∙◌, arith, [], ◌∷◌, ◌++◌}
+use Rattle.std.specs.Prelude.{◌∷◌, ◌++◌}
+use Rattle.laws.specs.Kit.{refl, ◌∙◌, arith, []}
 use Rattle.definition.specs.Cells.{new_quad, quad_edges}
 use Rattle.definition.specs.Region.{flood}
 use Rattle.laws.specs.Frames.{under_sym}

@@ -1,4 +1,5 @@
-use Rattle.laws.specs.Kit.{◌≡◌, ◌-◌, ◌^◌, ◌≤◌, [], ◌∷◌, length}
+use Rattle.std.specs.Prelude.{◌≡◌, ◌-◌, ◌^◌, ◌≤◌, ◌∷◌}
+use Rattle.laws.specs.Kit.{[], length}
 use Rattle.definition.specs.Cells.{Mesh, new_quad, quad_edges}
 use Rattle.definition.specs.Region.{flood}
 use Rattle.cells.specs.Rep.{Rep, TriIn}

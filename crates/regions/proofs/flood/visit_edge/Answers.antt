@@ -1,4 +1,5 @@
-use Rattle.laws.specs.Kit.{refl, ◌∙◌, arith, [], ◌++◌}
+use Rattle.std.specs.Prelude.{◌++◌}
+use Rattle.laws.specs.Kit.{refl, ◌∙◌, arith, []}
 use Rattle.regions.proofs.Visits.{going_start, going_end, going_here, going_seen, going_failed, going_at, going_less, going_on}
 use Rattle.regions.proofs.flood.visit_edge.Goals as goal
 

@@ -1,4 +1,5 @@
-use Rattle.laws.specs.Kit.{◌≡◌, ◌^◌, ◌≤◌, List, ◌++◌, length}
+use Rattle.std.specs.Prelude.{◌≡◌, ◌^◌, ◌≤◌, ◌++◌}
+use Rattle.laws.specs.Kit.{List, length}
 use Rattle.definition.specs.Cells.{Mesh, Live}
 use Rattle.cells.specs.Walk.{left}
 use Rattle.regions.specs.Listing.{State}

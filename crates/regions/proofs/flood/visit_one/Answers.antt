@@ -1,4 +1,5 @@
-use Rattle.laws.specs.Kit.{sym, ◌∙◌, subst, ℕ, ◌+◌, arith, List}
+use Rattle.std.specs.Prelude.{◌+◌}
+use Rattle.laws.specs.Kit.{sym, ◌∙◌, subst, ℕ, arith, List}
 use Rattle.definition.specs.Region.{reach}
 use Rattle.regions.specs.Listing.{Reached}
 use Rattle.regions.proofs.Reaches.{seen_can, seen_room, seen_see, more, seen_known, seen_other, seen_new}

@@ -1,5 +1,6 @@
 -- The three edges of the triangle one after the other, each by its nodes as they were read.
-use Rattle.laws.specs.Kit.{◌≡◌, ◌∙◌, ℕ, arith, List, [], ◌++◌}
+use Rattle.std.specs.Prelude.{◌≡◌, ◌++◌}
+use Rattle.laws.specs.Kit.{◌∙◌, ℕ, arith, List, []}
 use Rattle.definition.specs.Plane.{Edge}
 use Rattle.definition.specs.Cells.{Tri, Mesh, key, new_quad, quad_edges}
 use Rattle.definition.specs.Region.{across}

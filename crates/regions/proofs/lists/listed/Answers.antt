@@ -1,4 +1,5 @@
-use Rattle.laws.specs.Kit.{◌∙◌, ap, ℕ, ◌+◌, get_or}
+use Rattle.std.specs.Prelude.{◌+◌}
+use Rattle.laws.specs.Kit.{◌∙◌, ap, ℕ, get_or}
 use Rattle.regions.proofs.lists.listed.Goals as goal
 
 pub returns : goal.returns

@@ -1,4 +1,5 @@
-use Rattle.laws.specs.Kit.{◌≡◌, ◌-◌, ◌^◌, ◌≤◌, List, length}
+use Rattle.std.specs.Prelude.{◌≡◌, ◌-◌, ◌^◌, ◌≤◌}
+use Rattle.laws.specs.Kit.{List, length}
 use Rattle.definition.specs.Cells.{Live, Mesh}
 use Rattle.laws.specs.Frames.{Keeps}
 use Rattle.cells.specs.Layout.{mesh_end}

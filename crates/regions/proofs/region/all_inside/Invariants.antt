@@ -1,4 +1,5 @@
-use Rattle.laws.specs.Kit.{◌≡◌, ◌-◌, ◌^◌, ◌≤◌, List, drop}
+use Rattle.std.specs.Prelude.{◌≡◌, ◌-◌, ◌^◌, ◌≤◌}
+use Rattle.laws.specs.Kit.{List, drop}
 use Rattle.definition.specs.Lists.{all}
 use Rattle.definition.specs.Cells.{Live, Mesh, new_quad}
 use Rattle.definition.specs.Region.{cell_inside}

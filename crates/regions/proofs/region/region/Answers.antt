@@ -1,5 +1,6 @@
 -- The flood, and the tests of what it reached, one after the other.
-use Rattle.laws.specs.Kit.{◌≢◌, ℕ, List, [], Float}
+use Rattle.std.specs.Prelude.{◌≢◌}
+use Rattle.laws.specs.Kit.{ℕ, List, [], Float}
 use Rattle.definition.specs.Cells.{Mesh}
 use Rattle.regions.specs.Fill.{Shown, Drawn}
 use Rattle.regions.proofs.Fills.{Cells, flooded, cells, region_none, region_outside, region_off, region_locked, region_found}

@@ -1,4 +1,5 @@
-use Rattle.laws.specs.Kit.{◌≡◌, ◌-◌, ◌^◌, ◌≤◌, List, foldl, drop, Float}
+use Rattle.std.specs.Prelude.{◌≡◌, ◌-◌, ◌^◌, ◌≤◌}
+use Rattle.laws.specs.Kit.{List, foldl, drop, Float}
 use Rattle.definition.specs.Floats.{◌⊕◌}
 use Rattle.definition.specs.Cells.{Live, Mesh}
 use Rattle.definition.specs.Region.{area_of, region_area}

@@ -1,5 +1,6 @@
 -- After each entry the definition has the rest of the trace before it.
-use Rattle.laws.specs.Kit.{◌≡◌, refl, ◌∙◌, ℕ, ◌-◌, arith, rules, List, length, Float}
+use Rattle.std.specs.Prelude.{◌≡◌, ◌-◌}
+use Rattle.laws.specs.Kit.{refl, ◌∙◌, ℕ, arith, rules, List, length, Float}
 use Rattle.definition.specs.Numbers.{Settings}
 use Rattle.definition.specs.Cells.{Mesh}
 use Rattle.rules.specs.Settings.{Suits}

@@ -1,5 +1,6 @@
 -- The number of the call, with the trace's words between 4 and 5.
-use Rattle.laws.specs.Kit.{◌≡◌, sym, ◌∙◌, ap, arith, rules, []}
+use Rattle.std.specs.Prelude.{◌≡◌}
+use Rattle.laws.specs.Kit.{sym, ◌∙◌, ap, arith, rules, []}
 use Rattle.definition.specs.Floats.{0·0, f64}
 use Rattle.definition.specs.Call.{Asked, Lent}
 use Rattle.definition.specs.Replay.{as_asked}

@@ -1,5 +1,6 @@
 -- The nodes, the slots, the slot of its own, then the quad.
-use Rattle.laws.specs.Kit.{◌≡◌, refl, sym, ◌∙◌, ap, subst, Bool, true, not, ◌||◌, ℕ, ◌+◌, ◌<◌, ◌≤◌, arith, rules, ltb, not-true, not-false, List, [], ◌∷◌, length, take, drop, Float}
+use Rattle.std.specs.Prelude.{◌≡◌, ◌||◌, ◌+◌, ◌<◌, ◌≤◌, ◌∷◌}
+use Rattle.laws.specs.Kit.{refl, sym, ◌∙◌, ap, subst, Bool, true, not, ℕ, arith, rules, ltb, not-true, not-false, List, [], length, take, drop, Float}
 use lib.Seq.{drop-drop}
 use Rattle.definition.specs.Lists.{all}
 use Rattle.definition.specs.Cells.{Quad, quad, Mesh, quad_nodes, push_cell}

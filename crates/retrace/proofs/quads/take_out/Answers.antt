@@ -1,5 +1,6 @@
 -- The slots of the trace one after the other, for each mesh that the memory stands for.
-use Rattle.laws.specs.Kit.{◌-◌, arith, rules}
+use Rattle.std.specs.Prelude.{◌-◌}
+use Rattle.laws.specs.Kit.{arith, rules}
 use Rattle.retrace.proofs.Placing.{has_yes, has_no, has_beyond, Going, going_none, going_all, going_no, going_more}
 use Rattle.retrace.proofs.quads.take_out.Goals as goal
 

@@ -1,4 +1,5 @@
-use Rattle.laws.specs.Kit.{◌-◌, arith, rules}
+use Rattle.std.specs.Prelude.{◌-◌}
+use Rattle.laws.specs.Kit.{arith, rules}
 use Rattle.retrace.proofs.Placing.{has_yes, has_no, has_beyond, Going, going_none, going_all, going_no, going_more}
 use Rattle.retrace.proofs.quads.take_out.Given as goal
 

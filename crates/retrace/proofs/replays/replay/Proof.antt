@@ -1,5 +1,6 @@
 -- The opening tests, the mesh built, its entries; then the lists or the refusal, and both work slices cleared.
-use Rattle.laws.specs.Kit.{◌≡◌, refl, sym, ◌∙◌, arith, rules, length, take}
+use Rattle.std.specs.Prelude.{◌≡◌}
+use Rattle.laws.specs.Kit.{refl, sym, ◌∙◌, arith, rules, length, take}
 use lib.ListN.{length-take}
 use Rattle.definition.specs.Call.{Lent, settings}
 use Rattle.definition.specs.Replay.{as_asked, replay_words}

@@ -1,5 +1,6 @@
 -- The slot, the triangle that holds the point, the room, then the split.
-use Rattle.laws.specs.Kit.{◌≡◌, refl, ◌∙◌, ap, true, ℕ, ◌≤◌, arith, rules, not-true, not-false, List, Float}
+use Rattle.std.specs.Prelude.{◌≡◌, ◌≤◌}
+use Rattle.laws.specs.Kit.{refl, ◌∙◌, ap, true, ℕ, arith, rules, not-true, not-false, List, Float}
 use Rattle.definition.specs.Plane.{flat}
 use Rattle.definition.specs.Cells.{Mesh, cell_of}
 use Rattle.insertion.specs.Hold.{slot_holds}

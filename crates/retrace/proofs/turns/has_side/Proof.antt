@@ -1,5 +1,6 @@
 -- The four sides one after the other.
-use Rattle.laws.specs.Kit.{◌≡◌, sym, ◌∙◌, false, ◌||◌, ℕ, rules}
+use Rattle.std.specs.Prelude.{◌≡◌, ◌||◌}
+use Rattle.laws.specs.Kit.{sym, ◌∙◌, false, ℕ, rules}
 use Rattle.definition.specs.Call.{quad_at}
 use Rattle.definition.specs.Cells.{key, same_edge, has_edge_in, quad_edges}
 use Rattle.retrace.proofs.Flipping.{quad_sides, side_one, side_two, side_three, side_four}

@@ -1,4 +1,5 @@
-use Rattle.laws.specs.Kit.{◌≡◌, sym, ◌∙◌, false, ℕ, ◌-◌, ◌<◌, ◌≤◌, arith, not-suc-le-zero}
+use Rattle.std.specs.Prelude.{◌≡◌, ◌-◌, ◌<◌, ◌≤◌}
+use Rattle.laws.specs.Kit.{sym, ◌∙◌, false, ℕ, arith, not-suc-le-zero}
 use borrow.Author.Count.{below_more}
 use Rattle.definition.specs.Call.{quad_at, first_quads}
 use Rattle.definition.specs.Cells.{has_edge_in, quad_edges}

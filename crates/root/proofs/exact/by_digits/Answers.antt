@@ -2,7 +2,8 @@
 -- The invariant of its loop and the steps are those of `proofs/Steps.antt`.
 -- Assumes nothing.
 use Rattle.std.proofs.Common.{subst₂}
-use Rattle.laws.specs.Kit.{sym, ℕ, ◌+◌, ◌*◌, ◌%◌, ◌^◌, ◌<◌, arith}
+use Rattle.std.specs.Prelude.{◌+◌, ◌*◌, ◌%◌, ◌^◌, ◌<◌}
+use Rattle.laws.specs.Kit.{sym, ℕ, arith}
 use Rattle.root.proofs.Steps.{After, start, small, zero_digit, one_digit, done}
 use Rattle.root.proofs.exact.by_digits.Goals as goal
 use Rattle.root.proofs.exact.by_digits.Goals.{then-next-trial, else-next-trial}

@@ -1,4 +1,4 @@
-use Rattle.laws.specs.Kit.{◌-◌}
+use Rattle.std.specs.Prelude.{◌-◌}
 use Rattle.root.proofs.Steps.{After}
 use Rattle.root.proofs.exact.by_digits.Given as goal
 

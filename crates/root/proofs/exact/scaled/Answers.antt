@@ -1,5 +1,6 @@
 -- `root::exact::scaled` meets its contract, by `proofs/Radicands.antt`. Assumes nothing.
-use Rattle.laws.specs.Kit.{sym, subst, ℕ, ◌+◌, ◌-◌, ◌*◌, ◌/◌, ◌%◌, ◌^◌, rules}
+use Rattle.std.specs.Prelude.{◌+◌, ◌-◌, ◌*◌, ◌/◌, ◌%◌, ◌^◌}
+use Rattle.laws.specs.Kit.{sym, subst, ℕ, rules}
 use Rattle.root.specs.Exact.{Radicand}
 use Rattle.root.proofs.Radicands.{normal, subnormal}
 use Rattle.root.proofs.exact.scaled.Goals as goal

@@ -1,6 +1,7 @@
 -- `root::lines::guess` meets its contract: its patterns are no NaN's, and what is above zero is no NaN.
 -- Assumes nothing.
-use Rattle.laws.specs.Kit.{◌+◌, ◌*◌, ◌^◌, arith, rules}
+use Rattle.std.specs.Prelude.{◌+◌, ◌*◌, ◌^◌}
+use Rattle.laws.specs.Kit.{arith, rules}
 use Rattle.root.proofs.Special.{no_nan_left, above_zero}
 use Rattle.laws.specs.Numbers.{no_nan_bits}
 use Rattle.root.proofs.lines.guess.Goals as goal

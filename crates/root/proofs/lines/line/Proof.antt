@@ -1,7 +1,8 @@
 -- `root::lines::line` meets its contract: the numbers of the table have 16 digits,
 -- and their product with a part of a row fits.
 -- Assumes nothing.
-use Rattle.laws.specs.Kit.{ℕ, ◌-◌, ◌*◌, ◌^◌, ◌<◌, ◌≤◌, arith, rules, mul-le-mul}
+use Rattle.std.specs.Prelude.{◌-◌, ◌*◌, ◌^◌, ◌<◌, ◌≤◌}
+use Rattle.laws.specs.Kit.{ℕ, arith, rules, mul-le-mul}
 use Rattle.root.proofs.lines.line.Statement.{statement}
 use Rattle.root.proofs.lines.line.Tie as tie
 

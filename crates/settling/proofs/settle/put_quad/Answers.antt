@@ -1,4 +1,5 @@
-use Rattle.laws.specs.Kit.{◌≡◌, refl, sym, ◌∙◌, ap, subst, ℕ, suc, ◌+◌, ◌*◌, arith, rules, List, [], ◌∷◌, ◌++◌, length, length-append}
+use Rattle.std.specs.Prelude.{◌≡◌, ◌+◌, ◌*◌, ◌∷◌, ◌++◌}
+use Rattle.laws.specs.Kit.{refl, sym, ◌∙◌, ap, subst, ℕ, suc, arith, rules, List, [], length, length-append}
 use Rattle.cells.specs.Layout.{refused_at}
 use Rattle.blocked_edges.specs.Blocks.{FreeTo, Blocks}
 use Rattle.definition.specs.Plane.{Edge}

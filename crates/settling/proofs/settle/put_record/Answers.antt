@@ -1,7 +1,8 @@
 use Rattle.cells.specs.Layout.{refused_at}
 use Rattle.blocked_edges.specs.Blocks.{CanBlock, BlockTo}
 use Rattle.settling.specs.Standings.{Recorded}
-use Rattle.laws.specs.Kit.{refl, sym, subst, ℕ, ◌*◌, rules}
+use Rattle.std.specs.Prelude.{◌*◌}
+use Rattle.laws.specs.Kit.{refl, sym, subst, ℕ, rules}
 use Rattle.settling.proofs.settle.put_record.Goals as goal
 
 pub block-n-requires : goal.block-n-requires

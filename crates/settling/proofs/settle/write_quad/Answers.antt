@@ -1,4 +1,5 @@
-use Rattle.laws.specs.Kit.{arith, rules, [], ◌∷◌}
+use Rattle.std.specs.Prelude.{◌∷◌}
+use Rattle.laws.specs.Kit.{arith, rules, []}
 use lib.Seq.{lt-length-sets}
 use Rattle.settling.proofs.Texts.{written}
 use Rattle.settling.proofs.settle.write_quad.Goals as goal

@@ -1,5 +1,6 @@
 -- One refusal after the other, in the definition's order.
-use Rattle.laws.specs.Kit.{◌≡◌, refl, sym, ◌∙◌, ap, false, rules, lt-ltb, le-ltb, []}
+use Rattle.std.specs.Prelude.{◌≡◌}
+use Rattle.laws.specs.Kit.{refl, sym, ◌∙◌, ap, false, rules, lt-ltb, le-ltb, []}
 use Rattle.definition.specs.Call as defined
 use Rattle.definition.specs.Call.{most_slots, most_capacity, given_points}
 use Rattle.definition.specs.Sheet.{Listed, listed_points, over_limit, too_short, unknown_corner, far_point}

@@ -1,5 +1,6 @@
 -- No quad passed has an unknown corner; the first that has one answers.
-use Rattle.laws.specs.Kit.{◌≡◌, sym, ◌∙◌, false, ℕ, ◌-◌, ◌<◌, ◌≤◌, arith, not-suc-le-zero}
+use Rattle.std.specs.Prelude.{◌≡◌, ◌-◌, ◌<◌, ◌≤◌}
+use Rattle.laws.specs.Kit.{sym, ◌∙◌, false, ℕ, arith, not-suc-le-zero}
 use borrow.Author.Count.{below_more}
 use Rattle.laws.specs.Bools.{never, holds}
 use Rattle.sheet.specs.Refusals.{unknown_in, corners_each, corners_pass}

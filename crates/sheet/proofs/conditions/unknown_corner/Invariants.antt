@@ -1,4 +1,5 @@
-use Rattle.laws.specs.Kit.{◌≡◌, sym, ◌∙◌, false, ℕ, ◌-◌, ◌<◌, ◌≤◌, arith, not-suc-le-zero}
+use Rattle.std.specs.Prelude.{◌≡◌, ◌-◌, ◌<◌, ◌≤◌}
+use Rattle.laws.specs.Kit.{sym, ◌∙◌, false, ℕ, arith, not-suc-le-zero}
 use borrow.Author.Count.{below_more}
 use Rattle.laws.specs.Bools.{never, holds}
 use Rattle.sheet.specs.Refusals.{unknown_in, corners_each, corners_pass}

@@ -1,4 +1,5 @@
-use Rattle.laws.specs.Kit.{ap, ◌+◌, ◌-◌, arith, rules, get_or, set}
+use Rattle.std.specs.Prelude.{◌+◌, ◌-◌}
+use Rattle.laws.specs.Kit.{ap, arith, rules, get_or, set}
 use Rattle.definition.specs.Sheet.{listed_points}
 use Rattle.sheet.specs.Promise.{listed}
 use Rattle.sheet.proofs.Filling.{Filling, filling_none, filling_few, filling_size, filling_more, filling_end}

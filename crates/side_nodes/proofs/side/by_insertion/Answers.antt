@@ -1,5 +1,6 @@
 -- By the insertion's answer: nothing changed, or the new node is the only side node.
-use Rattle.laws.specs.Kit.{refl, sym, subst, ◌+◌, set}
+use Rattle.std.specs.Prelude.{◌+◌}
+use Rattle.laws.specs.Kit.{refl, sym, subst, set}
 use Rattle.definition.specs.Cells.{node_at}
 use Rattle.definition.specs.Insertion.{insert_along}
 use Rattle.definition.specs.Attempt.{sides_by}

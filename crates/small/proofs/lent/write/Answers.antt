@@ -1,5 +1,6 @@
 -- `lent::write`: the stores of each kind of list, within the slice.
-use Rattle.laws.specs.Kit.{ap, arith, rules, lit≤, [], ◌∷◌, length-set}
+use Rattle.std.specs.Prelude.{◌∷◌}
+use Rattle.laws.specs.Kit.{ap, arith, rules, lit≤, [], length-set}
 use Rattle.definition.specs.Lists.{concat, flat_map}
 use Rattle.small.specs.Small.{nodes, said}
 use Rattle.small.specs.Lent.{numbers}

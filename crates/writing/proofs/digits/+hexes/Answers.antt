@@ -1,5 +1,6 @@
 -- `digits::hexes`: the digits before the last, then the last.
-use Rattle.laws.specs.Kit.{sym, ◌-◌, ◌/◌, ◌<◌, arith}
+use Rattle.std.specs.Prelude.{◌-◌, ◌/◌, ◌<◌}
+use Rattle.laws.specs.Kit.{sym, arith}
 use Rattle.writing.proofs.Puts.{and_on, one_byte, no_text, same_text}
 use Rattle.writing.proofs.Shows.{hex_none, hex_more, hex_long}
 use Rattle.writing.proofs.digits.+hexes.Goals as goal

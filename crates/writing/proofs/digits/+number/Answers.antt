@@ -1,5 +1,6 @@
 -- `digits::number`: the digits of a tenth of the number, then the last digit.
-use Rattle.laws.specs.Kit.{sym, ap, ◌+◌, ◌%◌, arith, length}
+use Rattle.std.specs.Prelude.{◌+◌, ◌%◌}
+use Rattle.laws.specs.Kit.{sym, ap, arith, length}
 use Rattle.writing.proofs.Puts.{and_on, one_byte, same_text}
 use Rattle.writing.proofs.Shows.{show_one, show_more, show_longer}
 use Rattle.writing.proofs.digits.+number.Goals as goal

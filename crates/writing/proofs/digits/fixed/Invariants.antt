@@ -1,4 +1,5 @@
-use Rattle.laws.specs.Kit.{◌≡◌, ◌+◌, ◌-◌, ◌≤◌, length, take}
+use Rattle.std.specs.Prelude.{◌≡◌, ◌+◌, ◌-◌, ◌≤◌}
+use Rattle.laws.specs.Kit.{length, take}
 use Rattle.writing.specs.Put.{Written}
 use Rattle.writing.proofs.digits.fixed.Given as goal
 

@@ -1,5 +1,6 @@
 -- `lines::added`. Invariant: the points from k up to i are written, a line each.
-use Rattle.laws.specs.Kit.{◌≡◌, refl, ◌∙◌, ap, ℕ, ◌-◌, ◌*◌, arith, map, drop, binary64, nan, to_bits}
+use Rattle.std.specs.Prelude.{◌≡◌, ◌-◌, ◌*◌}
+use Rattle.laws.specs.Kit.{refl, ◌∙◌, ap, ℕ, arith, map, drop, binary64, nan, to_bits}
 use Rattle.writing.proofs.Puts.{and_next, no_text, same_text}
 use Rattle.writing.proofs.Rows.{point_more, no_lines}
 use Rattle.definition.specs.Lists.{rows}

@@ -1,5 +1,6 @@
 -- `lines::given`. Invariant: i points are written, a line each.
-use Rattle.laws.specs.Kit.{◌≡◌, refl, ◌∙◌, ap, ℕ, arith}
+use Rattle.std.specs.Prelude.{◌≡◌}
+use Rattle.laws.specs.Kit.{refl, ◌∙◌, ap, ℕ, arith}
 use Rattle.writing.proofs.Puts.{and_next, no_text, same_text}
 use Rattle.writing.proofs.Rows.{place_more, no_lines}
 use Rattle.definition.specs.Lists.{rows}

@@ -1,4 +1,5 @@
-use Rattle.laws.specs.Kit.{◌≡◌, ◌+◌, ◌-◌, ◌*◌, ◌≤◌, length}
+use Rattle.std.specs.Prelude.{◌≡◌, ◌+◌, ◌-◌, ◌*◌, ◌≤◌}
+use Rattle.laws.specs.Kit.{length}
 use Rattle.definition.specs.Lists.{rows}
 use Rattle.definition.specs.Text.{show_bits, lines_of}
 use Rattle.writing.specs.Put.{Written}

@@ -1,4 +1,5 @@
-use Rattle.laws.specs.Kit.{◌≡◌, ◌+◌, ◌-◌, ◌*◌, ◌≤◌, length, take, drop}
+use Rattle.std.specs.Prelude.{◌≡◌, ◌+◌, ◌-◌, ◌*◌, ◌≤◌}
+use Rattle.laws.specs.Kit.{length, take, drop}
 use Rattle.writing.proofs.Rows.{spaced}
 use Rattle.definition.specs.Text.{show}
 use Rattle.writing.specs.Put.{Written}

@@ -1,5 +1,6 @@
 -- `lines::table`. Invariant: i rows are written, a line each; the next begins at `from`.
-use Rattle.laws.specs.Kit.{◌≡◌, ◌+◌, ◌-◌, ◌*◌, ◌≤◌, length}
+use Rattle.std.specs.Prelude.{◌≡◌, ◌+◌, ◌-◌, ◌*◌, ◌≤◌}
+use Rattle.laws.specs.Kit.{length}
 use Rattle.definition.specs.Lists.{rows}
 use Rattle.definition.specs.Text.{show, lines_of}
 use Rattle.writing.specs.Put.{Written}

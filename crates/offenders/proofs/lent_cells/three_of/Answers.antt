@@ -1,7 +1,7 @@
--- `offenders::cells::three_of` meets its contract. Assumes nothing.
+-- `offenders::lent_cells::three_of` meets its contract. Assumes nothing.
 use Rattle.definition.specs.Cells.{new_tri}
 use Rattle.definition.specs.Call.{tri_at}
-use Rattle.offenders.proofs.cells.three_of.Goals as goal
+use Rattle.offenders.proofs.lent_cells.three_of.Goals as goal
 
 pub returns : goal.returns
 unfolding tri_at new_tri

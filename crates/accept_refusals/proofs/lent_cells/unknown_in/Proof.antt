@@ -1,11 +1,11 @@
--- `accept_refusals::cells::unknown_in` meets its contract: the mesher's test of nodes. Assumes nothing.
+-- `accept_refusals::lent_cells::unknown_in` meets its contract: the mesher's test of nodes. Assumes nothing.
 use mathlib.Core.Path.{refl, ap, ◌∙◌}
 use mathlib.Core.List.{[]}
 use borrow.Author.Rules.{rules}
 use Rattle.definition.specs.Call.{unknown_node, given_tris}
 use Rattle.accept_refusals.proofs.Lent.{lent_of}
-use Rattle.accept_refusals.proofs.cells.unknown_in.Statement.{statement}
-use Rattle.accept_refusals.proofs.cells.unknown_in.Tie as tie
+use Rattle.accept_refusals.proofs.lent_cells.unknown_in.Statement.{statement}
+use Rattle.accept_refusals.proofs.lent_cells.unknown_in.Tie as tie
 
 requires : tie.Need-unknown-node-requires
 requires c κs = rw (ap (λ z. z.count) c.standard.ensures) c.before.before.requires

@@ -1,4 +1,4 @@
--- `accept_refusals::cells::repeated_corner` meets its contract: no quad passed has a node twice. Assumes nothing.
+-- `accept_refusals::lent_cells::repeated_corner` meets its contract: no quad passed has a node twice. Assumes nothing.
 use mathlib.Core.Path.{◌≡◌, sym, ◌∙◌}
 use mathlib.Core.Bool.{false}
 use Prim.{absurd}
@@ -10,8 +10,8 @@ use borrow.Author.Count.{below_more}
 use Rattle.laws.specs.Tables.{none_below}
 use Rattle.accept.specs.Call.{corners_at, quad_twice}
 use Rattle.accept_refusals.specs.Tests.{some_below}
-use Rattle.accept_refusals.proofs.cells.repeated_corner.Statement.{statement}
-use Rattle.accept_refusals.proofs.cells.repeated_corner.Tie as tie
+use Rattle.accept_refusals.proofs.lent_cells.repeated_corner.Statement.{statement}
+use Rattle.accept_refusals.proofs.lent_cells.repeated_corner.Tie as tie
 
 abbrev invariant_loop : tie.invariant-loop
 invariant_loop quads n i₀ i = (i ≤ n) × ((k : ℕ) → k < i → quad_twice (corners_at quads k) ≡ false)

@@ -1,10 +1,10 @@
--- `offenders::cells::spot_of` meets its contract. Assumes nothing.
+-- `offenders::lent_cells::spot_of` meets its contract. Assumes nothing.
 use mathlib.Core.Path.{◌∙◌, ap}
 use lib.ListN.{get_or}
 use Rattle.definition.specs.Call.{point_at}
 use Rattle.plane.specs.Points.{ground}
 use Rattle.offenders.specs.Cells.{stands_for}
-use Rattle.offenders.proofs.cells.spot_of.Goals as goal
+use Rattle.offenders.proofs.lent_cells.spot_of.Goals as goal
 
 pub returns : goal.returns
 returns c =

@@ -1,9 +1,9 @@
--- `accept_refusals::cells::quad_twice` meets its contract: the definition's six comparisons. Assumes nothing.
+-- `accept_refusals::lent_cells::quad_twice` meets its contract: the definition's six comparisons. Assumes nothing.
 use borrow.Author.Tests.{eq-eqb, ne_eqb}
 use Rattle.definition.specs.Cells.{new_quad}
 use Rattle.accept.specs.Call.{quad_twice}
-use Rattle.accept_refusals.proofs.cells.quad_twice.Statement.{statement}
-use Rattle.accept_refusals.proofs.cells.quad_twice.Tie as tie
+use Rattle.accept_refusals.proofs.lent_cells.quad_twice.Statement.{statement}
+use Rattle.accept_refusals.proofs.lent_cells.quad_twice.Tie as tie
 
 returns : tie.Need-returns
 unfolding quad_twice new_quad

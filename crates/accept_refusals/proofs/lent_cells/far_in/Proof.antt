@@ -1,11 +1,11 @@
--- `accept_refusals::cells::far_in` meets its contract: the mesher's test of points. Assumes nothing.
+-- `accept_refusals::lent_cells::far_in` meets its contract: the mesher's test of points. Assumes nothing.
 use mathlib.Core.Path.{refl, ap, ◌∙◌}
 use mathlib.Core.List.{[]}
 use borrow.Author.Rules.{rules}
 use Rattle.definition.specs.Call.{far_point, given_points}
 use Rattle.accept_refusals.proofs.Lent.{lent_of}
-use Rattle.accept_refusals.proofs.cells.far_in.Statement.{statement}
-use Rattle.accept_refusals.proofs.cells.far_in.Tie as tie
+use Rattle.accept_refusals.proofs.lent_cells.far_in.Statement.{statement}
+use Rattle.accept_refusals.proofs.lent_cells.far_in.Tie as tie
 
 requires : tie.Need-far-point-requires
 requires c κs = rw (ap (λ z. z.given) c.standard.ensures) c.before.before.requires

@@ -1,4 +1,4 @@
--- `accept_refusals::cells::unknown_corner` meets its contract: every word passed names a point. Assumes nothing.
+-- `accept_refusals::lent_cells::unknown_corner` meets its contract: every word passed names a point. Assumes nothing.
 use mathlib.Core.Path.{sym}
 use Prim.{absurd}
 use Prim.Native.Nat.{ℕ, ◌-◌, ◌≤◌, ◌<◌}
@@ -9,8 +9,8 @@ use borrow.Author.Count.{below_more}
 use lib.ListN.{get_or}
 use Rattle.laws.specs.Bools.{holds}
 use Rattle.accept_refusals.specs.Tests.{quads_known, quads_pass}
-use Rattle.accept_refusals.proofs.cells.unknown_corner.Statement.{statement}
-use Rattle.accept_refusals.proofs.cells.unknown_corner.Tie as tie
+use Rattle.accept_refusals.proofs.lent_cells.unknown_corner.Statement.{statement}
+use Rattle.accept_refusals.proofs.lent_cells.unknown_corner.Tie as tie
 
 abbrev invariant_loop : tie.invariant-loop
 invariant_loop quads n m words i₀ i = (i ≤ words) × ((k : ℕ) → k < i → get_or quads k 0 < m)

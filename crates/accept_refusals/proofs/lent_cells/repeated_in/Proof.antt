@@ -1,11 +1,11 @@
--- `accept_refusals::cells::repeated_in` meets its contract: the mesher's test of triangles. Assumes nothing.
+-- `accept_refusals::lent_cells::repeated_in` meets its contract: the mesher's test of triangles. Assumes nothing.
 use mathlib.Core.Path.{refl, ap, ◌∙◌}
 use mathlib.Core.List.{[]}
 use borrow.Author.Rules.{rules}
 use Rattle.definition.specs.Call.{repeated_node, given_tris}
 use Rattle.accept_refusals.proofs.Lent.{lent_of}
-use Rattle.accept_refusals.proofs.cells.repeated_in.Statement.{statement}
-use Rattle.accept_refusals.proofs.cells.repeated_in.Tie as tie
+use Rattle.accept_refusals.proofs.lent_cells.repeated_in.Statement.{statement}
+use Rattle.accept_refusals.proofs.lent_cells.repeated_in.Tie as tie
 
 requires : tie.Need-repeated-node-requires
 requires c κs = rw (ap (λ z. z.count) c.standard.ensures) c.before.before.requires

@@ -1,7 +1,7 @@
--- `offenders::cells::four_of` meets its contract. Assumes nothing.
+-- `offenders::lent_cells::four_of` meets its contract. Assumes nothing.
 use Rattle.definition.specs.Cells.{new_quad}
 use Rattle.accept.specs.Call.{corners_at}
-use Rattle.offenders.proofs.cells.four_of.Goals as goal
+use Rattle.offenders.proofs.lent_cells.four_of.Goals as goal
 
 pub returns : goal.returns
 unfolding corners_at new_quad
