@@ -12,9 +12,11 @@ use Rattle.laws.specs.Lists.{known, no_some}
 use Rattle.refusals.specs.Refusals.{number_of}
 use Rattle.accept.specs.Accept.{Verdict, uprights, verdict}
 use Rattle.accept.specs.Call.{Handed, found, judged, refused, call}
-use Rattle.accept.specs.Passed.{InDoubles, call_refused, call_answers}
+use Rattle.accept.specs.Passed.{InDoubles}
+use Rattle.accept.proofs.Passed.{call_refused, call_answers}
 use Rattle.accept.specs.Theorems.{Clean}
-use Rattle.accept.specs.Upright.{AcceptedEither, accepted}
+use Rattle.accept.specs.Upright.{AcceptedEither}
+use Rattle.accept.proofs.Upright.{accepted}
 use Rattle.accept_refusals.specs.Passed.{none_holds}
 use Rattle.accept_numbers.specs.Numbers.{clean, listed, number, put, Tells, clean_means}
 

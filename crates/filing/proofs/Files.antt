@@ -8,9 +8,10 @@ use Rattle.definition.specs.Call.{tri_at, first_points, first_tris, all_of}
 use Rattle.definition.specs.Account.{All}
 use Rattle.filing.specs.declared.Order.{Order}
 use Rattle.filing.specs.Filing.{then, is_same, is_before, earlier, order_numbers, order_points, order_tris, order_lists, rotated, filed_tris, filing_order}
-use Rattle.filing.specs.Totals.{less, equal, more, stand, less_is, equal_is, more_is}
-use Rattle.filing.specs.Sorting.{sort_alike, lists_alike, all_sorted}
-use Rattle.filing.specs.Rotations.{is_rotation}
+use Rattle.filing.specs.Totals.{less, equal, more}
+use Rattle.filing.proofs.Totals.{stand, less_is, equal_is, more_is}
+use Rattle.filing.proofs.Sorting.{sort_alike, lists_alike, all_sorted}
+use Rattle.filing.proofs.Rotations.{is_rotation}
 use Rattle.sorting.specs.Places.{keys, Sorted}
 use Rattle.sorting.specs.Rows.{row_map, row_length, all_row}
 use Rattle.filing.specs.Places.{key, Small, Filled, FiledPlaces}

@@ -8,7 +8,8 @@ use Rattle.laws.specs.Lists.{get_d_any}
 use Rattle.filing.specs.declared.Order.{Order}
 use Rattle.filing.specs.declared.Order.TheVariants.{Before, Same, After}
 use Rattle.sorting.specs.Rows.{row, row_next, row_none}
-use Rattle.filing.specs.Totals.{less, equal, more, stand}
+use Rattle.filing.specs.Totals.{less, equal, more}
+use Rattle.filing.proofs.Totals.{stand}
 use Rattle.filing.specs.Filing.{then, is_same, is_before, earlier, order_numbers, order_floats, order_points, order_lists}
 
 -- an order that is not the same decides

@@ -4,7 +4,6 @@ pub mod Filing
 -- total orders, coordinates, lists sorted by an order, rotations of a triangle
 pub mod Totals
 pub mod Coordinates
-pub mod Sorting
 pub mod Rotations
 -- what the code's functions promise
 pub mod Places

@@ -15,7 +15,6 @@ abbrev pub Small : List ℕ → ℕ → Type 0
 Small ts n = (i : ℕ) → i < 3 * n → get_or ts i 0 < 4096
 
 -- ---- promises, of the work at entry and at exit
-
 -- n triangles that fit the places of the work, their nodes below 4096
 pub record Fileable (ts w : List ℕ) (n : ℕ) : Type 0 where
   pub triangles : 3 * n ≤ length ts

@@ -17,7 +17,7 @@ use Rattle.plane.specs.Points.{Within, node, ground}
 use Rattle.plane.specs.declared.points.Spot.{Spot}
 use Rattle.accept.specs.Accept.{Judged, failing, is_convex, is_wide}
 use Rattle.accept.specs.Call.{corners_at}
-use Rattle.accept.specs.Tests.{convex_decides, wide_decides}
+use Rattle.accept.proofs.Tests.{convex_decides, wide_decides}
 use Rattle.exact_tests.specs.Nodes.{at, given_at}
 use Rattle.offenders.specs.Search.{Finds}
 use Rattle.offenders.specs.declared.lent_cells.Four.{Four}

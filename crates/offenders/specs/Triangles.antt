@@ -14,7 +14,7 @@ use Rattle.laws.specs.Cells.{point_of}
 use Rattle.exact.specs.Sides.{SameAs}
 use Rattle.plane.specs.Points.{node}
 use Rattle.accept.specs.Accept.{Judged, tri_corners, failing, is_blunt}
-use Rattle.accept.specs.Tests.{blunt_decides}
+use Rattle.accept.proofs.Tests.{blunt_decides}
 use Rattle.exact_tests.specs.Nodes.{at}
 use Rattle.offenders.specs.Search.{Finds, found_none}
 use Rattle.offenders.specs.Cells.{Tested, Names, StandsFor, Each, names}

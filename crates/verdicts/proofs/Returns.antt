@@ -16,8 +16,8 @@ use Rattle.refusals.specs.Refusals.{number_of, some_found}
 use Rattle.uprights.specs.Promise.{FirstFlat}
 use Rattle.accept.specs.Accept.{uprights, moved, verdict}
 use Rattle.accept.specs.Call.{Handed, judged, refused, found, refusal}
-use Rattle.accept.specs.Passed.{call_refused, call_answers}
-use Rattle.accept.specs.Thin.{same_thin}
+use Rattle.accept.proofs.Passed.{call_refused, call_answers}
+use Rattle.accept.proofs.Thin.{same_thin}
 use Rattle.offenders.specs.Search as search
 use Rattle.offenders.specs.Cells.{FirstFolded, FirstSharp}
 use Rattle.offenders.specs.Triangles.{FirstThin}

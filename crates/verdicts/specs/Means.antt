@@ -5,7 +5,8 @@ use Rattle.std.proofs.Common.{ap, ◌∙◌, eq-eqb}
 use Rattle.accept.specs.Call.{Handed, judged, found, call}
 use Rattle.accept.specs.Passed.{InDoubles}
 use Rattle.accept.specs.Theorems.{Clean}
-use Rattle.accept.specs.Upright.{AcceptedEither, accepted}
+use Rattle.accept.specs.Upright.{AcceptedEither}
+use Rattle.accept.proofs.Upright.{accepted}
 use Rattle.verdicts.specs.declared.Answered.{Answered}
 use Rattle.verdicts.specs.Promise.{verdict_of, returned, Answers}
 

@@ -19,10 +19,10 @@ use Rattle.groups.specs.Promise.{Grouped}
 use Rattle.lost_joints.specs.declared.Lost.{Lost}
 use Rattle.lost_joints.specs.Promise as joints
 use Rattle.accept.specs.Accept.{tri_sides, quad_sides, given_sides, cell_sides, times, walked, Level, verdict}
-use Rattle.accept.specs.Balance.{times_walked}
+use Rattle.accept.proofs.Balance.{times_walked}
 use Rattle.accept.specs.Call.{Handed, judged, corners_at}
-use Rattle.accept.specs.Least.{names_least}
-use Rattle.accept.specs.Unique.{sizes_are, first_distinct}
+use Rattle.accept.proofs.Least.{names_least}
+use Rattle.accept.proofs.Unique.{sizes_are, first_distinct}
 
 -- the least edge that does not balance
 abbrev pub option : Answer → Option Edge

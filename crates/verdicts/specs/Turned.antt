@@ -15,10 +15,10 @@ use Rattle.uprights.specs.Promise as turned
 use Rattle.uprights.specs.Sides.{upright_words}
 use Rattle.uprights.proofs.Words.{words_tri}
 use Rattle.accept.specs.Accept.{Judged, failing, stands, odd_ones, upright, uprights, verdict}
-use Rattle.accept.specs.Tests.{stands_decides}
+use Rattle.accept.proofs.Tests.{stands_decides}
 use Rattle.accept.specs.Call.{Handed, judged}
-use Rattle.accept.specs.Upright.{upright_stands, stands_upright}
-use Rattle.accept.specs.Wound.{same_sizes}
+use Rattle.accept.proofs.Upright.{upright_stands, stands_upright}
+use Rattle.accept.proofs.Wound.{same_sizes}
 use Rattle.verdicts.specs.Odd.{OddOf}
 use Rattle.verdicts.specs.Sides.{option, uneven_is, lost_is, sizes_is}
 

@@ -1,7 +1,7 @@
 -- Refused by the first mesh, by the second, or filed.
 use Rattle.laws.specs.Kit.{sym, ◌∙◌}
 use Rattle.filing.specs.declared.Answer.TheVariants.{Filed}
-use Rattle.filing.specs.Refusals.{first_refused, second_refused, both_filed, readable}
+use Rattle.filing.proofs.Refusals.{first_refused, second_refused, both_filed, readable}
 use Rattle.filing.specs.Filing.{filed, input}
 use Rattle.filing.specs.Promise.{returned}
 use Rattle.filing.proofs.Files.{cleared}

@@ -6,7 +6,7 @@ use Rattle.definition.specs.Call.{most_given, unknown_node, repeated_node, far_p
 use Rattle.refusals.specs.Stated as stated
 use Rattle.filing.specs.Filing.{Mesh, asked, lent, over_limit, too_short, triangle_words}
 use Rattle.filing.specs.Promise.{mesh}
-use Rattle.filing.specs.Refusals.{in_turn}
+use Rattle.filing.proofs.Refusals.{in_turn}
 use Rattle.filing.proofs.conditions.refusal.Statement.{statement}
 use Rattle.filing.proofs.conditions.refusal.Tie as tie
 

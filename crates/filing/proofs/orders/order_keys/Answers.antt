@@ -2,7 +2,7 @@
 use Rattle.laws.specs.Kit.{sym, ◌∙◌, ap, arith}
 use Rattle.sorting.specs.Places.{key_at}
 use Rattle.filing.specs.Filing.{is_same, order_numbers}
-use Rattle.filing.specs.Totals.{equal_is}
+use Rattle.filing.proofs.Totals.{equal_is}
 use Rattle.filing.proofs.Marks.{differ, rows_start, rows_decide, rows_go_on, rows_end}
 use Rattle.filing.proofs.orders.order_keys.Goals as goal
 

@@ -1,6 +1,6 @@
 -- The code's two comparisons are the definition's.
 use Rattle.laws.specs.Kit.{sym, arith}
-use Rattle.filing.specs.Totals.{less_is, equal_is, more_is}
+use Rattle.filing.proofs.Totals.{less_is, equal_is, more_is}
 use Rattle.filing.proofs.orders.order_numbers.Goals as goal
 
 pub returns : goal.returns

@@ -1,5 +1,5 @@
 -- The comparisons find the rotation.
-use Rattle.filing.specs.Rotations.{from_first, from_second, from_third, from_third'}
+use Rattle.filing.proofs.Rotations.{from_first, from_second, from_third, from_third'}
 use Rattle.filing.proofs.places.put_rotated.Goals as goal
 
 pub returns-then-a-c : goal.returns-then-a-c

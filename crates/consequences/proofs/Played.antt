@@ -16,7 +16,6 @@ use Rattle.laws.specs.Lists.{In}
 use Rattle.account.specs.Redo.{redo_all, Enterable}
 
 -- ---- an entry is read back
-
 double_back : (x : Float) → T (fits binary64 x) → double_of (to_bits binary64 x % word_limit) (to_bits binary64 x / word_limit) ≡ x
 unfolding double_of f64 word_limit
 double_back x h =
@@ -40,7 +39,6 @@ read_back (was_placed q ids) rest h =
     (λ i. reading (was_placed (whole_quad i) (take-append_seam ids rest i)) (drop-append_seam ids rest i))
 
 -- ---- the whole trace
-
 entry_words : (v : Event) → 0 < length (entry v)
 unfolding entry
 entry_words (was_split id p) = omega arith

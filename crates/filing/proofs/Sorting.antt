@@ -12,7 +12,6 @@ use Rattle.filing.specs.Filing.{reverse, order_lists, is_before, earlier}
 use Rattle.filing.specs.Totals.{Chained, Total, Any}
 
 -- ---- orders of three
-
 through : (p q r : Order) → Chained p q r → is_before p ≡ false → is_before q ≡ false → is_before r ≡ false
 through Before q r h k l = never true refl k
 through Same q r h k l = ap is_before h ∙ l
@@ -40,7 +39,6 @@ strict o t tells =
     }
 
 -- ---- what a function makes of lists
-
 module _ {A B : Type 0} (P : A → Type 0) (f : A → B) (o : A → A → Order) (q : B → B → Order) (alike : (x y : A) → P x → P y → o x y ≡ q (f x) (f y)) where
   pub lists_alike : (xs ys : List A) → All P xs → All P ys → order_lists o xs ys ≡ order_lists q (map f xs) (map f ys)
   unfolding order_lists

@@ -29,10 +29,10 @@ use Rattle.account.proofs.Finished.{given_proper}
 use Rattle.consequences.specs.NeverFlipped.{at_end}
 use Rattle.account.specs.Redo.{Redoable}
 use Rattle.account.proofs.Redo.{flip_redoable, split_redoable, quad_redoable, start_redoable}
-use Rattle.consequences.specs.Replays.{Replaying, rebuilt_as, ends_in, with_room}
+use Rattle.consequences.specs.Replays.{Replaying, rebuilt_as}
+use Rattle.consequences.proofs.Replays.{ends_in, with_room}
 
 -- ---- the steps of a run
-
 -- a mesh that came about from the mesh `first` by flips, splits and quads,
 -- each a step of the definition and an entry of the history
 pub data Grew (first : Mesh) : Mesh → Type 0 where
@@ -118,7 +118,6 @@ module _ (s s₀ : Settings) (b : Float) (first : Mesh) (points : s.capacity ≤
   in_the_end (stopped w st) h = h.1
 
 -- ---- a call
-
 -- the state of a mesh, as far as its lists go
 unfoldable pub lists_of : Mesh → State
 lists_of m = record { mesh = m; quads = quads_placed m.history; blocked = []; counts = no_counts }

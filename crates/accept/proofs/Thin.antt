@@ -13,12 +13,11 @@ use Rattle.definition.specs.Cells.{Tri, new_tri}
 use Rattle.definition.specs.Exact.{Arrow, exact_dot, squared, squared_length, next_side, last_side}
 use Rattle.laws.specs.Bools.{which}
 use Rattle.accept.specs.Accept.{Judged, tri_corners, BluntAt, Blunt, turn, above, cosine_at_most, cosine_up_to, is_blunt, over, upright, uprights, verdict}
-use Rattle.accept.specs.Firsts.{NamesFirst}
-use Rattle.accept.specs.Bare.{failing_map}
-use Rattle.accept.specs.Theorems.{thin_means}
+use Rattle.accept.proofs.Firsts.{NamesFirst}
+use Rattle.accept.proofs.Bare.{failing_map}
+use Rattle.accept.proofs.Theorems.{thin_means}
 
 -- ---- a corner
-
 dot_swap : (u v : Arrow) → exact_dot u v ≡ exact_dot v u
 unfolding exact_dot
 dot_swap u v = ap₂ (λ a b. a +ℤ b) (*ℤ_comm u.ax v.ax) (*ℤ_comm u.ay v.ay)
@@ -35,7 +34,6 @@ unfolding cosine_up_to
 up_to_mirror t a b c = mirror _ _ a b c
 
 -- ---- a triangle
-
 exchanged : (a b c : Bool) → (a && (b && (c && true))) ≡ (a && (c && (b && true)))
 exchanged false b c = refl
 exchanged true false false = refl
@@ -57,7 +55,6 @@ unfolding upright
 upright_corners t ps r = elim (which (above (turn ps r))) [ inl e ↦ rw e refl | inr e ↦ rw e (over_corners t ps r) ]
 
 -- ---- the clause
-
 -- the verdict of the triangles turned upright names the triangle that it names of them as they are
 pub same_thin : (j : Judged) → (verdict (uprights j)).thin ≡ (verdict j).thin
 unfolding verdict is_blunt
