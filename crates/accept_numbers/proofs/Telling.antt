@@ -1,6 +1,6 @@
 -- The numbers of a verdict as thirteen stores, a place as the lesser of two numbers,
 -- and the number of a call whose answer is too short.
-use mathlib.Core.Path.{◌≡◌, refl, sym, ◌∙◌}
+use mathlib.Core.Path.{◌≡◌, refl}
 use mathlib.Core.Logic.{◌≢◌}
 use mathlib.Core.List.{List}
 use Prim.Native.Nat.{ℕ, ◌≤◌, min}
