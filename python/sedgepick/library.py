@@ -83,8 +83,8 @@ def open_library() -> ctypes.CDLL:
     path = next((place for place in places() if os.path.exists(place)), None)
     if path is None:
         raise NoLibrary(
-            '%s is not there; looked for: %s. In a checkout `tools/archive library && tools/shared` '
-            'makes it; %s names another place'
+            '%s is not there; looked for: %s. In a checkout `tools/archive library && '
+            'tools/shared` makes it; %s names another place'
             % (SONAME, ', '.join(places()), VARIABLE)
         )
     try:
