@@ -241,14 +241,7 @@ fn counted(shared: bool, k: u32) -> u32
 }
 
 // Like `push_around`, around the better end of each edge, which is looked for where `many` triangles are in reach.
-pub fn push_around_either(
-    w: &mut [u32],
-    s: usize,
-    p: usize,
-    i: usize,
-    n: u32,
-    many: bool,
-) -> u32
+pub fn push_around_either(w: &mut [u32], s: usize, p: usize, i: usize, n: u32, many: bool) -> u32
     requires can_push_all { (m : Mesh) × (out : List Live) × (seen : List Live) × (st : List Live) × (t : TriIn m i) × CanPushAll w.old s p i n m out seen st t.t }
     requires i_lt_s { i < s }
     ensures { (m : Mesh) (out seen st : List Live) (x : Live) (t : TriIn m i) → CanPushAll w.old s p i n m out seen st t.t → x ≡ new_live i (tri t.t) → AroundTo w.old w.new s p result m out seen st x }

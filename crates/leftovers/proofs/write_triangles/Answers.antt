@@ -14,11 +14,14 @@ pub write_slot-n-requires : goal.write_slot-n-requires
 write_slot-n-requires c =
     let l = c in
     let t = l in
-    let r = t.requires.rep.1 in record { rep = (t.requires.rep.0, r); can_write = record {
+    let r = t.requires.rep.1 in record {
+      rep = (t.requires.rep.0, r);
+      can_write = record {
         inside = omega (arith, c.loop-i-test.true, r.used, t.requires.rep.2);
         few = omega (arith, c.loop-i-test.true, l.loop-i.invariant.few, r.used, t.requires.rep.2);
         room = omega (arith, l.loop-i.invariant.len, t.requires.s_in_bounds);
-      } }
+      };
+    }
 
 pub loop-i-preserved : goal.loop-i-preserved
 loop-i-preserved c =

@@ -13,7 +13,9 @@ write_quad-requires c =
     let t = c in
     let h = t.requires.4 in
     let e = h.so_far.number in
-    let below = edge_below t.args.p t.args.t.n0 t.args.t.n1 t.args.u t.args.v h.fits.edge h.fits.node0 h.fits.node1 in record { in_bounds = search rules; words = record {
+    let below = edge_below t.args.p t.args.t.n0 t.args.t.n1 t.args.u t.args.v h.fits.edge h.fits.node0 h.fits.node1 in record {
+      in_bounds = search rules;
+      words = record {
         node0 = omega (arith, h.fits.node0, h.small_points);
         node1 = omega (arith, h.fits.node1, h.small_points);
         node2 = omega (arith, h.fits.node2, h.small_points);
@@ -22,7 +24,8 @@ write_quad-requires c =
         second = omega (arith, below.1, h.small_points);
         round = omega (arith, e, h.fits.few, h.small_slots);
         replaced = omega (arith, h.fits.replaced);
-      } }
+      };
+    }
 
 pub free-requires : goal.free-requires
 free-requires c =

@@ -29,7 +29,9 @@ with_node-k-requires c =
     let l = c in
     let s = l in
     let a = s in
-    let p = a.requires.far in record { count_le_pairs = (omega arith, a.requires.pairs_le_room, falling_none _ _); far = (
+    let p = a.requires.far in record {
+      count_le_pairs = (omega arith, a.requires.pairs_le_room, falling_none _ _);
+      far = (
         p.1,
         record {
           a_within = p.2.a_within;
@@ -38,7 +40,8 @@ with_node-k-requires c =
           edge = p.2.edge;
           side = l.length-ca.ensures.1;
         },
-      ) }
+      );
+    }
 
 pub returns-then-k-y : goal.returns-then-k-y
 returns-then-k-y c = record { fair = fair_low _ minus_one_over_zero _ _; neutral = λ x e. none_below _ x minus_one_over_zero e }
@@ -52,6 +55,9 @@ returns c =
     let s = n in
     let a = s in
     let p = a.requires.far in
-    let g = n.with_node-k.ensures in record { fair = fair_kept _ _ _ _ s.steepest-i.result _ _ _ _ _ (omega (arith, length_part a.args.w.now a.args.near_at a.args.nears p.0.stands, s.steepest-i.ensures))
+    let g = n.with_node-k.ensures in record {
+      fair = fair_kept _ _ _ _ s.steepest-i.result _ _ _ _ _ (omega (arith, length_part a.args.w.now a.args.near_at a.args.nears p.0.stands, s.steepest-i.ensures))
           (λ i. all_numbers _ _ (trial_numbers _ _ _ _ i)) (omega (arith, g.few, c.if-k-y.false)) (omega (arith, c.if-k-eq0.false))
-          (part_at a.args.w.now a.args.near_at a.args.nears s.steepest-i.result s.steepest-i.ensures) g; neutral = λ x l. s.all_neutral.ensures s.if-not-all_neutral.false }
+          (part_at a.args.w.now a.args.near_at a.args.nears s.steepest-i.result s.steepest-i.ensures) g;
+      neutral = λ x l. s.all_neutral.ensures s.if-not-all_neutral.false;
+    }
