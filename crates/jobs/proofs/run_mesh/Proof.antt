@@ -1,5 +1,4 @@
--- Refused by 16, refused as a call is, or the run with the job's limit; the account,
--- the joints and the area follow from what came back.
+-- Refused by 16, refused as a call is, or the run with the job's limit; the account, the joints and the area follow from what came back.
 use mathlib.Core.Path.{◌≡◌, refl, sym, ◌∙◌, subst}
 use mathlib.Core.Bool.{true, false}
 use Prim.Native.Nat.{ℕ}
@@ -57,7 +56,7 @@ returns c =
     let bad = sym e.before.bad_job.ensures ∙ e.if1.true in
     let y = c.refused.ensures in
     let kept = none_kept (job_limit (state t) (stated t)) (stated t) (held t) c.refused.result (held t) (λ z. omega (arith, y.number, z)) in
-    record { returns = bad_returns t.args.state (stated t) (held t) bad c.refused.result y; account = kept.0; joints = kept.1; area = kept.2 }
+    (bad_returns t.args.state (stated t) (held t) bad c.refused.result y, (kept.0, (kept.1, kept.2)))
 
 handed_on_requires : tie.Need-handed_on-requires
 handed_on_requires c κs = (good_state c.before.before.before.before, omega arith)
@@ -71,8 +70,7 @@ returns_2 c =
     let t = start r in
     let y = x.refused2.ensures in
     let kept = none_kept (job_limit (state t) (stated t)) (stated t) (held t) x.refused2.result (held t) (λ z. e.if2.true (sym y.number ∙ z)) in
-    let is = refused_mesh t.args.state c.handed_on.result (stated t) (held t) (good_state g) r.refusal.result (number_is r) e.if2.true x.refused2.result y c.handed_on.ensures in
-    record { returns = is; account = kept.0; joints = kept.1; area = kept.2 }
+    (refused_mesh t.args.state c.handed_on.result (stated t) (held t) (good_state g) r.refusal.result (number_is r) e.if2.true x.refused2.result y c.handed_on.ensures, (kept.0, (kept.1, kept.2)))
 
 limit_of_requires : tie.Need-limit-of-requires
 limit_of_requires c κs =
@@ -86,19 +84,14 @@ run_requires c κs =
     let t = start e.before in
     (passed_all e, omega (arith, o.limit_of.ensures, usual (state t) (stated t)))
 
--- what the slices hold after the run
-abbrev left : tie.After-run → Lent
-left x =
-    let t = start x.before.before.before.before.before.before.before.before.before.before in
-    let d = x.run.new in
-    lent_of d.0 t.args.triangles.now t.args.joints.now d.1.1.1.0 d.1.1.1.1.0 d.1.1.1.1.1.0 d.1.1.1.1.1.1.0 d.1.1.1.1.1.1.1.0 d.1.1.1.1.1.1.1.1.0
-
 -- what the run left, by the job's limit
-ran_to : (x : tie.After-run) → let t = start x.before.before.before.before.before.before.before.before.before.before in RanTo (job_limit (state t) (stated t)) (stated t) (held t) x.run.result (left x)
+ran_to : (x : tie.After-run) → let t = start x.before.before.before.before.before.before.before.before.before.before in let d = x.run.new in
+    RanTo (job_limit (state t) (stated t)) (stated t) (held t) x.run.result (lent_of d.0 t.args.triangles.now t.args.joints.now d.1.1.1.0 d.1.1.1.1.0 d.1.1.1.1.1.0 d.1.1.1.1.1.1.0 d.1.1.1.1.1.1.1.0 d.1.1.1.1.1.1.1.1.0)
 ran_to x =
     let o = x.before.before.before.before.before.before.before.before in
     let t = start o.before.before in
-    subst (λ (most : ℕ). RanTo most (stated t) (held t) x.run.result (left x)) o.limit_of.ensures x.run.ensures
+    let d = x.run.new in
+    subst (λ (most : ℕ). RanTo most (stated t) (held t) x.run.result (lent_of d.0 t.args.triangles.now t.args.joints.now d.1.1.1.0 d.1.1.1.1.0 d.1.1.1.1.1.0 d.1.1.1.1.1.1.0 d.1.1.1.1.1.1.1.0 d.1.1.1.1.1.1.1.1.0)) o.limit_of.ensures x.run.ensures
 
 handed_on_requires_2 : tie.Need-handed_on-requires-2
 handed_on_requires_2 c κs =
@@ -114,9 +107,10 @@ returns_3 c =
     let e = x.before.before.before.before.before.before.before.before.before in
     let g = e.before.before.before in
     let t = start e.before in
-    let kept = ran_kept (job_limit (state t) (stated t)) (stated t) (held t) (double t) (passed_all e) x.run.result (left x) (ran_to x) in
-    let is = ran_mesh t.args.state c.handed_on2.result (stated t) (held t) (good_state g) (passed_all e) x.run.result (left x) (ran_to x) c.handed_on2.ensures in
-    record { returns = is; account = kept.0; joints = kept.1; area = kept.2 }
+    let d = x.run.new in
+    let exit = lent_of d.0 t.args.triangles.now t.args.joints.now d.1.1.1.0 d.1.1.1.1.0 d.1.1.1.1.1.0 d.1.1.1.1.1.1.0 d.1.1.1.1.1.1.1.0 d.1.1.1.1.1.1.1.1.0 in
+    let kept = ran_kept (job_limit (state t) (stated t)) (stated t) (held t) (double t) (passed_all e) x.run.result exit (ran_to x) in
+    (ran_mesh t.args.state c.handed_on2.result (stated t) (held t) (good_state g) (passed_all e) x.run.result exit (ran_to x) c.handed_on2.ensures, (kept.0, (kept.1, kept.2)))
 
 pub run_mesh_spec : {M : Type 1} → statement M
 run_mesh_spec =

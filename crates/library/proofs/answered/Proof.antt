@@ -38,7 +38,7 @@ returns_2 c =
     let t = start x in
     let r = x.run_front.result in
     with_room (stated t) (held t) t.args.answer.now r.refusal t.args.answer.now (left x) r x.before.before.before.before.before.before.before.before.if1.false
-    (record { promised = x.run_front.ensures; number = refl; answer = kept r t.args.answer.now c.if2.true })
+    (record { returns = x.run_front.ensures.0; keeps = x.run_front.ensures.1.0; joints = x.run_front.ensures.1.1.0; area = x.run_front.ensures.1.1.1; number = refl; answer = kept r t.args.answer.now c.if2.true })
 
 returns_3 : tie.Need-returns-3
 returns_3 c =
@@ -48,7 +48,7 @@ returns_3 c =
     let zero = c.before.before.before.before.if2.false in
     let w = c.before.before.write_answer in
     with_room (stated t) (held t) t.args.answer.now 0 w.new.0 (left x) r x.before.before.before.before.before.before.before.before.if1.false
-    (record { promised = x.run_front.ensures; number = sym zero; answer = put r t.args.answer.now w.new.0 zero w.ensures })
+    (record { returns = x.run_front.ensures.0; keeps = x.run_front.ensures.1.0; joints = x.run_front.ensures.1.1.0; area = x.run_front.ensures.1.1.1; number = sym zero; answer = put r t.args.answer.now w.new.0 zero w.ensures })
 
 pub answered_spec : {M : Type 1} → statement M
 answered_spec =

@@ -8,7 +8,7 @@ use Rattle.refusals.specs.Stated.{asked}
 use Rattle.mesher.specs.Promise.{lent_of}
 use Rattle.allowances.specs.States.{job_of}
 use Rattle.library.proofs.Handing.{kept, put}
-use Rattle.library.proofs.Meshes.{without_state, refused_state, without_answer, with_both}
+use Rattle.library.proofs.Meshes.{Came, without_state, refused_state, without_answer, with_both}
 use Rattle.library.proofs.job.meshed.Statement.{statement}
 use Rattle.library.proofs.job.meshed.Tie as tie
 
@@ -33,6 +33,9 @@ abbrev left : tie.After-run-mesh → Lent
 left x =
     let d = x.run_mesh.new in
     lent_of d.0 (start x).args.triangles.now (start x).args.joints.now d.1.1.1.0 d.1.1.1.1.0 d.1.1.1.1.1.0 d.1.1.1.1.1.1.0 d.1.1.1.1.1.1.1.0 d.1.1.1.1.1.1.1.1.0
+
+came : (x : tie.After-run-mesh) → Came (job_of (found x).state_in.result) (stated (start x)) (held (start x)) x.run_mesh.result (left x)
+came x = let e = x.run_mesh.ensures in record { returns = e.0; keeps = e.1.0; joints = e.1.1.0; area = e.1.1.1 }
 
 -- 16 does not refuse it
 good : (x : tie.After-run-mesh) → bad_job (job_of (found x).state_in.result) ≡ false
@@ -67,7 +70,7 @@ returns_4 c =
     let t = start x in
     let m = x.run_mesh.result in
     with_both (job_of s.state_in.result) (stated t) (held t) t.args.job.now t.args.answer.now m.answer.refusal w.new.0 t.args.answer.now (left x) m
-    s.state_in.ensures s.before.before.if1.left (good x) x.before.before.before.before.before.before.before.before.if3.false x.run_mesh.ensures refl w.ensures (kept m.answer t.args.answer.now c.if4.true)
+    s.state_in.ensures s.before.before.if1.left (good x) x.before.before.before.before.before.before.before.before.if3.false (came x) refl w.ensures (kept m.answer t.args.answer.now c.if4.true)
 
 returns_5 : tie.Need-returns-5
 returns_5 c =
@@ -79,7 +82,7 @@ returns_5 c =
     let t = start x in
     let m = x.run_mesh.result in
     with_both (job_of s.state_in.result) (stated t) (held t) t.args.job.now t.args.answer.now 0 w.new.0 y.new.0 (left x) m
-    s.state_in.ensures s.before.before.if1.left (good x) x.before.before.before.before.before.before.before.before.if3.false x.run_mesh.ensures (sym zero) w.ensures (put m.answer t.args.answer.now y.new.0 zero y.ensures)
+    s.state_in.ensures s.before.before.if1.left (good x) x.before.before.before.before.before.before.before.before.if3.false (came x) (sym zero) w.ensures (put m.answer t.args.answer.now y.new.0 zero y.ensures)
 
 pub meshed_spec : {M : Type 1} → statement M
 meshed_spec =
