@@ -1,5 +1,6 @@
 -- The edges that wait, one after the other: what is still to come gives what all of them would have given.
-use Rattle.laws.specs.Kit.{◌≡◌, ◌+◌, ◌-◌, List, length}
+use Rattle.std.specs.Prelude.{◌≡◌, ◌+◌, ◌-◌}
+use Rattle.laws.specs.Kit.{List, length}
 use Rattle.definition.specs.Plane.{Edge}
 use Rattle.definition.specs.Front.{State}
 use Rattle.cells.specs.Layout.{tried_at}
