@@ -1,4 +1,4 @@
--- What `standard` states are these numbers with document 01's set, and a trace of no words stays one.
+-- What `standard` states are these numbers with the standard set, and a trace of no words stays one.
 use mathlib.Core.List.{List, []}
 use Prim.Native.Nat.{ℕ}
 use borrow.Author.Rules.{rules}
