@@ -106,6 +106,7 @@ module _ (x : Setup) (sized : Sized x.rules.size) (from : List Node) (n₀ : ℕ
         within = subst (λ l. AllWithin l) (sym (split_grows m y.slot t p)) (λ q i. elim (in_either q m.points (p ∷ []) i) [
           | inl j ↦ h.1.within q j
           | inr (inl e) ↦ subst (λ z. Within z) (sym e) (split_within x sized st.mesh m p t h.0 h.1.within w.normal w.held)
+          | inr (inr x3) ↦ elim x3 [ ]
         ]);
       },
     );
