@@ -725,6 +725,11 @@ class Page(unittest.TestCase):
         self.element('cell-close').click()
         self.what_is_drawn()
 
+    def test_what_is_drawn(self):
+        self.open()
+        self.run_it()
+        self.what_is_drawn()
+
     def what_is_drawn(self):
         """The pixel in the middle of a cell has the colour of its class, also where cells are small."""
         time.sleep(0.5)
@@ -841,7 +846,7 @@ class Page(unittest.TestCase):
     def test_stop(self):
         with tempfile.TemporaryDirectory() as folder:
             path = os.path.join(folder, 'large.vtk')
-            write_grid(path, 150, 130)
+            write_grid(path, 224, 224)
             self.open(path)
         self.element('run').click()
         self.until('desk.state.run && desk.state.run.task')
