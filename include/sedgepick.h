@@ -451,7 +451,7 @@ size_t sedgepick_small_mesh(uint32_t points, size_t place, uint32_t *list, size_
  * Slices are as above, but that points and quads may share memory. 0 is returned, or a refusal, which touches nothing: SEDGEPICK_OVER_LIMIT (1),
  * SEDGEPICK_TOO_SHORT (4: points, quads, out or answer), SEDGEPICK_UNKNOWN_NODE (5: a corner) or SEDGEPICK_FAR_POINT (7: any of the given points), the first
  * that holds. Of a run that returned 0, handed on as it came back (its points and quads, `given` and `count` from its answer) with room in `out` and in
- * `answer`, the sheet is not refused, no quad is without metrics, and neither worst is beyond the run's quality set: `sheet-passes` of crates/run_sheets,
+ * `answer`, the sheet is not refused, no quad is without metrics, and neither worst is beyond the run's quality set: `sheet_passes` of crates/run_sheets,
  * proved from what the run promises.
  */
 size_t sedgepick_sheet(

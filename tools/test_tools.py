@@ -648,8 +648,8 @@ class Docs(unittest.TestCase):
 
     def test_statements(self):
         page = 'docs/REQUIREMENTS.md'
-        self.noticed(DOCS.check_statements, page, '`keeps_account` in', '`keeps_accounts` in', 'no keeps_accounts in crates/account/specs/Demand.antt')
-        self.noticed(DOCS.check_statements, page, 'crates/account/specs/Demand.antt', 'crates/account/specs/Demands.antt', 'no file crates/account/specs/Demands.antt')
+        self.noticed(DOCS.check_statements, page, '`keeps_account` in', '`keeps_accounts` in', 'no keeps_accounts in crates/account/proofs/Demand.antt')
+        self.noticed(DOCS.check_statements, page, 'crates/account/proofs/Demand.antt', 'crates/account/proofs/Demands.antt', 'no file crates/account/proofs/Demands.antt')
         births = self.pages[page][self.pages[page].index('### Births'):self.pages[page].index('### Trials')]
         self.noticed(DOCS.check_statements, page, births, births[:births.index('Proved:')], 'nothing proves or tests Births')
 
@@ -659,8 +659,8 @@ class Docs(unittest.TestCase):
         self.noticed(DOCS.check_counts, 'docs/ARCHITECTURE.md', stated, '7<!--crate-->', 'no count is called crate')
 
     def test_put_right(self):
-        right = '%d<!--crates--> in `account/specs/Demand.antt`, `crates/account/specs/Demand.antt`' % self.tree.counts()['crates']
-        self.assertEqual(DOCS.put_right(self.tree, '7<!--crates--> in `exact/specs/Demand.antt`, `crates/exact/specs/Demand.antt`'), right)
+        right = '%d<!--crates--> in `account/specs/Gridded.antt`, `crates/account/specs/Gridded.antt`' % self.tree.counts()['crates']
+        self.assertEqual(DOCS.put_right(self.tree, '7<!--crates--> in `exact/specs/Gridded.antt`, `crates/exact/specs/Gridded.antt`'), right)
         self.assertEqual(DOCS.put_right(self.tree, right), right)
         self.assertEqual(DOCS.put_right(self.tree, '`exact/another_standard` `exact/half_steps`'), '`rules/another_standard` `exact/half_steps`')
         self.assertEqual(DOCS.put_right(self.tree, '`exact/high_word_first`, `traces/high_word_first`').count('traces/'), 1)
