@@ -13,6 +13,7 @@ pub mod Profile
 pub mod PreviewRoom
 -- the replay of a trace
 pub mod ReplayOrder
+pub mod Doubles
 pub mod Played
 pub mod Replays
 pub mod Stages

@@ -21,27 +21,22 @@ use Rattle.account.specs.Run.{Rule, ProgressOk}
 use Rattle.account.proofs.Run.{front_loop_ok}
 use Rattle.account.proofs.Finished.{given_proper}
 use Rattle.consequences.specs.NeverFlipped.{at_end, entries}
+use Rattle.consequences.specs.NeverFlipped.{Free}
 
 module _ (lk : Edge → Bool) where
-  -- a flip is of an edge that is not locked
-  abbrev pub Free : Event → Type 0
-  Free (was_split id p) = Unit {0}
-  Free (was_flipped e) = lk e ≡ false
-  Free (was_placed q ids) = Unit {0}
-
   -- lk tells which edges of the mesh are locked, and none of them was flipped
   pub record Unflipped (room : ℕ) (m : Mesh) : Type 0 where
     pub locked : m.locked ≡ lk
     pub room_kept : m.room ≡ room
-    pub free : All Free m.history
+    pub free : All (Free lk) m.history
 
   module _ (room : ℕ) where
     -- one event more
-    further : (m m' : Mesh) (v : Event) → Unflipped room m → m'.locked ≡ m.locked → m'.room ≡ m.room → m'.history ≡ m.history ++ (v ∷ []) → Free v → Unflipped room m'
+    further : (m m' : Mesh) (v : Event) → Unflipped room m → m'.locked ≡ m.locked → m'.room ≡ m.room → m'.history ≡ m.history ++ (v ∷ []) → (Free lk) v → Unflipped room m'
     further m m' v h a r b f = record {
       locked = a ∙ h.locked;
       room_kept = r ∙ h.room_kept;
-      free = subst (λ vs. All Free vs) (sym b) (all_append Free m.history (v ∷ []) h.free (f, tt));
+      free = subst (λ vs. All (Free lk) vs) (sym b) (all_append (Free lk) m.history (v ∷ []) h.free (f, tt));
     }
 
     flipped : (m m' : Mesh) (e : Edge) → Unflipped room m → flip m e ≡ some m' → Unflipped room m'

@@ -11,35 +11,28 @@ use Rattle.definition.specs.Cells.{Cell, tri, quad, Live, Mesh, cell_of}
 use Rattle.definition.specs.Trace.{in_room}
 use Rattle.definition.specs.Insertion.{Inserted, nowhere, inserted, full, point_clear, slot_clear, holder, split_triangle, split, split_clear, insert_near}
 use Rattle.laws.specs.Bools.{cond_ok}
+use Rattle.consequences.specs.NoRoom.{Lacking}
 
 module _ (s : Settings) (m : Mesh) where
-  -- what is lacking where an insertion ends the run
-  abbrev pub Lacking : Inserted → Type 0
-  Lacking nowhere = Unit {0}
-  Lacking (inserted v m') = Unit {0}
-  Lacking (full of_points) = s.capacity ≤ length m.points
-  Lacking (full of_slots) = (length m.points < s.capacity) × (s.slots < m.used + 2)
-  Lacking (full of_trace) = (length m.points < s.capacity) × (m.used + 2 ≤ s.slots)
-
-  split_lacks : (p : Node) (id : ℕ) (c : Cell) → Lacking (split s m p id c)
+  split_lacks : (p : Node) (id : ℕ) (c : Cell) → (Lacking s m) (split s m p id c)
   unfolding split
   split_lacks p id (quad q) = tt
   split_lacks p id (tri t) =
       let done = split_triangle m id t p in
       let entered = cond (in_room done) (inserted (length m.points) done) (full of_trace) in
-      cond_ok Lacking (leb s.capacity (length m.points)) (full of_points) (cond (ltb s.slots (m.used + 2)) (full of_slots) entered)
+      cond_ok (Lacking s m) (leb s.capacity (length m.points)) (full of_points) (cond (ltb s.slots (m.used + 2)) (full of_slots) entered)
       (λ z. leb-true s.capacity (length m.points) z)
-      (λ z. cond_ok Lacking (ltb s.slots (m.used + 2)) (full of_slots) entered
+      (λ z. cond_ok (Lacking s m) (ltb s.slots (m.used + 2)) (full of_slots) entered
       (λ y. (leb-false s.capacity (length m.points) z, ltb-true s.slots (m.used + 2) y))
-      (λ y. cond_ok Lacking (in_room done) (inserted (length m.points) done) (full of_trace) (λ x. tt) (λ x. (leb-false s.capacity (length m.points) z, ltb-false s.slots (m.used + 2) y))))
+      (λ y. cond_ok (Lacking s m) (in_room done) (inserted (length m.points) done) (full of_trace) (λ x. tt) (λ x. (leb-false s.capacity (length m.points) z, ltb-false s.slots (m.used + 2) y))))
 
-  clear_lacks : (p : Node) (spacing : Float) (o : Option Live) → Lacking (split_clear s m p spacing o)
+  clear_lacks : (p : Node) (spacing : Float) (o : Option Live) → (Lacking s m) (split_clear s m p spacing o)
   unfolding split_clear
   clear_lacks p spacing none = tt
-  clear_lacks p spacing (some x) = cond_ok Lacking (point_clear m p spacing x.cell) (split s m p x.slot x.cell) nowhere (λ z. split_lacks p x.slot x.cell) (λ z. tt)
+  clear_lacks p spacing (some x) = cond_ok (Lacking s m) (point_clear m p spacing x.cell) (split s m p x.slot x.cell) nowhere (λ z. split_lacks p x.slot x.cell) (λ z. tt)
 
-  pub near_lacks : (seed : ℕ) (p : Node) → Lacking (insert_near s m seed p)
+  pub near_lacks : (seed : ℕ) (p : Node) → (Lacking s m) (insert_near s m seed p)
   unfolding insert_near
   near_lacks seed p =
       let spacing = node_spacing ⊗ m.bucket in
-      cond_ok Lacking (slot_clear m p spacing (cell_of m seed)) (split_clear s m p spacing (holder m seed p)) nowhere (λ z. clear_lacks p spacing (holder m seed p)) (λ z. tt)
+      cond_ok (Lacking s m) (slot_clear m p spacing (cell_of m seed)) (split_clear s m p spacing (holder m seed p)) nowhere (λ z. clear_lacks p spacing (holder m seed p)) (λ z. tt)

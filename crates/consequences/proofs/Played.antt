@@ -14,14 +14,7 @@ use Rattle.definition.specs.Trace.{word_limit, two_words, double_of, entry, trac
 use Rattle.definition.specs.Replay.{reading, word, is_kind, entered_quad, read_entry, Redone, redone, balked, redo, whole, replay_in}
 use Rattle.laws.specs.Lists.{In}
 use Rattle.account.specs.Redo.{redo_all, Enterable}
-
--- ---- an entry is read back
-double_back : (x : Float) → T (fits binary64 x) → double_of (to_bits binary64 x % word_limit) (to_bits binary64 x / word_limit) ≡ x
-unfolding double_of f64 word_limit
-double_back x h =
-    let n = to_bits binary64 x in
-    let e : n % 4294967296 + 4294967296 * (n / 4294967296) ≡ n = omega (arith, div-add-mod' n 4294967296) in
-    ap (of_bits binary64) e ∙ of_bits-to_bits binary64 x h
+use Rattle.consequences.proofs.Doubles.{double_back}
 
 -- whatever comes after it
 pub read_back : (v : Event) (rest : List ℕ) → Enterable v → read_entry (entry v ++ rest) ≡ reading v rest

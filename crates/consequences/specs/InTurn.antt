@@ -51,3 +51,33 @@ in_turn s m (e ∷ es) = made_on s m e ∷ in_turn s (left_by (made_on s m e)) e
 unfoldable pub left_in_turn : Settings → Mesh → List Edge → Mesh
 left_in_turn s m [] = m
 left_in_turn s m (e ∷ es) = left_in_turn s (left_by (made_on s m e)) es
+
+-- the trials that it spent
+unfoldable pub trials_by : Attempt → ℕ
+trials_by (placed n m q) = n.trials
+trials_by (refused why n m) = n.trials
+trials_by (ended w n m) = n.trials
+
+-- On the front its trials are exact on the mesh that it was made on; off it there is none.
+abbrev pub ExactOn : Settings → Mesh → Edge → Type 0
+ExactOn s m e =
+    ((is_front m e ≡ true) × TrialsExact s (pairs_of s m e) (made_on s m e)) ⊎ ((is_front m e ≡ false) × (trials_by (made_on s m e) ≡ 0))
+
+-- each is exact
+abbrev pub AllExact : Settings → Mesh → List Edge → Type 0
+AllExact s m [] = Unit {0}
+AllExact s m (e ∷ es) = ExactOn s m e × AllExact s (left_by (made_on s m e)) es
+
+-- The attempts that brought a run from the mesh m to its counts, its mesh and its quads.
+pub record InTurn (s : Settings) (m : Mesh) (c : Counts) (end : Mesh) (quads : List Quad) : Type 0 where
+  -- their edges
+  pub on : List Edge
+  -- as many as are counted, but for the one that a limit stopped
+  pub number : length on + c.limit ≡ c.attempts
+  -- each tried what an attempt on its mesh tries
+  pub exact : AllExact s m on
+  -- their trials add up to those counted
+  pub trials : sum (map trials_by (in_turn s m on)) ≡ c.trials
+  -- the last one left the mesh, and those that placed a quad placed these
+  pub mesh : left_in_turn s m on ≡ end
+  pub quads_are : flat_map quad_by (in_turn s m on) ≡ quads

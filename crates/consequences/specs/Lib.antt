@@ -17,3 +17,4 @@ pub mod Quiet
 pub mod Untraced
 pub mod Traceless
 pub mod NoTrace
+pub mod NoRoom

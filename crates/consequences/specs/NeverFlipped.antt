@@ -33,3 +33,10 @@ at_end (stopped w st) = st
 unfoldable pub entries : Outcome → List ℕ
 entries (ran r) = r.trace
 entries (wanting w ps qs ws) = ws
+
+module _ (lk : Edge → Bool) where
+  -- a flip is of an edge that is not locked
+  abbrev pub Free : Event → Type 0
+  Free (was_split id p) = Unit {0}
+  Free (was_flipped e) = lk e ≡ false
+  Free (was_placed q ids) = Unit {0}

@@ -14,32 +14,32 @@ use Rattle.previews.proofs.show_edge.Tie as tie
 abbrev stated : tie.Start → Asked
 stated t = asked t.args.stated
 
-show_sorted_requires : tie.Need-show-sorted-requires
+show_sorted_requires : tie.Need-show_sorted-requires
 show_sorted_requires c κs =
-    (c.before.before.before.before.before.before.before.requires, c.before.before.if1.true)
+    (c.requires, c.if-u-v.true)
 
-returns : tie.Need-returns
+returns : tie.Need-returns-then-u-v
 returns c =
-    let t = c.before.before.before.before.before.before.before.before.before.before.before.before in
+    let t = c in
     λ l h.
-    let r = c.before.before.before.before.show_sorted.ensures l h in
-    (r.0, r.1 ∙ ap (show_edge (settings (stated t)) (first_of (stated t) l)) (sym (key_up t.args.u t.args.v c.before.before.before.before.before.before.before.if1.true)))
+    let r = c.show_sorted.ensures l h in
+    (r.0, r.1 ∙ ap (show_edge (settings (stated t.before.before.before.before.before.before.before.before.before.before.before.before)) (first_of (stated t.before.before.before.before.before.before.before.before.before.before.before.before) l)) (sym (key_up t.args.u t.args.v c.if-u-v.true)))
 
-show_sorted_requires_2 : tie.Need-show-sorted-requires-2
+show_sorted_requires_2 : tie.Need-show_sorted-requires-then-v-u
 show_sorted_requires_2 c κs =
-    (c.before.before.before.before.before.before.before.before.requires, c.before.before.if2.true)
+    (c.requires, c.if-v-u.true)
 
-returns_2 : tie.Need-returns-2
+returns_2 : tie.Need-returns-then-v-u
 returns_2 c =
-    let t = c.before.before.before.before.before.before.before.before.before.before.before.before.before in
+    let t = c in
     λ l h.
-    let r = c.before.before.before.before.show_sorted2.ensures l h in
-    (r.0, r.1 ∙ ap (show_edge (settings (stated t)) (first_of (stated t) l)) (sym (key_down t.args.u t.args.v c.before.before.before.before.before.before.before.if2.true)))
+    let r = c.show_sorted-then-v-u.ensures l h in
+    (r.0, r.1 ∙ ap (show_edge (settings (stated t.before.before.before.before.before.before.before.before.before.before.before.before.before)) (first_of (stated t.before.before.before.before.before.before.before.before.before.before.before.before.before) l)) (sym (key_down t.args.u t.args.v c.if-v-u.true)))
 
-returns_3 : tie.Need-returns-3
+returns_3 : tie.Need-returns
 returns_3 c =
-    let t = c.before.before.before.before.before.before.before in
-    λ l h. (refl, c.off_front.ensures ∙ shows_no_edge (stated t) l h.passed t.args.u t.args.v (omega (arith, c.before.if2.false, c.before.before.if1.false)))
+    let t = c in
+    λ l h. (refl, c.off_front.ensures ∙ shows_no_edge (stated t.before.before.before.before.before.before.before) l h.passed t.args.u t.args.v (omega (arith, c.if-v-u.false, c.if-u-v.false)))
 
 pub show_edge_spec : {M : Type 1} → statement M
 show_edge_spec =

@@ -24,34 +24,34 @@ unfolding base 0·90630778703665 f64 of_bits fits
 base_double = refl
 
 -- the call that was made is the definition's
-ran : (c : tie.After-run-front) → let a = c.before.before.before.before.before.before.before.before.before.before.before.before.before.before.before.before.before.before.args in let l = c.run_front.new in
-    Returns (call (asks a.h) (lends a.h a.tris.now a.bits.now)) c.run_front.result
+ran : (c : tie.After-run_front-a) → let a = c.args in let l = c.run_front-a.new in
+    Returns (call (asks a.h) (lends a.h a.tris.now a.bits.now)) c.run_front-a.result
     (lent_of l.0 (take (3 * a.h.triangles) a.tris.now) [] l.1.1.1.0 l.1.1.1.1.0 l.1.1.1.1.1.0 l.1.1.1.1.1.1.0 l.1.1.1.1.1.1.1.0 l.1.1.1.1.1.1.1.1.0)
 unfolding 0·0 f64
 ran c =
-    let start = c.before.before.before.before.before.before.before.before.before.before.before.before.before.before.before.before.before.before in
+    let start = c in
     let a = start.args in
-    let l = c.run_front.new in
+    let l = c.run_front-a.new in
     let after = lent_of l.0 (take (3 * a.h.triangles) a.tris.now) [] l.1.1.1.0 l.1.1.1.1.0 l.1.1.1.1.1.0 l.1.1.1.1.1.1.0 l.1.1.1.1.1.1.1.0 l.1.1.1.1.1.1.1.1.0 in
-    let f = c.before.before.before.before.before.before.before.before.before.before.before.before.before.fill in
-    let g = c.before.before.before.before.before.before.before.before.before.before.before.float_of in
-    let made : Returns (call (asked_for a.h.points 96 a.h.triangles 160 0 g.result a.h.stop base false) (lending f.new.1.1.0 (take (3 * a.h.triangles) a.tris.now))) c.run_front.result after =
-    subst (λ x. Returns (call x (lending f.new.1.1.0 (take (3 * a.h.triangles) a.tris.now))) c.run_front.result after) c.before.before.before.before.before.before.before.before.before.before.standard.ensures c.run_front.ensures.returns in
-    subst (λ ps. Returns (call (asks a.h) (lending ps (take (3 * a.h.triangles) a.tris.now))) c.run_front.result after) f.ensures
-    (subst (λ x. Returns (call (asked_for a.h.points 96 a.h.triangles 160 0 x a.h.stop base false) (lending f.new.1.1.0 (take (3 * a.h.triangles) a.tris.now))) c.run_front.result after) g.ensures made)
+    let f = c.fill in
+    let g = c.float_of-size in
+    let made : Returns (call (asked_for a.h.points 96 a.h.triangles 160 0 g.result a.h.stop base false) (lending f.new.1.1.0 (take (3 * a.h.triangles) a.tris.now))) c.run_front-a.result after =
+    subst (λ x. Returns (call x (lending f.new.1.1.0 (take (3 * a.h.triangles) a.tris.now))) c.run_front-a.result after) c.standard-stated.ensures c.run_front-a.ensures.returns in
+    subst (λ ps. Returns (call (asks a.h) (lending ps (take (3 * a.h.triangles) a.tris.now))) c.run_front-a.result after) f.ensures
+    (subst (λ x. Returns (call (asked_for a.h.points 96 a.h.triangles 160 0 x a.h.stop base false) (lending f.new.1.1.0 (take (3 * a.h.triangles) a.tris.now))) c.run_front-a.result after) g.ensures made)
 
-slice_aggregate_run_front_2 : tie.Need-slice-aggregate-run-front-2
-slice_aggregate_run_front_2 c = let w = c.before.before.before.before.before.before.before.before.before.before.requires.0 in simp length-take (omega arith)
+slice_aggregate_run_front_2 : tie.Need-slice_bounds-run_front-end-2
+slice_aggregate_run_front_2 c = let w = c.requires.0 in simp length-take (omega arith)
 
 told_requires : tie.Need-told-requires
 told_requires c κs =
-    let at = c.before.before.before.before.before.before.before.before.before.before.before.before in
-    let start = at.before.before.before.before.before.before.before.before.before.before.before.before.before.before.before.before.before.before in
+    let at = c in
+    let start = at in
     let a = start.args in
     let w = start.requires.0 in
-    let k = at.run_front.auto in
-    let f = at.before.before.before.before.before.before.before.before.before.before.before.before.before.fill in (
-      call_writable (asks a.h) (lends a.h a.tris.now a.bits.now) base_double w.few_triangles refl refl (ran at),
+    let k = at.run_front-a.auto in
+    let f = at.fill in (
+      call_writable (asks a.h) (lends a.h a.tris.now a.bits.now) base_double w.few_triangles refl refl (ran at.before.before.before.before.before.before.before.before.before.before.before.before),
       record {
         bits_long = omega (arith, w);
         points_long = omega (arith, k.0, f.auto.1.1.0, length-replicate 288 (of_bits binary64 0));
@@ -64,12 +64,12 @@ told_requires c κs =
 
 returns : tie.Need-returns
 returns c =
-    let at = c.before.before.before.before.before.before.before.before.before.before.before.before.before.before.before in
-    let a = at.before.before.before.before.before.before.before.before.before.before.before.before.before.before.before.before.before.before.args in
-    let t = c.before.before.told in
-    let l = at.run_front.new in
+    let at = c in
+    let a = at.args in
+    let t = c.told in
+    let l = at.run_front-a.new in
     let m = lends a.h a.tris.now a.bits.now in
-    let r = ran at in
+    let r = ran at.before.before.before.before.before.before.before.before.before.before.before.before.before.before.before in
     subst (λ y. Answered a.out.now t.new.0 y t.result) (answer_is a.h a.tris.now a.bits.now)
     (t.ensures (call (asks a.h) m) (record {
       answer = record { lent = refl; number = r.number; counts = r.counts; lengths = r.lengths };
@@ -84,7 +84,4 @@ pub meshed_spec : {M : Type 1} → statement M
 meshed_spec =
     tie.close
     (tie.spec
-    (λ c. search rules) (λ c. search rules) (λ c κs. search rules) (λ c κs. search rules) (λ c. search rules) (λ c κs. search rules)
-    (λ c. search rules) slice_aggregate_run_front_2 (λ c. search rules) (λ c. search rules) (λ c. search rules) (λ c. search rules)
-    (λ c. search rules) (λ c. search rules) (λ c. search rules) (λ c κs. search rules) (λ c. search rules) (λ c. search rules) (λ c. search rules)
-    (λ c. search rules) told_requires (λ c. search rules) returns)
+    (λ c. search rules) (λ c. search rules) (λ c κs. search rules) (λ c κs. search rules) (λ c. search rules) (λ c κs. search rules) (λ c. search rules) slice_aggregate_run_front_2 (λ c. search rules) (λ c. search rules) (λ c. search rules) (λ c. search rules) (λ c. search rules) (λ c. search rules) (λ c. search rules) (λ c κs. search rules) (λ c. search rules) (λ c. search rules) (λ c. search rules) (λ c. search rules) told_requires (λ c. search rules) returns)
