@@ -51,12 +51,12 @@ good_state e = sym e.bad_job.ensures ∙ e.if-bad_job.false
 
 -- what the run left, by the job's limit
 ran_to : (x : tie.After-run-ran) → let t = start x.before.before.before.before.before.before.before.before.before.before in let d = x.run-ran.new in
-    RanTo (job_limit (state t) (stated t)) (stated t) (held t) x.run-ran.result (lent_of d.0 t.args.triangles.now t.args.joints.now d.1.1.1.0 d.1.1.1.1.0 d.1.1.1.1.1.0 d.1.1.1.1.1.1.0 d.1.1.1.1.1.1.1.0 d.1.1.1.1.1.1.1.1.0)
+    RanTo (job_limit (state t) (stated t)) (stated t) (held t) x.run-ran.result (lent_of d.points t.args.triangles.now t.args.joints.now d.quads d.triangles_out d.components d.work d.float_work d.trace)
 ran_to x =
     let o = x in
     let t = start o.before.before.before.before.before.before.before.before.before.before in
     let d = x.run-ran.new in
-    subst (λ (most : ℕ). RanTo most (stated t) (held t) x.run-ran.result (lent_of d.0 t.args.triangles.now t.args.joints.now d.1.1.1.0 d.1.1.1.1.0 d.1.1.1.1.1.0 d.1.1.1.1.1.1.0 d.1.1.1.1.1.1.1.0 d.1.1.1.1.1.1.1.1.0)) o.limit_of-most.ensures x.run-ran.ensures
+    subst (λ (most : ℕ). RanTo most (stated t) (held t) x.run-ran.result (lent_of d.points t.args.triangles.now t.args.joints.now d.quads d.triangles_out d.components d.work d.float_work d.trace)) o.limit_of-most.ensures x.run-ran.ensures
 
 returns : tie.Need-returns-then-bad_job
 returns c =
@@ -108,7 +108,7 @@ returns_3 c =
     let g = e in
     let t = start e.before.before.before.before.before.before.before.before.before.before.before.before.before.before.before.before.before.before.before.before.before.before.before.before.before.before in
     let d = x.run-ran.new in
-    let exit = lent_of d.0 t.args.triangles.now t.args.joints.now d.1.1.1.0 d.1.1.1.1.0 d.1.1.1.1.1.0 d.1.1.1.1.1.1.0 d.1.1.1.1.1.1.1.0 d.1.1.1.1.1.1.1.1.0 in
+    let exit = lent_of d.points t.args.triangles.now t.args.joints.now d.quads d.triangles_out d.components d.work d.float_work d.trace in
     let kept = ran_kept (job_limit (state t) (stated t)) (stated t) (held t) (double t) (passed_all e.before.before.before.before.before.before.before.before.before.before.before.before.before.before.before.before.before.before.before.before.before.before.before.before.before) x.run-ran.result exit (ran_to x.before.before.before.before.before.before.before.before.before.before.before.before.before.before.before.before) in
     (ran_mesh t.args.state c.handed_on-2.result (stated t) (held t) (good_state g.before.before.before.before.before.before.before.before.before.before.before.before.before.before.before.before.before.before.before.before.before.before.before.before.before.before.before) (passed_all e.before.before.before.before.before.before.before.before.before.before.before.before.before.before.before.before.before.before.before.before.before.before.before.before.before) x.run-ran.result exit (ran_to x.before.before.before.before.before.before.before.before.before.before.before.before.before.before.before.before) c.handed_on-2.ensures, (kept.0, (kept.1, kept.2)))
 

@@ -70,7 +70,7 @@ try_quad_requires : tie.Need-try_quad-requires
 try_quad_requires c κs =
     let p = c in
     let t = start (made p.before.before.before.before.before) in
-    ([], first_of (stated t) t.pre.0, can (made p.before.before.before.before.before) t.pre.0 t.pre.1, locks p.before.before.before.before.before t.pre.0 t.pre.1, log t t.pre.0 t.pre.1, in_round t t.pre.0 t.pre.1)
+    ([], first_of (stated t) t.requires.0, can (made p.before.before.before.before.before) t.requires.0 t.requires.1, locks p.before.before.before.before.before t.requires.0 t.requires.1, log t t.requires.0 t.requires.1, in_round t t.requires.0 t.requires.1)
 
 returns : tie.Need-returns
 unfolding max_attempts

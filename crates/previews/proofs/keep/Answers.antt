@@ -21,7 +21,7 @@ pub returns-then-from-i : goal.returns-then-from-i
 returns-then-from-i c =
     let x = c.loop-i in
     let a = c.args in
-    holds_end a.points.now x.auto a.from x.i 6 c.if-from-i.true x.invariant.2
+    holds_end a.points.now x.kept a.from x.i 6 c.if-from-i.true x.invariant.2
 
 pub overflow_add-kept : goal.overflow_add-kept
 overflow_add-kept c = omega (arith, c.requires.0, c.loop-i-test.true)
@@ -38,7 +38,7 @@ loop-i-preserved c =
     let a = c.args in (
       simp length-set x.invariant.0,
       omega (arith, c.loop-i-test.true),
-      holds_more a.points.now x.auto a.from x.i (omega (arith, x.invariant.0, c.requires.1, c.loop-i-test.true)) x.invariant.2,
+      holds_more a.points.now x.kept a.from x.i (omega (arith, x.invariant.0, c.requires.1, c.loop-i-test.true)) x.invariant.2,
     )
 
 pub shape_of-kept : goal.shape_of-kept

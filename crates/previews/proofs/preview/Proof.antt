@@ -52,7 +52,7 @@ returns_2 c =
     let t = start e.before.before.before.before.before.before.before.before.before.before.before.before.before.before.before.before in
     shown_previews t.args.points.now t.args.triangles.now t.args.joints.now t.args.quads.now t.args.triangles_out.now t.args.components.now t.args.work.now t.args.float_work.now
     (stated t) t.args.u t.args.v (passed_all e.before.before.before.before.before.before.before.before.before.before.before.before.before.before.before) x.show_edge-r.result x.show_edge-r.new.points x.show_edge-r.new.work w.clear_words.new.w f.clear_floats.new.w (x.show_edge-r.ensures (held t) (can e.before.before.before.before.before.before.before.before.before.before.before.before.before.before.before))
-    x.show_edge-r.auto.work.1.1.0 w.clear_words.ensures f.clear_floats.ensures
+    x.show_edge-r.auto.work w.clear_words.ensures f.clear_floats.ensures
 
 pub preview_spec : {M : Type 1} → statement M
 preview_spec =

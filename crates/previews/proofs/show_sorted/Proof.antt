@@ -60,7 +60,7 @@ same_length c =
 
 same_length_2 : tie.Need-shape_of-work-then-is_front
 same_length_2 c =
-    c.try_on.auto.work.1.0 ∙ c.build.auto.w
+    c.try_on.auto.work ∙ c.build.auto.w
 
 returns_2 : tie.Need-returns-then-is_front
 returns_2 c =
@@ -69,7 +69,7 @@ returns_2 c =
     let b = built f.before.before.before.before.before.before.before.before in
     let t = start b in
     λ l h.
-    let can : CanTry t.args.points.now t.args.joints.now b.build.last.0 (stated t) l t.args.u t.args.v = show_try t.args.points.now t.args.triangles.now t.args.joints.now t.args.work.now (stated t) l h b.build.last.0 t.args.u t.args.v b.build.ensures t.requires.1 c.if-v-stated.false in
+    let can : CanTry t.args.points.now t.args.joints.now b.build.new.w (stated t) l t.args.u t.args.v = show_try t.args.points.now t.args.triangles.now t.args.joints.now t.args.work.now (stated t) l h b.build.new.w t.args.u t.args.v b.build.ensures t.requires.1 c.if-v-stated.false in
     let r = y.try_on.ensures l can in
     (r.0, r.1 ∙ shows_attempt (stated t) l h.passed t.args.u t.args.v t.requires.1 (front f.before.before.before.before.before.before.before.before l h ∙ c.if-is_front.true))
 
@@ -81,7 +81,7 @@ returns_3 : tie.Need-returns
 returns_3 c =
     let f = c in
     let t = start (built f.before.before) in
-    λ l h. (refl, c.off_front-2.ensures ∙ shows_none (stated t) l h.passed t.args.u t.args.v t.pre.1 (front f.before.before l h ∙ c.if-is_front.false))
+    λ l h. (refl, c.off_front-2.ensures ∙ shows_none (stated t) l h.passed t.args.u t.args.v t.requires.1 (front f.before.before l h ∙ c.if-is_front.false))
 
 pub show_sorted_spec : {M : Type 1} → statement M
 show_sorted_spec =

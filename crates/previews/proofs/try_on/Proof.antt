@@ -57,7 +57,7 @@ put_back_requires c κs =
     let k = c in
     let t = start y.before.before.before.before.before.before.before.before.before in
     let s = stayed y.before.before.before.before.before.before.before.before.before t.requires.0 t.requires.1 in
-    let room : length k.keep.new.kept ≡ 6 = k.keep.auto.kept.1.0 in
+    let room : length k.keep.new.kept ≡ 6 = k.keep.auto.kept in
     (omega (arith, s.most, room), omega (arith, s.least, s.fits, s.len), omega (arith, few t), omega (arith, s.most))
 
 returns : tie.Need-returns
