@@ -11,20 +11,19 @@ use Rattle.library.proofs.sedgepick_run_front.Tie as tie
 -- what is lent, with this trace
 abbrev lending : tie.After-answered → List ℕ → Lent
 lending x trace =
-    let a = x.before.before.before.before.before.before.before.before.before.before.before.before.before.before.before.before.before.before.before.args in
+    let a = x.args in
     let d = x.answered.new in
     lent_of d.0 a.triangles.now [] d.1.1.1.0 d.1.1.1.1.0 d.1.1.1.1.1.0 d.1.1.1.1.1.1.0 d.1.1.1.1.1.1.1.0 trace
 
 returns : tie.Need-returns
 returns c =
-    let x = c.before.before.before.before.before.before.before.before.before.before.before.before.before.before.before in
-    let none = x.answered.new.1.1.1.1.1.1.1.1.0 in
-    stated_as x.before.before.before.before.before.before.before.before.before.before.standard.ensures
-    (untraced (lending x) none x.answered.auto.1.1.1.1.1.1.1.1.0 x.answered.ensures)
+    let x = c in
+    let none = x.answered.new.trace in
+    stated_as x.standard-stated.ensures
+    (untraced (lending x.before.before.before.before.before.before.before.before.before.before.before.before.before.before.before) none x.answered.auto.answer.1.0 x.answered.ensures)
 
 pub sedgepick_run_front_spec : {M : Type 1} → statement M
 sedgepick_run_front_spec =
     tie.close
     (tie.spec
-    (λ c κs. search rules) (λ c. search rules) (λ c. search rules) (λ c κs. search rules) (λ c. search rules) (λ c. search rules) (λ c. search rules)
-    (λ c. search rules) (λ c. search rules) (λ c. search rules) (λ c. search rules) returns)
+    (λ c κs. search rules) (λ c. search rules) (λ c. search rules) (λ c κs. search rules) (λ c. search rules) (λ c. search rules) (λ c. search rules) (λ c. search rules) (λ c. search rules) (λ c. search rules) (λ c. search rules) returns)

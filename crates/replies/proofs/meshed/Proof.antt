@@ -26,19 +26,19 @@ base_double = refl
 -- the call that was made is the definition's
 ran : (c : tie.After-run_front-a) → let a = c.args in let l = c.run_front-a.new in
     Returns (call (asks a.h) (lends a.h a.tris.now a.bits.now)) c.run_front-a.result
-    (lent_of l.0 (take (3 * a.h.triangles) a.tris.now) [] l.1.1.1.0 l.1.1.1.1.0 l.1.1.1.1.1.0 l.1.1.1.1.1.1.0 l.1.1.1.1.1.1.1.0 l.1.1.1.1.1.1.1.1.0)
+    (lent_of l.points (take (3 * a.h.triangles) a.tris.now) [] l.quads l.triangles_out l.components l.work l.float_work l.trace)
 unfolding 0·0 f64
 ran c =
     let start = c in
     let a = start.args in
     let l = c.run_front-a.new in
-    let after = lent_of l.0 (take (3 * a.h.triangles) a.tris.now) [] l.1.1.1.0 l.1.1.1.1.0 l.1.1.1.1.1.0 l.1.1.1.1.1.1.0 l.1.1.1.1.1.1.1.0 l.1.1.1.1.1.1.1.1.0 in
+    let after = lent_of l.points (take (3 * a.h.triangles) a.tris.now) [] l.quads l.triangles_out l.components l.work l.float_work l.trace in
     let f = c.fill in
     let g = c.float_of-size in
-    let made : Returns (call (asked_for a.h.points 96 a.h.triangles 160 0 g.result a.h.stop base false) (lending f.new.1.1.0 (take (3 * a.h.triangles) a.tris.now))) c.run_front-a.result after =
-    subst (λ x. Returns (call x (lending f.new.1.1.0 (take (3 * a.h.triangles) a.tris.now))) c.run_front-a.result after) c.standard-stated.ensures c.run_front-a.ensures.returns in
+    let made : Returns (call (asked_for a.h.points 96 a.h.triangles 160 0 g.result a.h.stop base false) (lending f.new.points (take (3 * a.h.triangles) a.tris.now))) c.run_front-a.result after =
+    subst (λ x. Returns (call x (lending f.new.points (take (3 * a.h.triangles) a.tris.now))) c.run_front-a.result after) c.standard-stated.ensures c.run_front-a.ensures.0 in
     subst (λ ps. Returns (call (asks a.h) (lending ps (take (3 * a.h.triangles) a.tris.now))) c.run_front-a.result after) f.ensures
-    (subst (λ x. Returns (call (asked_for a.h.points 96 a.h.triangles 160 0 x a.h.stop base false) (lending f.new.1.1.0 (take (3 * a.h.triangles) a.tris.now))) c.run_front-a.result after) g.ensures made)
+    (subst (λ x. Returns (call (asked_for a.h.points 96 a.h.triangles 160 0 x a.h.stop base false) (lending f.new.points (take (3 * a.h.triangles) a.tris.now))) c.run_front-a.result after) g.ensures made)
 
 slice_aggregate_run_front_2 : tie.Need-slice_bounds-run_front-end-2
 slice_aggregate_run_front_2 c = let w = c.requires.0 in simp length-take (omega arith)
@@ -54,10 +54,10 @@ told_requires c κs =
       call_writable (asks a.h) (lends a.h a.tris.now a.bits.now) base_double w.few_triangles refl refl (ran at.before.before.before.before.before.before.before.before.before.before.before.before),
       record {
         bits_long = omega (arith, w);
-        points_long = omega (arith, k.0, f.auto.1.1.0, length-replicate 288 (of_bits binary64 0));
-        quads_long = omega (arith, k.1.1.1.0, length-replicate {A = ℕ} 1280 0);
-        triangles_long = omega (arith, k.1.1.1.1.0, length-replicate {A = ℕ} 480 0);
-        components_long = omega (arith, k.1.1.1.1.1.0, length-replicate {A = ℕ} 160 0);
+        points_long = omega (arith, k.points, f.auto.points, length-replicate 288 (of_bits binary64 0));
+        quads_long = omega (arith, k.quads, length-replicate {A = ℕ} 1280 0);
+        triangles_long = omega (arith, k.triangles_out, length-replicate {A = ℕ} 480 0);
+        components_long = omega (arith, k.components, length-replicate {A = ℕ} 160 0);
         out_long = start.requires.1;
       },
     )
@@ -70,7 +70,7 @@ returns c =
     let l = at.run_front-a.new in
     let m = lends a.h a.tris.now a.bits.now in
     let r = ran at.before.before.before.before.before.before.before.before.before.before.before.before.before.before.before in
-    subst (λ y. Answered a.out.now t.new.0 y t.result) (answer_is a.h a.tris.now a.bits.now)
+    subst (λ y. Answered a.out.now t.new.out y t.result) (answer_is a.h a.tris.now a.bits.now)
     (t.ensures (call (asks a.h) m) (record {
       answer = record { lent = refl; number = r.number; counts = r.counts; lengths = r.lengths };
       named = λ k e. (refused_number (asks a.h) m k e).0;

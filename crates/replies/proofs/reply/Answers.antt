@@ -28,8 +28,8 @@ meshed-requires c =
       record {
         few_triangles = k.few_triangles;
         few_points = k.few_points;
-        triangles_held = omega (arith, r.auto.bits, length-replicate {A = ℕ} 192 0);
-        points_held = omega (arith, r.auto.1.1.0, length-replicate {A = ℕ} 192 0);
+        triangles_held = omega (arith, r.auto.tris, length-replicate {A = ℕ} 192 0);
+        points_held = omega (arith, r.auto.bits, length-replicate {A = ℕ} 192 0);
       },
       long,
     )
@@ -40,4 +40,4 @@ returns c =
     let a = start.args in
     let w = c.meshed in
     let long : length a.out.now ≡ 26624 = search rules in
-    let kept : length w.new.1.1.1.0 ≡ length a.out.now = w.auto.1.1.1.0 in record { answered = subst (λ t. Answered a.out.now w.new.1.1.1.0 t w.result) (good_text c.read.ensures c.in-Read.is) w.ensures; out_len = kept ∙ long }
+    let kept : length w.new.out ≡ length a.out.now = w.auto.out in record { answered = subst (λ t. Answered a.out.now w.new.out t w.result) (good_text c.read.ensures c.in-Read.is) w.ensures; out_len = kept ∙ long }

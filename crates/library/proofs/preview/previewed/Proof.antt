@@ -18,33 +18,32 @@ held t =
     lent_of t.args.points.now t.args.triangles.now t.args.joints.now t.args.quads.now t.args.triangles_out.now t.args.components.now t.args.work.now
     t.args.float_work.now []
 
-abbrev start : tie.After-preview → tie.Start
+abbrev start : tie.After-preview-shown → tie.Start
 start x = x.before.before.before.before.before.before.before.before.before.before.before.before.before.before
 
 -- what they hold after the preview
-abbrev left : tie.After-preview → Lent
+abbrev left : tie.After-preview-shown → Lent
 left x =
-    let d = x.preview.new in
+    let d = x.preview-shown.new in
     let a = (start x).args in
     lent_of d.0 a.triangles.now a.joints.now a.quads.now a.triangles_out.now a.components.now d.1.1.1.1.1.1.0 d.1.1.1.1.1.1.1.0 []
 
-returns : tie.Need-returns
+returns : tie.Need-returns-then-answer-lt-NUMBERS
 returns c =
-    let t = c.before.before.before.before.before.before.before.before.before.before.before.before in
-    without_room (stated t) (held t) t.args.u t.args.v t.args.answer.now c.short_answer.result c.before.before.if1.true
-    (c.short_answer.ensures (held t) (record { points = refl; triangles = refl; joints = refl; quads = refl; triangles_out = refl; components = refl; work = refl; float_work = refl }))
+    let t = c in
+    without_room (stated t.before.before.before.before.before.before.before.before.before.before.before) (held t.before.before.before.before.before.before.before.before.before.before.before) t.args.u t.args.v t.args.answer.now c.short_answer.result c.if-answer-lt-NUMBERS.true
+    (c.short_answer.ensures (held t.before.before.before.before.before.before.before.before.before.before.before) (record { points = refl; triangles = refl; joints = refl; quads = refl; triangles_out = refl; components = refl; work = refl; float_work = refl }))
 
-returns_2 : tie.Need-returns-2
+returns_2 : tie.Need-returns
 returns_2 c =
-    let x = c.before.before.before.before.before.before.before.before.before.before in
-    let w = c.before.before in
-    let t = start x in
-    with_room (stated t) (held t) t.args.u t.args.v t.args.answer.now w.put_shown.result w.put_shown.new.0 (left x) x.preview.result
-    x.before.before.before.before.if1.false x.preview.ensures w.put_shown.ensures.0 w.put_shown.ensures.1
+    let x = c in
+    let w = c in
+    let t = start x.before.before.before.before.before.before.before.before.before.before in
+    with_room (stated t) (held t) t.args.u t.args.v t.args.answer.now w.put_shown.result w.put_shown.new.answer (left x.before.before.before.before.before.before.before.before.before.before) x.preview-shown.result
+    x.if-answer-lt-NUMBERS.false x.preview-shown.ensures w.put_shown.ensures.0 w.put_shown.ensures.1
 
 pub previewed_spec : {M : Type 1} → statement M
 previewed_spec =
     tie.close
     (tie.spec
-    (λ c κs. search rules) (λ c. search rules) returns (λ c κs. search rules) (λ c κs. search rules) (λ c. search rules) (λ c. search rules)
-    (λ c. search rules) (λ c. search rules) returns_2)
+    (λ c κs. search rules) (λ c. search rules) returns (λ c κs. search rules) (λ c κs. search rules) (λ c. search rules) (λ c. search rules) (λ c. search rules) (λ c. search rules) returns_2)

@@ -18,32 +18,31 @@ held t =
     lent_of t.args.points.now t.args.triangles.now [] t.args.quads.now t.args.triangles_out.now t.args.components.now t.args.work.now
     t.args.float_work.now t.args.trace.now
 
-abbrev start : tie.After-replay → tie.Start
+abbrev start : tie.After-replay-r → tie.Start
 start x = x.before.before.before.before.before.before.before.before.before.before.before.before.before.before.before.before.before
 
 -- what they hold after the replay
-abbrev left : tie.After-replay → Lent
+abbrev left : tie.After-replay-r → Lent
 left x =
-    let d = x.replay.new in
+    let d = x.replay-r.new in
     let a = (start x).args in
     lent_of d.0 a.triangles.now [] d.1.1.1.0 d.1.1.1.1.0 d.1.1.1.1.1.0 d.1.1.1.1.1.1.0 d.1.1.1.1.1.1.1.0 a.trace.now
 
-returns : tie.Need-returns
+returns : tie.Need-returns-then-answer-lt-LENGTHS
 returns c =
-    let t = c.before.before.before.before.before.before.before.before.before.before.before.before in
-    without_room (told t) (held t) t.args.answer.now c.short_replay.result c.before.before.if1.true c.short_replay.ensures
+    let t = c in
+    without_room (told t.before.before.before.before.before.before.before.before.before.before.before) (held t.before.before.before.before.before.before.before.before.before.before.before) t.args.answer.now c.short_replay.result c.if-answer-lt-LENGTHS.true c.short_replay.ensures
 
-returns_2 : tie.Need-returns-2
+returns_2 : tie.Need-returns
 returns_2 c =
-    let w = c.before.before in
-    let x = w.before.before.before.before.before.before.before.before.before.before.before.before.before.before in
-    let t = start x in
-    with_number (told t) (held t) t.args.answer.now x.replay.result (left x) x.before.before.before.before.before.before.before.if1.false x.replay.ensures
-    w.put_replayed.result w.put_replayed.new.0 w.put_replayed.ensures.0 w.put_replayed.ensures.1
+    let w = c in
+    let x = w in
+    let t = start x.before.before.before.before.before.before.before.before.before.before.before.before.before.before.before.before in
+    with_number (told t) (held t) t.args.answer.now x.replay-r.result (left x.before.before.before.before.before.before.before.before.before.before.before.before.before.before.before.before) x.if-answer-lt-LENGTHS.false x.replay-r.ensures
+    w.put_replayed.result w.put_replayed.new.answer w.put_replayed.ensures.0 w.put_replayed.ensures.1
 
 pub sedgepick_replay_spec : {M : Type 1} → statement M
 sedgepick_replay_spec =
     tie.close
     (tie.spec
-    (λ c κs. search rules) (λ c. search rules) returns (λ c κs. search rules) (λ c κs. search rules) (λ c. search rules) (λ c. search rules) (λ c. search rules)
-    (λ c. search rules) (λ c. search rules) (λ c. search rules) (λ c. search rules) returns_2)
+    (λ c κs. search rules) (λ c. search rules) returns (λ c κs. search rules) (λ c κs. search rules) (λ c. search rules) (λ c. search rules) (λ c. search rules) (λ c. search rules) (λ c. search rules) (λ c. search rules) (λ c. search rules) returns_2)

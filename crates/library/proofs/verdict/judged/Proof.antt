@@ -12,25 +12,24 @@ hand t =
     let a = t.args in
     handed a.given_points.now a.triangles.now a.points.now a.quads.now a.left.now a.joints.now a.components.now a.work.now a.parents.now a.a
 
-returns : tie.Need-returns
+returns : tie.Need-returns-then-answer-lt-VERDICT
 returns c =
-    let t = c.before.before.before.before.before.before.before.before.before.before.before.before.before.before.before in
-    without_room (hand t) t.args.answer.now c.short_verdict.result c.before.before.before.before.if1.true c.short_verdict.ensures
+    let t = c in
+    without_room (hand t.before.before.before.before.before.before.before.before.before.before.before.before) t.args.answer.now c.short_verdict.result c.if-answer-lt-VERDICT.true c.short_verdict.ensures
 
-returns_2 : tie.Need-returns-2
+returns_2 : tie.Need-returns
 returns_2 c =
-    let w = c.before.before in
-    let x = w.before.before.before.before.before.before.before.before.before in
-    let e = x.before.before.before.before in
-    let t = e.before.before.before.before.before.before.before.before.before.before.before in
+    let w = c in
+    let x = w in
+    let e = x in
+    let t = e in
     let a = t.args in
-    let d = x.accept.new in
+    let d = x.accept-found.new in
     with_room a.given_points.now a.triangles.now a.points.now a.quads.now a.left.now a.joints.now a.components.now a.work.now a.parents.now a.a
-    a.answer.now w.put_verdict.result w.put_verdict.new.0 d.1.1.1.1.1.1.0 d.1.1.1.1.1.1.1.0 d.1.1.1.1.1.1.1.1.0 x.accept.result e.if1.false x.accept.ensures w.put_verdict.ensures
+    a.answer.now w.put_verdict.result w.put_verdict.new.components.answer d.1.1.1.1.1.1.0 d.1.1.1.1.1.1.1.0 d.1.1.1.1.1.1.1.1.0 x.accept-found.result e.if-answer-lt-VERDICT.false x.accept-found.ensures w.put_verdict.ensures
 
 pub judged_spec : {M : Type 1} → statement M
 judged_spec =
     tie.close
     (tie.spec
-    (λ c κs. search rules) (λ c. search rules) (λ c. search rules) (λ c. search rules) returns (λ c κs. search rules) (λ c κs. search rules)
-    (λ c. search rules) (λ c. search rules) (λ c. search rules) (λ c. search rules) returns_2)
+    (λ c κs. search rules) (λ c. search rules) (λ c. search rules) (λ c. search rules) returns (λ c κs. search rules) (λ c κs. search rules) (λ c. search rules) (λ c. search rules) (λ c. search rules) (λ c. search rules) returns_2)
