@@ -24,7 +24,7 @@ start x = x.before.before.before.before.before.before.before.before.before.befor
 abbrev left : tie.After-run_front-a → Lent
 left x =
     let d = x.run_front-a.new in
-    lent_of d.0 (start x).args.triangles.now (start x).args.joints.now d.1.1.1.0 d.1.1.1.1.0 d.1.1.1.1.1.0 d.1.1.1.1.1.1.0 d.1.1.1.1.1.1.1.0 d.1.1.1.1.1.1.1.1.0
+    lent_of d.points (start x).args.triangles.now (start x).args.joints.now d.quads d.triangles_out d.components d.work d.float_work d.trace
 
 returns : tie.Need-returns-then-answer-lt-ANSWER
 returns c =
@@ -48,7 +48,7 @@ returns_3 c =
     let zero = c.if-k-ne0.false in
     let w = c.write_answer in
     with_room (stated t) (held t) t.args.answer.now 0 w.new.answer (left x.before.before.before.before.before.before.before.before.before.before.before.before.before.before.before.before.before.before.before) r x.if-answer-lt-ANSWER.false
-    (record { returns = x.run_front-a.ensures.0; keeps = x.run_front-a.ensures.1.0; joints = x.run_front-a.ensures.1.1.0; area = x.run_front-a.ensures.1.1.1; number = sym zero; answer = put r t.args.answer.now w.new.0 zero w.ensures })
+    (record { returns = x.run_front-a.ensures.0; keeps = x.run_front-a.ensures.1.0; joints = x.run_front-a.ensures.1.1.0; area = x.run_front-a.ensures.1.1.1; number = sym zero; answer = put r t.args.answer.now w.new.answer zero w.ensures })
 
 pub answered_spec : {M : Type 1} → statement M
 answered_spec =

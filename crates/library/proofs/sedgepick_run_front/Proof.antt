@@ -13,14 +13,14 @@ abbrev lending : tie.After-answered → List ℕ → Lent
 lending x trace =
     let a = x.args in
     let d = x.answered.new in
-    lent_of d.0 a.triangles.now [] d.1.1.1.0 d.1.1.1.1.0 d.1.1.1.1.1.0 d.1.1.1.1.1.1.0 d.1.1.1.1.1.1.1.0 trace
+    lent_of d.points a.triangles.now [] d.quads d.triangles_out d.components d.work d.float_work trace
 
 returns : tie.Need-returns
 returns c =
     let x = c in
     let none = x.answered.new.trace in
     stated_as x.standard-stated.ensures
-    (untraced (lending x.before.before.before.before.before.before.before.before.before.before.before.before.before.before.before) none x.answered.auto.answer.1.0 x.answered.ensures)
+    (untraced (lending x.before.before.before.before.before.before.before.before.before.before.before.before.before.before.before) none x.answered.auto.trace x.answered.ensures)
 
 pub sedgepick_run_front_spec : {M : Type 1} → statement M
 sedgepick_run_front_spec =

@@ -32,7 +32,7 @@ found x = x.before.before.before.before.before.before.before.before.before.befor
 abbrev left : tie.After-run_mesh-m → Lent
 left x =
     let d = x.run_mesh-m.new in
-    lent_of d.0 (start x).args.triangles.now (start x).args.joints.now d.1.1.1.0 d.1.1.1.1.0 d.1.1.1.1.1.0 d.1.1.1.1.1.1.0 d.1.1.1.1.1.1.1.0 d.1.1.1.1.1.1.1.1.0
+    lent_of d.points (start x).args.triangles.now (start x).args.joints.now d.quads d.triangles_out d.components d.work d.float_work d.trace
 
 came : (x : tie.After-run_mesh-m) → Came (job_of (found x).state_in-state.result) (stated (start x)) (held (start x)) x.run_mesh-m.result (left x)
 came x = let e = x.run_mesh-m.ensures in record { returns = e.0; keeps = e.1.0; joints = e.1.1.0; area = e.1.1.1 }
@@ -81,8 +81,8 @@ returns_5 c =
     let s = found x.before.before.before.before.before.before.before.before.before.before.before.before.before.before.before.before.before.before.before.before.before.before.before.before.before in
     let t = start x.before.before.before.before.before.before.before.before.before.before.before.before.before.before.before.before.before.before.before.before.before.before.before.before.before in
     let m = x.run_mesh-m.result in
-    with_both (job_of s.state_in-state.result) (stated t) (held t) t.args.job.now t.args.answer.now 0 w.new.0 y.new.job.job (left x.before.before.before.before.before.before.before.before.before.before.before.before.before.before.before.before.before.before.before.before.before.before.before.before.before) m
-    s.state_in-state.ensures s.if-job-lt-JOB.false (good x.before.before.before.before.before.before.before.before.before.before.before.before.before.before.before.before.before.before.before.before.before.before.before.before.before) x.if-answer-lt-ANSWER.false (came x.before.before.before.before.before.before.before.before.before.before.before.before.before.before.before.before.before.before.before.before.before.before.before.before.before) (sym zero) w.ensures (put m.answer t.args.answer.now y.new.0 zero y.ensures)
+    with_both (job_of s.state_in-state.result) (stated t) (held t) t.args.job.now t.args.answer.now 0 w.new.job y.new.answer (left x.before.before.before.before.before.before.before.before.before.before.before.before.before.before.before.before.before.before.before.before.before.before.before.before.before) m
+    s.state_in-state.ensures s.if-job-lt-JOB.false (good x.before.before.before.before.before.before.before.before.before.before.before.before.before.before.before.before.before.before.before.before.before.before.before.before.before) x.if-answer-lt-ANSWER.false (came x.before.before.before.before.before.before.before.before.before.before.before.before.before.before.before.before.before.before.before.before.before.before.before.before.before) (sym zero) w.ensures (put m.answer t.args.answer.now y.new.answer zero y.ensures)
 
 pub meshed_spec : {M : Type 1} → statement M
 meshed_spec =

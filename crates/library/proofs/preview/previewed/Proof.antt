@@ -26,7 +26,7 @@ abbrev left : tie.After-preview-shown → Lent
 left x =
     let d = x.preview-shown.new in
     let a = (start x).args in
-    lent_of d.0 a.triangles.now a.joints.now a.quads.now a.triangles_out.now a.components.now d.1.1.1.1.1.1.0 d.1.1.1.1.1.1.1.0 []
+    lent_of d.points a.triangles.now a.joints.now a.quads.now a.triangles_out.now a.components.now d.work d.float_work []
 
 returns : tie.Need-returns-then-answer-lt-NUMBERS
 returns c =

@@ -26,7 +26,7 @@ abbrev left : tie.After-replay-r → Lent
 left x =
     let d = x.replay-r.new in
     let a = (start x).args in
-    lent_of d.0 a.triangles.now [] d.1.1.1.0 d.1.1.1.1.0 d.1.1.1.1.1.0 d.1.1.1.1.1.1.0 d.1.1.1.1.1.1.1.0 a.trace.now
+    lent_of d.points a.triangles.now [] d.quads d.triangles_out d.components d.work d.float_work a.trace.now
 
 returns : tie.Need-returns-then-answer-lt-LENGTHS
 returns c =

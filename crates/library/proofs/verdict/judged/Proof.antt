@@ -26,7 +26,7 @@ returns_2 c =
     let a = t.args in
     let d = x.accept-found.new in
     with_room a.given_points.now a.triangles.now a.points.now a.quads.now a.left.now a.joints.now a.components.now a.work.now a.parents.now a.a
-    a.answer.now w.put_verdict.result w.put_verdict.new.components.answer d.1.1.1.1.1.1.0 d.1.1.1.1.1.1.1.0 d.1.1.1.1.1.1.1.1.0 x.accept-found.result e.if-answer-lt-VERDICT.false x.accept-found.ensures w.put_verdict.ensures
+    a.answer.now w.put_verdict.result w.put_verdict.new.answer d.components d.work d.parents x.accept-found.result e.if-answer-lt-VERDICT.false x.accept-found.ensures w.put_verdict.ensures
 
 pub judged_spec : {M : Type 1} → statement M
 judged_spec =

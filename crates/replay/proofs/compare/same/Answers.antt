@@ -10,8 +10,7 @@ use native.Mathlib.Omega.{arith}
 use lib.ListN.{length, take, get_or}
 use lib.Seq.{take-suc, take_all, length-take-le, get_or-take}
 use Rattle.replay.specs.Agreeing.{same, same_itself, others}
-use Rattle.replay.proofs.compare.same.Statement.{statement}
-use Rattle.replay.proofs.compare.same.Tie as tie
+use Rattle.replay.proofs.compare.same.Goals as goal
 
 -- one more byte
 one_more : (i : ℕ) (a b : List ℕ) → i < length a → i < length b → take i a ≡ take i b → get_or a i 0 ≡ get_or b i 0 → take (i + 1) a ≡ take (i + 1) b
@@ -32,39 +31,29 @@ other_length n a b h k = sym (others (take n a) b (λ e. k (sym (length-take-le 
 other_byte : (i n : ℕ) (a b : List ℕ) → i < n → n ≤ length a → get_or a i 0 ≢ get_or b i 0 → false ≡ same (take n a) b
 other_byte i n a b h l k = sym (others (take n a) b (λ e. k (sym (get_or-take n a i 0 h) ∙ ap (λ z. get_or z i 0) e)))
 
-abbrev invariant_loop : tie.invariant-loop
-invariant_loop a n b i₀ i = (i ≤ n) × (take i a ≡ take i b)
-
-abbrev decreases_loop : tie.decreases-loop
-decreases_loop a n b i₀ i = n - i
-
-loop_again : tie.Need-loop-preserved invariant_loop decreases_loop
-loop_again c =
-    let start = c.before.before.before.before.before.before in
-    let l = c.before.before.before.before.loop in
+pub loop-i-preserved : goal.loop-i-preserved
+loop-i-preserved c =
+    let start = c in
+    let l = c.loop-i in
     let short = start.requires in (
       omega arith,
-      one_more l.i start.args.a.now start.args.b.now (omega arith) (omega arith) l.invariant.1 c.if2.false,
+      one_more l.i start.args.a.now start.args.b.now (omega arith) (omega arith) l.invariant.1 c.if-a-i.false,
     )
 
-returns : tie.Need-returns invariant_loop decreases_loop
-returns c = let start = c.before in other_length start.args.n start.args.a.now start.args.b.now start.requires c.if1.true
+pub returns-then-n-b : goal.returns-then-n-b
+returns-then-n-b c = let start = c in other_length start.args.n start.args.a.now start.args.b.now start.requires c.if-n-b.true
 
-returns_2 : tie.Need-returns-2 invariant_loop decreases_loop
-returns_2 c =
-    let start = c.before.before.before.before.before.before in
-    let l = c.before.before.before.before.loop in
-    other_byte l.i start.args.n start.args.a.now start.args.b.now (omega arith) start.requires c.if2.true
+pub returns-then-a-i : goal.returns-then-a-i
+returns-then-a-i c =
+    let start = c in
+    let l = c.loop-i in
+    other_byte l.i start.args.n start.args.a.now start.args.b.now (omega arith) start.requires c.if-a-i.true
 
-returns_3 : tie.Need-returns-3 invariant_loop decreases_loop
-returns_3 c =
-    let start = c.before.before.before in
-    let l = c.before.loop in
+pub returns : goal.returns
+returns c =
+    let start = c in
+    let l = c.loop-i in
     whole l.i start.args.n start.args.a.now start.args.b.now (omega arith) (omega arith) l.invariant.1
 
-pub same_spec : {M : Type 1} → statement M
-same_spec =
-    tie.close
-    (tie.spec
-    invariant_loop decreases_loop returns (λ c. (omega arith, refl)) (λ c. search rules) (λ c. search rules) returns_2
-    (λ c. search rules) (λ c. search rules) loop_again returns_3)
+pub loop-i-init : goal.loop-i-init
+loop-i-init c = (omega arith, refl)
