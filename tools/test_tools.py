@@ -1,5 +1,5 @@
 #!/usr/bin/env python3
-"""Tests of tools/convert, tools/draw, tools/change-definition, tools/landing-note, tools/check-docs, tools/fuzz and tools/test: python3 tools/test_tools.py"""
+"""Tests of tools/convert, tools/draw, tools/change-definition, tools/landing-note, tools/check-docs, tools/design-counts, tools/fuzz and tools/test: python3 tools/test_tools.py"""
 import contextlib, glob, io, math, os, random, re, shutil, subprocess, sys, tempfile, time, unittest
 import unittest.mock
 import xml.etree.ElementTree as xml
@@ -21,7 +21,7 @@ def script(name):
 
 
 CONVERT, DRAW, CHANGE, NOTE = script('convert'), script('draw'), script('change-definition'), script('landing-note')
-DOCS, FUZZ = script('check-docs'), script('fuzz')
+DOCS, FUZZ, COUNTS = script('check-docs'), script('fuzz'), script('design-counts')
 
 SQUARE = [(0.0, 0.0, 0.0), (1.0, 0.0, 0.0), (1.0, 1.0, 0.0), (0.0, 1.0, 0.0)]
 S_TEXT = """triangles points size stop
@@ -599,6 +599,57 @@ class Changes(unittest.TestCase):
         self.assertGreater(len(CHANGE.CHANGES), 50)
 
 
+class DesignCounts(unittest.TestCase):
+    SOURCE = """// The first that is over; n where there is none.
+pub fn first_over(w: &[u32], n: usize, over: bool) -> usize
+    requires { n ≤ length w.now }
+    ensures { First w.now n result }
+{
+    let mut i = 0;
+    while i < n {
+        if over {
+            return i;
+        }
+        i += 1;
+    }
+    n
+}
+
+// Kept (1): C reads these numbers.
+pub enum Found {
+    Nothing,
+    At(usize),
+}
+
+fn walk(w: &[u32], mut c: usize) -> usize {
+    while c < 9 {
+        c = next(w, c);
+    }
+    c
+}
+"""
+
+    def counted(self, source):
+        with tempfile.TemporaryDirectory() as made:
+            os.makedirs(f'{made}/crates/one/src')
+            with open(f'{made}/crates/one/src/lib.rt', 'w', encoding='utf-8') as f:
+                f.write(source)
+            said = io.StringIO()
+            with unittest.mock.patch.object(COUNTS, 'ROOT', made), contextlib.redirect_stdout(said):
+                COUNTS.main([])
+        return {m[0]: (int(m[1]), int(m[2])) for m in re.findall(r'^(\w+) +(\d+) found, +(\d+) of them kept', said.getvalue(), re.M)}
+
+    def test_places(self):
+        found = self.counted(self.SOURCE)
+        self.assertEqual(found, dict(own_options=(1, 1), flags=(0, 0), numbers=(1, 0), twins=(0, 0), loops=(1, 0), by_hand=(0, 0), clauses=(0, 0),
+                                     together=(0, 0), lengths=(1, 0), searches=(0, 0), switches=(1, 0), walked=(0, 0), aliases=(0, 0)))
+
+    def test_twin_and_kept_loop(self):
+        twin = self.SOURCE.replace('first_over', 'first_under').split('// Kept')[0].replace('    while', '    // Kept (3): a reason.\n    while')
+        found = self.counted(self.SOURCE + '\n' + twin)
+        self.assertEqual((found['twins'], found['loops'], found['lengths']), ((1, 0), (2, 1), (2, 0)))
+
+
 class Docs(unittest.TestCase):
     """Each check of tools/check-docs passes on the pages as they are, and notices a page that was changed for it."""
 
@@ -696,16 +747,21 @@ class Docs(unittest.TestCase):
 
 @unittest.skipUnless(shutil.which('rt'), 'the kit is not installed')
 class Contributing(unittest.TestCase):
-    """The proof of CONTRIBUTING.md, from hole to green, and its edit, in a copy of the two crates that it needs."""
+    """The proof of CONTRIBUTING.md, from hole to green, and its edit, in a copy of the crates that it needs."""
 
     def setUp(self):
         self.page = content(os.path.join(ROOT, 'CONTRIBUTING.md')).decode()
         self.folder = tempfile.mkdtemp()
         self.addCleanup(shutil.rmtree, self.folder)
-        for crate in ('definition', 'rules'):
+        lines = re.findall(r'^(\w+):(.*)$', content(os.path.join(ROOT, 'crates.txt')).decode(), re.M)
+        needed = {'rules'}
+        for crate, below in reversed(lines):
+            if crate in needed:
+                needed.update(below.split())
+        for crate in needed:
             shutil.copytree(os.path.join(ROOT, 'crates', crate), os.path.join(self.folder, 'crates', crate), ignore=shutil.ignore_patterns('out'))
         with open(os.path.join(self.folder, 'crates.txt'), 'w') as file:
-            file.write('definition:\nrules: definition\n')
+            file.writelines(f'{crate}:{below}\n' for crate, below in lines if crate in needed)
         self.crate = os.path.join(self.folder, 'crates', 'rules')
         self.proof = os.path.join(self.crate, 'proofs', 'standard_quality', 'Answers.antt')
 

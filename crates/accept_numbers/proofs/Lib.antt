@@ -1,2 +1,1 @@
-pub mod Cleans
 pub mod Telling

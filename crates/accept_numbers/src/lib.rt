@@ -1,21 +1,18 @@
 // What an acceptance tells programs in C and Rust, as numbers in a slice.
 #![tactic(auto)]
 
-ghost use Rattle.std.specs.Prelude.{◌≡◌, cond, List, ℕ, ◌≤◌, length};
+ghost use Rattle.std.specs.Prelude.{◌≡◌, List, ℕ, ◌≤◌, length};
 ghost use Rattle.definition.specs.Call.{onto};
 ghost use Rattle.refusals.specs.Refusals.{number_of};
 ghost use Rattle.accept.specs.Call.{refused};
-ghost use Rattle.lost_joints.specs.Promise as joints;
 ghost use Rattle.accept_refusals.specs.Stated.{handed};
-ghost use Rattle.verdicts.specs.Sides.{option};
-ghost use Rattle.accept_numbers.specs.Numbers.{absent, place_of, ends, clean, listed, up_to_4, Tells};
-ghost use Rattle.accept_numbers.specs.Said.{counts, said, answered, in_order};
+ghost use Rattle.verdicts.specs.Promise.{verdict_of, answer_of};
+ghost use Rattle.accept_numbers.specs.Numbers.{clean, listed, up_to_4, Tells};
+ghost use Rattle.accept_numbers.specs.Said.{counts, in_order};
 
 use accept_refusals::{Stated, refusal};
-use balance::Answer;
-use lost_joints::Lost;
+use refusals::Refusal;
 use verdicts::Answered;
-use words::lesser;
 
 // Numbers of a verdict: whether it accepts, the first offender of each clause,
 // and the points added, the components and the odd ones.
@@ -41,116 +38,39 @@ pub struct Told {
     pub odd: usize,
 }
 
-// No edge is uneven.
-fn is_even(uneven: Answer) -> bool
-    ensures { result ≡ absent (option uneven) }
+// No clause has an offender.
+fn accepted(a: Answered) -> bool
+    ensures { (components : List ℕ) → result ≡ clean (verdict_of a components) }
 {
-    match uneven {
-        Answer::Balanced => true,
-        Answer::Uneven(u, v) => false,
-    }
-}
-
-// The smaller node of the least uneven edge, 0 where there is none.
-fn smaller_end(uneven: Answer) -> usize
-    ensures { result ≡ (ends (option uneven)).0 }
-{
-    match uneven {
-        Answer::Balanced => 0,
-        Answer::Uneven(u, v) => u,
-    }
-}
-
-// The larger node of the least uneven edge, 0 where there is none.
-fn larger_end(uneven: Answer) -> usize
-    ensures { result ≡ (ends (option uneven)).1 }
-{
-    match uneven {
-        Answer::Balanced => 0,
-        Answer::Uneven(u, v) => v,
-    }
-}
-
-// 1 where no joint is lost, otherwise 0.
-fn all_stand(lost: Lost) -> usize
-    ensures { result ≡ cond (absent (joints.option lost)) 1 0 }
-{
-    match lost {
-        Lost::Nothing => 1,
-        Lost::Joint(i) => 0,
-    }
-}
-
-// The first joint that is lost; n where there is none.
-fn lost_of(lost: Lost, n: usize) -> usize
-    ensures { result ≡ place_of n (joints.option lost) }
-{
-    match lost {
-        Lost::Nothing => n,
-        Lost::Joint(i) => i,
-    }
-}
-
-// 1 where no clause has an offender, otherwise 0.
-fn accepted(a: Answered, s: Stated) -> usize
-    ensures { (components : List ℕ) → result ≡ cond (clean (said s a components)) 1 0 }
-{
-    if a.moved < s.given {
-        return 0;
-    }
-    if a.folded < s.quads {
-        return 0;
-    }
-    if a.sharp < s.quads {
-        return 0;
-    }
-    if a.given_turned < s.count {
-        return 0;
-    }
-    if a.left_turned < s.left {
-        return 0;
-    }
-    if a.thin < s.left {
-        return 0;
-    }
-    let uneven = a.uneven;
-    let lost = a.lost;
-    if is_even(uneven) {
-        return all_stand(lost);
-    }
-    0
+    a.moved.is_none()
+        && a.folded.is_none()
+        && a.sharp.is_none()
+        && a.given_turned.is_none()
+        && a.left_turned.is_none()
+        && a.thin.is_none()
+        && a.uneven.is_none()
+        && a.lost.is_none()
 }
 
 // The numbers of a verdict; `components` is the slice with the sizes at its front.
 fn numbers(a: Answered, s: Stated, components: &[u32]) -> Told
-    ensures { in_order result ≡ listed (counts s) (said s a components.now) }
+    ensures { in_order result ≡ listed (counts s) (verdict_of a components.now) }
 {
-    let uneven = a.uneven;
-    let lost = a.lost;
-    let yes = accepted(a, s);
-    let moved = lesser(a.moved, s.given);
-    let folded = lesser(a.folded, s.quads);
-    let sharp = lesser(a.sharp, s.quads);
-    let given_flat = lesser(a.given_turned, s.count);
-    let left_flat = lesser(a.left_turned, s.left);
-    let thin = lesser(a.thin, s.left);
-    let u = smaller_end(uneven);
-    let v = larger_end(uneven);
-    let joint = lost_of(lost, s.joints);
-    let groups = lesser(a.groups, components.len());
+    let yes = usize::from(accepted(a));
+    let (u, v) = a.uneven.unwrap_or((0, 0));
     Told {
         accepted: yes,
-        moved,
+        moved: a.moved.unwrap_or(s.given),
         added: a.added,
-        folded,
-        sharp,
-        given_flat,
-        left_flat,
-        thin,
+        folded: a.folded.unwrap_or(s.quads),
+        sharp: a.sharp.unwrap_or(s.quads),
+        given_flat: a.given_turned.unwrap_or(s.count),
+        left_flat: a.left_turned.unwrap_or(s.left),
+        thin: a.thin.unwrap_or(s.left),
         u,
         v,
-        joint,
-        groups,
+        joint: a.lost.unwrap_or(s.joints),
+        groups: a.groups.min(components.len()),
         odd: a.odd,
     }
 }
@@ -175,21 +95,28 @@ fn write_told(answer: &mut [usize], t: Told)
     answer[12] = t.odd;
 }
 
+// Kept (1): C's callers read the refusal's number, which `Tells` states.
 // The number of the refusal is returned, 0 where there is a verdict.
 // Then its numbers come to the front of the slice; a refusal leaves the slice as it was.
-pub fn put_verdict(answer: &mut [usize], components: &[u32], a: Answered, s: Stated) -> usize
+pub fn put_verdict(
+    answer: &mut [usize],
+    components: &[u32],
+    a: Result<Answered, Refusal>,
+    s: Stated,
+) -> usize
     requires { 13 ≤ length answer.old }
-    ensures { Tells (counts s) (answered s a components.now) answer.old result answer.new }
+    ensures { Tells (counts s) (answer_of a components.now) answer.old result answer.new }
 {
-    let k = a.refusal;
-    if k != 0 {
-        return k;
+    match a {
+        Err(e) => usize::from(e),
+        Ok(found) => {
+            write_told(answer, numbers(found, s, components));
+            0
+        }
     }
-    let t = numbers(a, s, components);
-    write_told(answer, t);
-    0
 }
 
+// Kept (1): C's callers read the refusal's number, which `up_to_4` states.
 // The number of a call whose answer is too short: the first of 1 and 14 whose condition holds, otherwise 4.
 pub fn short_verdict(
     given: &[f64],
@@ -205,14 +132,11 @@ pub fn short_verdict(
 ) -> usize
     ensures { result ≡ up_to_4 (number_of (refused (handed given.now triangles.now points.now quads.now left.now joints.now components.now work.now parents.now a))) }
 {
-    let k = refusal(
+    match refusal(
         given, triangles, points, quads, left, joints, components, work, parents, a,
-    );
-    if k == 1 {
-        return 1;
+    ) {
+        Err(Refusal::OverLimit) => 1,
+        Err(Refusal::BadQuality) => 14,
+        _ => 4,
     }
-    if k == 14 {
-        return 14;
-    }
-    4
 }

@@ -7,6 +7,7 @@ ghost use Rattle.accept_refusals.specs.Stated.{tris_unknown, tris_repeated, quad
 
 use words::wide;
 
+// Kept (6): C's callers lend longer slices, and the clause's `tris_unknown` has the number beside the list.
 // A node of n triangles is none of m points.
 pub fn unknown_in(triangles: &[u32], n: usize, m: usize) -> bool
     requires { 3 * n ≤ length triangles.now }
@@ -16,6 +17,7 @@ pub fn unknown_in(triangles: &[u32], n: usize, m: usize) -> bool
     refusals::unknown_node(triangles, a)
 }
 
+// Kept (6): C's callers lend longer slices, and the clause's `tris_repeated` has the number beside the list.
 // One of n triangles has a node twice.
 pub fn repeated_in(triangles: &[u32], n: usize) -> bool
     requires { 3 * n ≤ length triangles.now }
@@ -25,6 +27,7 @@ pub fn repeated_in(triangles: &[u32], n: usize) -> bool
     refusals::repeated_node(triangles, a)
 }
 
+// Kept (6): C's callers lend longer slices, and the clause's `points_far` has the number beside the list.
 // One of m points is outside.
 pub fn far_in(points: &[f64], m: usize) -> bool
     requires { 3 * m ≤ length points.now }
@@ -34,18 +37,16 @@ pub fn far_in(points: &[f64], m: usize) -> bool
     refusals::far_point(points, a)
 }
 
+// Kept (6): C's callers lend longer slices, and the clause's `quads_unknown` has the number beside the list.
 // A corner of n quads is none of m points.
 pub fn unknown_corner(quads: &[u32], n: usize, m: usize) -> bool
     requires { 4 * n ≤ length quads.now }
     ensures { result ≡ quads_unknown m n quads.now }
 {
-    let words = 4 * n;
-    let mut i = 0;
-    while i < words {
+    for i in 0..4 * n {
         if wide(quads[i]) >= m {
             return true;
         }
-        i += 1;
     }
     false
 }
@@ -72,18 +73,17 @@ fn quad_twice(n0: u32, n1: u32, n2: u32, n3: u32) -> bool
     n2 == n3
 }
 
+// Kept (6): C's callers lend longer slices, and the clause's `quads_repeated` has the number beside the list.
 // One of n quads has a node twice.
 pub fn repeated_corner(quads: &[u32], n: usize) -> bool
     requires { 4 * n ≤ length quads.now }
     ensures { result ≡ quads_repeated n quads.now }
 {
-    let mut i = 0;
-    while i < n {
+    for i in 0..n {
         let k = 4 * i;
         if quad_twice(quads[k], quads[k + 1], quads[k + 2], quads[k + 3]) {
             return true;
         }
-        i += 1;
     }
     false
 }

@@ -7,11 +7,13 @@ mod nodes;
 ghost use Rattle.std.specs.Prelude.{◌≡◌, not, ◌&&◌};
 ghost use Rattle.definition.specs.Floats.{0·5, 0·99, 1·0};
 ghost use Rattle.definition.specs.Call.{ranges};
+ghost use Rattle.refusals.specs.Numbers.{number_or_0};
 ghost use Rattle.refusals.specs.Refusals.{number_of};
 ghost use Rattle.accept.specs.Call.{too_short, refused};
 ghost use Rattle.accept_refusals.specs.Stated.{handed, over, Limited};
 
 use crate::nodes::{bad_joints, far_point, repeated_node, unknown_node};
+use refusals::{Refusal, ranges};
 
 // The most that a list may have.
 const MOST: usize = 1048576;
@@ -30,6 +32,7 @@ const SIDE_WORDS: usize = 4;
 // u32 of parents for a leftover triangle.
 const PARENT_WORDS: usize = 2;
 
+// Kept (6): the numbers stand beside their slices, since C's callers lend longer slices, and `Handed` has both.
 // The numbers that the caller states: given points and triangles, points, quads and leftover triangles, joints,
 // the largest cosine of a quad's corner, and that of a leftover triangle's corner, where 1 asks nothing.
 #[derive(Clone, Copy)]
@@ -65,16 +68,6 @@ fn over_limit(a: Stated) -> bool
     }
     if a.joints > MOST {
         return true;
-    }
-    false
-}
-
-// The number is in the range; a NaN is not.
-fn ranges(low: f64, high: f64, c: f64) -> bool
-    ensures { result ≡ ranges low high c }
-{
-    if low <= c {
-        return c <= high;
     }
     false
 }
@@ -135,7 +128,7 @@ fn too_short(
     false
 }
 
-// The number of the first condition that holds; 0 where none does.
+// The refusal of the first condition that holds, if one does.
 pub fn refusal(
     given: &[f64],
     triangles: &[u32],
@@ -147,31 +140,31 @@ pub fn refusal(
     work: &[u32],
     parents: &[u32],
     a: Stated,
-) -> usize
-    ensures { result ≡ number_of (refused (handed given.now triangles.now points.now quads.now left.now joints.now components.now work.now parents.now a)) }
+) -> Result<(), Refusal>
+    ensures { number_or_0 result ≡ number_of (refused (handed given.now triangles.now points.now quads.now left.now joints.now components.now work.now parents.now a)) }
 {
     if over_limit(a) {
-        return 1;
+        return Err(Refusal::OverLimit);
     }
     if bad_limit(a.cosine, a.thin) {
-        return 14;
+        return Err(Refusal::BadQuality);
     }
     if too_short(
         given, triangles, points, quads, left, joints, components, work, parents, a,
     ) {
-        return 4;
+        return Err(Refusal::TooShort);
     }
     if unknown_node(triangles, quads, left, a) {
-        return 5;
+        return Err(Refusal::UnknownNode);
     }
     if repeated_node(triangles, quads, left, a) {
-        return 6;
+        return Err(Refusal::RepeatedNode);
     }
     if far_point(given, points, a) {
-        return 7;
+        return Err(Refusal::FarPoint);
     }
     if bad_joints(joints, a.joints, a.given) {
-        return 13;
+        return Err(Refusal::BadJoint);
     }
-    0
+    Ok(())
 }

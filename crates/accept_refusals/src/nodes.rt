@@ -6,7 +6,7 @@ ghost use Rattle.accept_refusals.specs.Stated.{unknown, repeated, far, joints_ba
 
 use crate::Stated;
 use crate::lent_cells::{far_in, repeated_corner, repeated_in, unknown_corner, unknown_in};
-use words::wide;
+use refusals::bad_joint;
 
 // 5: a node of a cell is none of its points.
 pub fn unknown_node(triangles: &[u32], quads: &[u32], left: &[u32], a: Stated) -> bool
@@ -47,30 +47,16 @@ pub fn far_point(given: &[f64], points: &[f64], a: Stated) -> bool
     far_in(points, a.points)
 }
 
-// The two nodes of a joint are one, or one of them is not given.
-fn bad_joint(u: u32, v: u32, given: usize) -> bool
-    ensures { result ≡ bad_joint given (key u v) }
-{
-    if u == v {
-        return true;
-    }
-    if wide(u) >= given {
-        return true;
-    }
-    wide(v) >= given
-}
-
+// Kept (6): C's callers lend longer slices, and the clause's `joints_bad` has the number beside the list.
 // 13: one of the n joints names a node twice or a node that is not given.
 pub fn bad_joints(joints: &[u32], n: usize, given: usize) -> bool
     requires { 2 * n ≤ length joints.now }
     ensures { result ≡ joints_bad joints.now n given }
 {
-    let mut i = 0;
-    while i < n {
+    for i in 0..n {
         if bad_joint(joints[2 * i], joints[2 * i + 1], given) {
             return true;
         }
-        i += 1;
     }
     false
 }

@@ -9,8 +9,7 @@ use lib.Seq.{take_all}
 use lib.Ieee.{Float, binary64, to_bits}
 use Rattle.definition.specs.Call.{Asked, Lent, Returned, counts_of}
 use Rattle.hashing.specs.Hash.{hash, word}
-use Rattle.mesher.specs.declared.Answer.{Answer}
-use Rattle.mesher.specs.Promise.{number_of, counts_in, lengths_in, Returns}
+use Rattle.mesher.specs.Promise.{Reply, number_of, counts_in, lengths_in, Returns}
 use Rattle.acceptance.specs.Folded.{counted, numbers, with_slices, folded}
 use Rattle.acceptance.specs.Positions.{coordinates, placed}
 use Rattle.acceptance.specs.Runs.{the_call, asked, lent, returned, hashed}
@@ -34,7 +33,7 @@ slice_by_slice h placed left sizes r quads out components points d e f g =
     g ∙ whole (to_bits binary64) sizes points ∙ ap (λ k. hash (to_bits binary64) k points) third
 
 -- of an answer a and slices at exit that are those of the definition's call
-pub as_returned : (start h r : ℕ) (x : Returned) (a : Answer) (exit : Lent)
+pub as_returned : (start h r : ℕ) (x : Returned) (a : Reply) (exit : Lent)
     → Returns x a exit
     → h ≡ hash word start (a.refusal ∷ counted (counts_in a) (lengths_in a))
     → r ≡ with_slices h exit.quads exit.triangles_out exit.components exit.points
@@ -51,11 +50,11 @@ as_returned start h r x a exit is e f =
     ∙ ap (λ k. with_slices k x.lent.quads x.lent.triangles_out x.lent.components x.lent.points) answer
 
 -- a call that states the same numbers
-pub stated_as : (l : Lent) {a b : Asked} {r : Answer} {exit : Lent} → a ≡ b → Returns (the_call a l) r exit → Returns (the_call b l) r exit
+pub stated_as : (l : Lent) {a b : Asked} {r : Reply} {exit : Lent} → a ≡ b → Returns (the_call a l) r exit → Returns (the_call b l) r exit
 stated_as l {r = r} {exit = exit} e is = subst (λ a. Returns (the_call a l) r exit) e is
 
 -- the call in setting s, with the points that were placed
-pub with_points : (given count : ℕ) (nodes : List ℕ) (s : ℕ) {points : List Float} {a : Answer} {exit : Lent} → points ≡ placed (coordinates (s / 16))
+pub with_points : (given count : ℕ) (nodes : List ℕ) (s : ℕ) {points : List Float} {a : Reply} {exit : Lent} → points ≡ placed (coordinates (s / 16))
     → Returns (the_call (asked given count s) (lent points nodes)) a exit → Returns (returned given count nodes s) a exit
 unfolding returned
 with_points given count nodes s {a = a} {exit = exit} e is = subst (λ points. Returns (the_call (asked given count s) (lent points nodes)) a exit) e is

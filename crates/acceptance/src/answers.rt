@@ -1,18 +1,18 @@
 // The hash with what a call returned.
-ghost use Rattle.std.specs.Prelude.{◌≡◌, ◌∷◌};
+ghost use Rattle.std.specs.Prelude.{◌≡◌, ◌∷◌, Ok};
 ghost use Rattle.hashing.specs.Hash.{hash, word};
-ghost use Rattle.mesher.specs.Promise.{counts_in, lengths_in};
+ghost use Rattle.mesher.specs.Promise.{answered, counts_in, lengths_in};
 ghost use Rattle.acceptance.specs.Folded.{counted, with_slices};
 
-use hashing::{mixed, mixed_floats, mixed_words};
+use hashing::{mixed, mixed_all};
 use mesher::Answer;
+use refusals::Refusal;
 
-// The hash with the refusal's number, the counts, the lengths and the pairs tried.
-pub fn mixed_answer(start: u64, a: Answer) -> u64
-    ensures { result ≡ hash word start (a.refusal ∷ counted (counts_in a) (lengths_in a)) }
+// The hash with the counts, the lengths and the pairs tried.
+fn mixed_counts(start: u64, a: Answer) -> u64
+    ensures { let r = answered (Ok a) in result ≡ hash word start (counted (counts_in r) (lengths_in r)) }
 {
-    let mut h = mixed(start, a.refusal as u64);
-    h = mixed(h, a.front_empty as u64);
+    let mut h = mixed(start, a.front_empty as u64);
     h = mixed(h, a.attempts as u64);
     h = mixed(h, a.placement as u64);
     h = mixed(h, a.invalid_quad as u64);
@@ -28,6 +28,16 @@ pub fn mixed_answer(start: u64, a: Answer) -> u64
     mixed(h, a.trials as u64)
 }
 
+// The hash with the refusal's number, the counts, the lengths and the pairs tried.
+pub fn mixed_answer(start: u64, a: Result<Answer, Refusal>) -> u64
+    ensures { let r = answered a in result ≡ hash word start (r.refusal ∷ counted (counts_in r) (lengths_in r)) }
+{
+    match a {
+        Ok(a) => mixed_counts(mixed(start, 0), a),
+        Err(k) => mixed_counts(mixed(start, usize::from(k) as u64), Answer::default()),
+    }
+}
+
 // The hash with four whole slices.
 pub fn mixed_slices(
     start: u64,
@@ -38,8 +48,8 @@ pub fn mixed_slices(
 ) -> u64
     ensures { result ≡ with_slices start quads.now out.now components.now points.now }
 {
-    let placed = mixed_words(start, quads, quads.len());
-    let left = mixed_words(placed, out, out.len());
-    let sizes = mixed_words(left, components, components.len());
-    mixed_floats(sizes, points, points.len())
+    let placed = mixed_all(start, quads, quads.len());
+    let left = mixed_all(placed, out, out.len());
+    let sizes = mixed_all(left, components, components.len());
+    mixed_all(sizes, points, points.len())
 }

@@ -1,40 +1,48 @@
 // Every list against the stored hashes.
-ghost use Rattle.small.specs.Small.{said};
+ghost use Rattle.small.specs.Small.{said, triangles_of};
 ghost use Rattle.acceptance.specs.Tallies.{listed, list_at, Lists, Met, Tallies};
 
 use crate::runs::{Triangles, list_hash};
-use small::{Found, small_mesh};
+use refusals::Refusal;
+use small::{Mesh, small_mesh};
 
 // How many lists were meshed, and how many of them had the stored hash.
+// Kept (1): of one list too these are counts: `Met` of specs/Tallies says so of this type.
 #[derive(Clone, Copy)]
 pub struct Tally {
     pub made: u64,
     pub agreed: u64,
 }
 
-// The triangles of a list; none where there is no list.
-fn triangles_of(found: Found) -> Triangles
-    ensures { Lists (listed (said found)) result }
+// The triangles of a list, the nodes behind them 0.
+fn nodes_of(mesh: Mesh) -> Triangles
+    ensures { Lists (triangles_of mesh) result }
 {
-    match found {
-        Found::One(a) => {
+    match mesh {
+        Mesh::One(a) => {
             let nodes = [a.n0, a.n1, a.n2, 0, 0, 0, 0, 0, 0];
             Triangles { nodes, count: 1 }
         }
-        Found::Two(a, b) => {
+        Mesh::Two(a, b) => {
             let nodes = [a.n0, a.n1, a.n2, b.n0, b.n1, b.n2, 0, 0, 0];
             Triangles { nodes, count: 2 }
         }
-        Found::Three(a, b, c) => {
+        Mesh::Three(a, b, c) => {
             let nodes = [a.n0, a.n1, a.n2, b.n0, b.n1, b.n2, c.n0, c.n1, c.n2];
             Triangles { nodes, count: 3 }
         }
-        Found::Ended => {
-            let nodes = [0u32; 9];
-            Triangles { nodes, count: 0 }
-        }
-        Found::Refused(_) => {
-            let nodes = [0u32; 9];
+    }
+}
+
+// The triangles of the list that was found; none where there is no list.
+fn triangles_of(found: Result<Option<Mesh>, Refusal>) -> Triangles
+    ensures { Lists (listed (said found)) result }
+{
+    let list = found.unwrap_or(None);
+    match list {
+        Some(mesh) => nodes_of(mesh),
+        None => {
+            let nodes = [0; 9];
             Triangles { nodes, count: 0 }
         }
     }
@@ -60,12 +68,10 @@ pub fn meshed(points: u32, stored: &[u64]) -> Tally
 {
     let mut made: u64 = 0;
     let mut agreed: u64 = 0;
-    let mut place = 0;
-    while place < stored.len() {
-        let t = met(points, place, stored[place]);
+    for (place, hash) in stored.iter().enumerate() {
+        let t = met(points, place, *hash);
         made += t.made;
         agreed += t.agreed;
-        place += 1;
     }
     Tally { made, agreed }
 }

@@ -23,6 +23,7 @@ const SLOTS: [usize; 2] = [48, 9];
 const UNUSED: u32 = 4294967295;
 
 // A list's triangles, three nodes each, and zeros behind them.
+// Kept (6): `nodes_of` of specs/Runs says that all nine are lent, so the count is not the length of what a run takes.
 #[derive(Clone, Copy)]
 pub struct Triangles {
     pub nodes: [u32; 9],
@@ -74,10 +75,8 @@ pub fn list_hash(given: usize, list: Triangles) -> u64
     ensures { result ≡ hashed given list.count list.nodes 128 }
 {
     let mut h = BASIS;
-    let mut s = 0;
-    while s < SETTINGS {
+    for s in 0..SETTINGS {
         h = mixed_run(h, given, list, s);
-        s += 1;
     }
     h
 }

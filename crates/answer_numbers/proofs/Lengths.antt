@@ -11,21 +11,21 @@ use lib.Seq.{sets-eq}
 use borrow.Author.Tests.{eq-eqb, ne_eqb}
 use Rattle.definition.specs.Call.{Asked, Lent, over_limit, bad_size, bad_stop, bad_quality, too_short, unknown_node, repeated_node, far_point, bad_grid, bad_joints, onto}
 use Rattle.refusals.specs.Refusals.{first_refusal, in_turn}
-use Rattle.retrace.specs.declared.ending.Replayed.{Replayed}
+use Rattle.retrace.specs.Replaying.{Reply}
 use Rattle.answer_numbers.specs.Replays.{lengths_listed, lengths_put}
 
 -- ---- the lengths
 
-pub written : (xs : List ℕ) (r : Replayed) → 4 ≤ length xs → set (set (set (set xs 0 r.quads) 1 r.triangles) 2 r.points) 3 r.components ≡ onto (lengths_listed r) xs
+pub written : (xs : List ℕ) (r : Reply) → 4 ≤ length xs → set (set (set (set xs 0 r.quads) 1 r.triangles) 2 r.points) 3 r.components ≡ onto (lengths_listed r) xs
 unfolding onto
 written xs r h = sets-eq (lengths_listed r) xs 0 (omega (arith, h))
 
 -- after a refusal what was there
-pub kept : (r : Replayed) (old : List ℕ) → r.refusal ≢ 0 → old ≡ lengths_put r old
+pub kept : (r : Reply) (old : List ℕ) → r.refusal ≢ 0 → old ≡ lengths_put r old
 kept r old h = rw (ne_eqb r.refusal 0 h)
 
 -- after the whole trace its lengths
-pub put : (r : Replayed) (old new : List ℕ) → r.refusal ≡ 0 → new ≡ onto (lengths_listed r) old → new ≡ lengths_put r old
+pub put : (r : Reply) (old new : List ℕ) → r.refusal ≡ 0 → new ≡ onto (lengths_listed r) old → new ≡ lengths_put r old
 put r old new h e = rw (eq-eqb r.refusal 0 h) e
 
 -- ---- the number of a replay whose answer is too short

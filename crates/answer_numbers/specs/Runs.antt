@@ -1,9 +1,9 @@
 -- The numbers of a run.
 use Rattle.std.specs.Prelude.{cond, List, [], ◌∷◌, ℕ, eqb}
-use Rattle.mesher.specs.declared.Answer.{Answer}
+use Rattle.mesher.specs.Promise.{Reply}
 
 -- the numbers of a finished run in their order
-abbrev pub numbers : Answer → List ℕ
+abbrev pub numbers : Reply → List ℕ
 numbers r =
     r.front_empty
     ∷ r.attempts

@@ -5,10 +5,14 @@ ghost use Rattle.mesher.specs.Previews.{kind_of, born_of, cost_of, shown_of};
 ghost use Rattle.answer_numbers.specs.Previews.{kind_number, twelve, shown_numbers, refusal_number};
 
 use mesher::preview::{Born, Cost, Kind, Shown};
+use refusals::Refusal;
 
 // Numbers of a preview: what it is, the kind of refusal, insertions, flips, and the quad's eight.
 pub const NUMBERS: usize = 12;
 
+// Kept (1): it is made here for C alone.
+// Kept (2): alike by chance, other functions map other kinds to other numbers.
+// Kept (4): the numbers are those of C's header for a preview, so the enum, which the mesher uses, doesn't have them.
 // The kinds of refusal in the order of the counts.
 fn kind_number(kind: Kind) -> usize
     ensures { result ≡ kind_number (kind_of kind) }
@@ -43,7 +47,7 @@ fn write_shown(answer: &mut [usize], what: usize, kind: usize, cost: Cost, quad:
 
 // What is shown comes to the front of the slice, and 0 is returned.
 // A refusal's number is returned and leaves the slice as it was.
-pub fn put_shown(answer: &mut [usize], shown: Shown) -> usize
+pub fn put_shown(answer: &mut [usize], shown: Result<Shown, Refusal>) -> usize
     requires { 12 ≤ length answer.old }
     ensures { (result ≡ refusal_number (shown_of shown)) × (answer.new ≡ onto (shown_numbers (shown_of shown)) answer.old) }
 {
@@ -57,6 +61,10 @@ pub fn put_shown(answer: &mut [usize], shown: Shown) -> usize
         round: 0,
         replaced: 0,
     };
+    let shown = match shown {
+        Ok(shown) => shown,
+        Err(k) => return k.into(),
+    };
     match shown {
         Shown::OffFront(cost) => {
             write_shown(answer, 0, 0, cost, no_quad);
@@ -69,9 +77,6 @@ pub fn put_shown(answer: &mut [usize], shown: Shown) -> usize
         Shown::Refused(kind, cost) => {
             write_shown(answer, 2, kind_number(kind), cost, no_quad);
             return 0;
-        }
-        Shown::Refusal(k) => {
-            return k;
         }
     }
 }

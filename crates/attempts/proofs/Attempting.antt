@@ -14,7 +14,7 @@ use lib.ListN.{length, drop, length-append}
 use lib.Seq.{drop-drop}
 use Rattle.definition.specs.Lists.{flat_map}
 use Rattle.definition.specs.Numbers.{max_attempts, max_triangles}
-use Rattle.definition.specs.Counts.{Counts, tally, ◌⊞◌, one_attempt, Spent, nothing_spent, spending, at_limit, Refusal, Placement, refused_by, Want, of_points, of_slots, of_trace}
+use Rattle.definition.specs.Counts.{Counts, tally, ◌⊞◌, one_attempt, Spent, nothing_spent, spending, at_limit, Refusal, Placement, refused_by, Want}
 use Rattle.definition.specs.Plane.{Node, Edge}
 use Rattle.definition.specs.Cells.{Mesh, Quad, new_quad, born, quad_nodes, key, is_front, live_tris, this_round}
 use Rattle.definition.specs.Attempt.{Attempt, placed, refused, ended, try_quad}
@@ -50,17 +50,19 @@ use Rattle.blocked_edges.specs.Blocks.{Blocks, with_edge}
 use Rattle.blocked_edges.proofs.Room.{with_distinct}
 use Rattle.blocked_edges.proofs.Framing.{framed}
 use Rattle.outcomes.specs.Ready.{Small, Ready, Behind, Beyond}
-use Rattle.outcomes.specs.Ends.{spent, spent_of, end_of, quad_of, Grew, Plain, Left, AttemptTo, attempt_mesh}
+use Rattle.outcomes.specs.Ends.{spent, spent_of, end_of, quad_of, Plain, Left, AttemptTo, attempt_mesh}
+use Rattle.outcomes.specs.declared.Kind.TheVariants as kinds
+use Rattle.outcomes.specs.declared.Placed.{Placed}
 use Rattle.outcomes.specs.declared.Tried.{Tried}
 use Rattle.outcomes.specs.declared.End.TheVariants as ends
 use Rattle.settling.specs.declared.standing.Standing.{Standing}
 use Rattle.settling.specs.declared.standing.Step.{Step}
 use Rattle.settling.specs.declared.standing.Going.TheVariants as goings
 use Rattle.try_quad.specs.Tries.{CanAttempt}
-use Rattle.settling.specs.Standings.{counts_of, sort_of, FewTally, CountedOne, CountsMore}
+use Rattle.settling.specs.Standings.{counts_of, FewTally, CountedOne, CountsMore}
 use Rattle.settling.specs.Settles.{KeptSoFar, QuadFits, next_quad, CanSettle, SettleTo}
 use Rattle.attempts.specs.Runs.{Setup, Fixed, Holds, Goes, FrontKept, Makes, Stepped, StepTo}
-use Rattle.settling.proofs.Settling.{sort_of_refusal, sort_of_want, want_sort}
+use Rattle.settling.proofs.Settling.{placed_refused, placed_ended, refused_ended, same_placed}
 use Rattle.attempts.proofs.Apart.{pairwise_of, with_in}
 use Rattle.attempts.proofs.Reaching.{Fine, Q, R, Gets, sound, attempt_fine, reach_within, reach_never, made_mismatch}
 
@@ -74,9 +76,9 @@ kept_under : (w w' : List ℕ) (s p : ℕ) → Kept w w' (refused_at s p) (size 
 kept_under w w' s p h = record { len = h.len; low = λ i l. h.low i (omega arith) }
 
 -- the memory stands for the mesh as before
-pub ready_under : (w w' : List ℕ) (q : List Float) (rules : Rules) (c : Counters) (m : Mesh) → Under w w' (mesh_end rules.slots rules.capacity) → Ready w q rules c m → Ready w' q rules c m
+pub ready_under : (w w' : List ℕ) (q : List Float) (rules : Rules) (c : Counters) (m : Mesh) → Under w w' (mesh_end rules.lay.slots rules.lay.points) → Ready w q rules c m → Ready w' q rules c m
 ready_under w w' q rules c m h r =
-    record { rep = rep_under w w' rules.slots rules.capacity h m r.rep; pts = r.pts; side = r.side; counted = r.counted; live = r.live; attempts = r.attempts; small = r.small }
+    record { rep = rep_under w w' rules.lay.slots rules.lay.points h m r.rep; pts = r.pts; side = r.side; counted = r.counted; live = r.live; attempts = r.attempts; small = r.small }
 
 -- an attempt and a change of the refused edges leave the front's areas
 pub front_kept : (w w' w'' : List ℕ) (s p : ℕ) → Beyond w w' s p → Kept w' w'' (refused_at s p) (size (3 * s) p) → FrontKept w w'' s p
@@ -118,7 +120,7 @@ module _ (x : Setup) (st : State) (old es : List Edge) (f : Fixed x) (small : Sm
   unfolding max_attempts settings_of
   tries_few = omega (arith, sd.tries_fit, f.attempts, f.few)
 
-  pub insertions_few : st.counts.mismatch_insertions ≤ x.rules.capacity
+  pub insertions_few : st.counts.mismatch_insertions ≤ x.rules.lay.points
   unfolding settings_of
   insertions_few =
       let h = ap length sd.counted.points_are ∙ length-append x.begun.ps sd.counted.added in
@@ -134,7 +136,7 @@ module _ (x : Setup) (st : State) (old es : List Edge) (f : Fixed x) (small : Sm
       let u = sd.counted.adds_up in
       let b : st.counts.attempts ≤ 829200 = tries_few in
       let z : st.counts.front_empty ≡ 0 = reach_never x f st old es reach in
-      let i : st.counts.mismatch_insertions ≤ 829200 = let j : st.counts.mismatch_insertions ≤ x.rules.capacity = insertions_few in let c = small.points in omega arith in
+      let i : st.counts.mismatch_insertions ≤ 829200 = let j : st.counts.mismatch_insertions ≤ x.rules.lay.points = insertions_few in let c = small.points in omega arith in
       let t : st.counts.trials ≤ 53068800 = trials_few in
       few_from g st.counts e 53068800 (omega arith) (omega arith) (omega arith) (omega arith) (omega arith)
       (omega arith) (omega arith) (omega arith) (omega arith) (omega arith)
@@ -145,7 +147,7 @@ module _ (x : Setup) (st : State) (old es : List Edge) (f : Fixed x) (small : Sm
       let u = sd.counted.adds_up in
       let b : st.counts.attempts ≤ 829200 = tries_few in
       let z : st.counts.front_empty ≡ 0 = reach_never x f st old es reach in
-      let i : st.counts.mismatch_insertions ≤ 829200 = let j : st.counts.mismatch_insertions ≤ x.rules.capacity = insertions_few in let c = small.points in omega arith in
+      let i : st.counts.mismatch_insertions ≤ 829200 = let j : st.counts.mismatch_insertions ≤ x.rules.lay.points = insertions_few in let c = small.points in omega arith in
       let t : st.counts.trials ≤ 53068800 = trials_few in
       few_from g (counting st one_attempt).counts e 53068800 (omega arith) (omega arith) (omega arith) (omega arith) (omega arith)
       (omega arith) (omega arith) (omega arith) (omega arith) (omega arith)
@@ -160,11 +162,11 @@ counted_trials : (c : Counts) → (c ⊞ one_attempt).trials ≡ c.trials
 unfolding ◌⊞◌ tally one_attempt
 counted_trials c = omega arith
 
-quad_below : (n round : ℕ) (t : Tried) → All (λ i. i < n) (quad_nodes (quad_of round t)) → (t.n0 < n) × (t.n1 < n) × (t.n2 < n) × (t.n3 < n)
+quad_below : (n round : ℕ) (t : Placed) → All (λ i. i < n) (quad_nodes (quad_of round t)) → (t.n0 < n) × (t.n1 < n) × (t.n2 < n) × (t.n3 < n)
 unfolding quad_nodes born new_quad
 quad_below n round t h = (h.0, h.1.0, h.1.1.0, h.1.1.1.0)
 
-quad_edge : (round : ℕ) (t : Tried) → (quad_of round t).edge ≡ key t.n0 t.n1
+quad_edge : (round : ℕ) (t : Placed) → (quad_of round t).edge ≡ key t.n0 t.n1
 unfolding born new_quad
 quad_edge round t = refl
 
@@ -194,13 +196,13 @@ module _ (x : Setup) (w : List ℕ) (q : List Float) (quads tr : List ℕ) (g : 
   unfolding counting
   ready = k.holds.ready
 
-  points_fit : length st.mesh.points ≤ x.rules.capacity
+  points_fit : length st.mesh.points ≤ x.rules.lay.points
   points_fit = ready.rep.points
 
-  pub on_edge : Walk.IsEdge x.rules.capacity u v
+  pub on_edge : Walk.IsEdge x.rules.lay.points u v
   on_edge = record { node = omega (arith, up, known, points_fit); apart = λ z. omega (arith, up, z) }
 
-  is_edge : IsEdge x.rules.capacity (u, v)
+  is_edge : IsEdge x.rules.lay.points (u, v)
   is_edge = record { order = up; below = omega (arith, known, points_fit) }
 
   pub can_attempt : CanAttempt w q x.rules g.counters u v st.mesh
@@ -231,7 +233,7 @@ module _ (x : Setup) (w : List ℕ) (q : List Float) (quads tr : List ℕ) (g : 
   unfolding make_attempt counting
   on_front h = made ∙ (rw h refl)
 
-  blocks_before : Blocks w (refused_at x.rules.slots x.rules.capacity) (3 * x.rules.slots) x.rules.capacity (length st.quads) k.ever st.blocked
+  blocks_before : Blocks w (refused_at x.rules.lay.slots x.rules.lay.points) (3 * x.rules.lay.slots) x.rules.lay.points (length st.quads) k.ever st.blocked
   unfolding counting
   blocks_before = k.holds.so_far.blocks
 
@@ -256,7 +258,7 @@ module _ (x : Setup) (w : List ℕ) (q : List Float) (quads tr : List ℕ) (g : 
   unfolding this_round quad_cells live_quad
   in_round = omega (arith, number_before, sb.good.in_rounds.number)
 
-  quads_few : length st.quads ≤ x.rules.slots
+  quads_few : length st.quads ≤ x.rules.lay.slots
   unfolding settings_of
   quads_few = omega (arith, sb.good.quads_fit, sb.good.fits.slots)
 
@@ -279,8 +281,8 @@ module _ (x : Setup) (w : List ℕ) (q : List Float) (quads tr : List ℕ) (g : 
         subst (λ p. ProgressOk (Q st.mesh.points st.counts.mismatch_insertions) (R st.mesh.points st.counts.mismatch_insertions) es p) ran_given
         (attempt_fine x fx.sized k.reaches.old st (u, v) es sb (reach_within x fx st k.reaches.old ((u, v) ∷ es) before))
 
-  fine_few : (points : List Node) (n j : ℕ) → Fine st.mesh.points st.counts.mismatch_insertions points j → j ≡ st.counts.mismatch_insertions + n → length points ≤ x.rules.capacity
-      → (n ≤ x.rules.capacity) × (length st.mesh.points ≤ length points)
+  fine_few : (points : List Node) (n j : ℕ) → Fine st.mesh.points st.counts.mismatch_insertions points j → j ≡ st.counts.mismatch_insertions + n → length points ≤ x.rules.lay.points
+      → (n ≤ x.rules.lay.points) × (length st.mesh.points ≤ length points)
   fine_few points n j h e l =
       let m = ap length h.is ∙ length-append st.mesh.points h.new in
       (omega (arith, m, h.number), omega (arith, m))
@@ -294,15 +296,15 @@ module _ (x : Setup) (w : List ℕ) (q : List Float) (quads tr : List ℕ) (g : 
     unfolding after counting
     refused_reach = by_refusal st refused_state k.reaches.old (u, v) es before (ran_given (refused why n m) ran)
 
-    refused_fine : length m.points ≤ x.rules.capacity → (n.insertions ≤ x.rules.capacity) × (length st.mesh.points ≤ length m.points)
+    refused_fine : length m.points ≤ x.rules.lay.points → (n.insertions ≤ x.rules.lay.points) × (length st.mesh.points ≤ length m.points)
     unfolding after counting
     refused_fine l = fine_few m.points n.insertions _ (fine (refused why n m) ran).1 (added_refused st.counts n why) l
 
-    refused_room : m.used ≤ x.rules.slots → length (with_edge (u, v) k.ever) ≤ 3 * x.rules.slots
+    refused_room : m.used ≤ x.rules.lay.slots → length (with_edge (u, v) k.ever) ≤ 3 * x.rules.lay.slots
     unfolding settings_of
     refused_room l =
         let b = records_fit (settings_of x.rules) x.begun.locked x.begun.ts x.begun.ps fx.proper fx.points fx.slots refused_state ((u, v) ∷ k.reaches.old) es (with_edge (u, v) k.ever) refused_reach
-        (pairwise_of x.rules.capacity (with_edge (u, v) k.ever) (with_distinct x.rules.capacity (u, v) k.ever is_edge blocks_before.lists.distinct))
+        (pairwise_of x.rules.lay.points (with_edge (u, v) k.ever) (with_distinct x.rules.lay.points (u, v) k.ever is_edge blocks_before.lists.distinct))
         (λ f i. in_right f es ((u, v) ∷ k.reaches.old) (deeper f (with_in (u, v) k.ever f i))) in
         omega (arith, b, l)
       where
@@ -326,7 +328,7 @@ module _ (x : Setup) (w : List ℕ) (q : List Float) (quads tr : List ℕ) (g : 
     unfolding after counting
     placed_reach = by_quad st placed_state k.reaches.old (u, v) es before (ran_given (placed n m h) ran)
 
-    placed_fine : length m.points ≤ x.rules.capacity → (n.insertions ≤ x.rules.capacity) × (length st.mesh.points ≤ length m.points)
+    placed_fine : length m.points ≤ x.rules.lay.points → (n.insertions ≤ x.rules.lay.points) × (length st.mesh.points ≤ length m.points)
     unfolding after counting
     placed_fine l = fine_few m.points n.insertions _ (fine (placed n m h) ran).1 (made_mismatch st.counts n) l
 
@@ -334,43 +336,43 @@ module _ (x : Setup) (w : List ℕ) (q : List Float) (quads tr : List ℕ) (g : 
     after_quad = sound x fx placed_state k.reaches.old [] placed_reach
 
     -- the quad's round is the one after those of the quads before
-    placed_next : (t : Tried) → Grew h t → next_quad st.quads t ≡ h
-    placed_next t w = ap (λ (z : ℕ). quad_of z t) (sym (last_round m st.quads h after_quad.good.in_rounds)) ∙ w.quad
+    placed_next : (t : Placed) → quad_of h.round t ≡ h → next_quad st.quads t ≡ h
+    placed_next t w = ap (λ (z : ℕ). quad_of z t) (sym (last_round m st.quads h after_quad.good.in_rounds)) ∙ w
 
-    placed_fits : (t : Tried) → Grew h t → h.edge ≡ (u, v) → length m.points ≤ x.rules.capacity → QuadFits quads x.rules.slots x.rules.capacity (length st.quads) t u v
+    placed_fits : (t : Placed) → quad_of h.round t ≡ h → t.replaced ≤ 16384 → h.edge ≡ (u, v) → length m.points ≤ x.rules.lay.points → QuadFits quads x.rules.lay.slots x.rules.lay.points (length st.quads) t u v
     unfolding settings_of
-    placed_fits t w e l =
+    placed_fits t w gone e l =
         let sp = after_quad in
-        let below : All (λ i. i < length m.points) (quad_nodes (quad_of h.round t)) = subst (λ z. All (λ i. i < length m.points) (quad_nodes z)) (sym w.quad) (sp.good.rated h (last_in st.quads h)).good.below in
+        let below : All (λ i. i < length m.points) (quad_nodes (quad_of h.round t)) = subst (λ z. All (λ i. i < length m.points) (quad_nodes z)) (sym w) (sp.good.rated h (last_in st.quads h)).good.below in
         let four = quad_below (length m.points) h.round t below in
-        let more : length st.quads < x.rules.slots = omega (arith, sp.good.quads_fit, sp.good.fits.slots, length-append st.quads (h ∷ [])) in
+        let more : length st.quads < x.rules.lay.slots = omega (arith, sp.good.quads_fit, sp.good.fits.slots, length-append st.quads (h ∷ [])) in
         record {
           node0 = omega (arith, four.0);
           node1 = omega (arith, four.1);
           node2 = omega (arith, four.2);
           node3 = omega (arith, four.3);
-          edge = sym (quad_edge h.round t) ∙ ap (λ (z : Quad). z.edge) w.quad ∙ e;
-          replaced = w.few;
+          edge = sym (quad_edge h.round t) ∙ ap (λ (z : Quad). z.edge) w ∙ e;
+          replaced = gone;
           room = omega (arith, more, quads_long, fx.room);
           few = more;
         }
 
   -- an end for want of lent memory
   module _ (wt : Want) (n : Spent) (m : Mesh) (ran : attempt (settings_of x.rules) x.rules.given st (u, v) ≡ after (counting st one_attempt) (u, v) (ended wt n m)) where
-    ended_fine : length m.points ≤ x.rules.capacity → (n.insertions ≤ x.rules.capacity) × (length st.mesh.points ≤ length m.points)
+    ended_fine : length m.points ≤ x.rules.lay.points → (n.insertions ≤ x.rules.lay.points) × (length st.mesh.points ≤ length m.points)
     unfolding after counting
     ended_fine l = fine_few m.points n.insertions _ (fine (ended wt n m) ran).1 (made_mismatch st.counts n) l
 
   -- ---- what `settle` asks
 
-  mismatch_few : g.tally.mismatch_insertions ≤ x.rules.capacity
+  mismatch_few : g.tally.mismatch_insertions ≤ x.rules.lay.points
   mismatch_few =
       let e : g.tally.mismatch_insertions ≡ st.counts.mismatch_insertions = ap (λ c. c.mismatch_insertions) counts_before ∙ counted_number st.counts in
-      let i : st.counts.mismatch_insertions ≤ x.rules.capacity = insertions_few x st k.reaches.old ((u, v) ∷ es) fx ready.small before in
+      let i : st.counts.mismatch_insertions ≤ x.rules.lay.points = insertions_few x st k.reaches.old ((u, v) ∷ es) fx ready.small before in
       omega arith
 
-  inserted_few : (n r : ℕ) → r ≡ n → n ≤ x.rules.capacity → g.tally.mismatch_insertions + r < 2 ^ 32
-  inserted_few n r e l = let i : g.tally.mismatch_insertions ≤ x.rules.capacity = mismatch_few in let p = ready.small.points in omega arith
+  inserted_few : (n r : ℕ) → r ≡ n → n ≤ x.rules.lay.points → g.tally.mismatch_insertions + r < 2 ^ 32
+  inserted_few n r e l = let i : g.tally.mismatch_insertions ≤ x.rules.lay.points = mismatch_few in let p = ready.small.points in omega arith
 
   tried_few : (n r : ℕ) → r ≡ n → n ≤ (settings_of x.rules).quality.pairs → g.tally.trials + r < 2 ^ 32
   unfolding settings_of
@@ -380,12 +382,12 @@ module _ (x : Setup) (w : List ℕ) (q : List Float) (quads tr : List ℕ) (g : 
       let p = ready.small.pairs in
       omega arith
 
-  module _ (w' : List ℕ) (q' : List Float) (t : Tried) (by : Beyond w w' x.rules.slots x.rules.capacity) where
-    so_far : KeptSoFar w' quads x.rules.slots x.rules.capacity g k.ever st.blocked st.quads x.begun.old
+  module _ (w' : List ℕ) (q' : List Float) (t : Tried) (by : Beyond w w' x.rules.lay.slots x.rules.lay.points) where
+    so_far : KeptSoFar w' quads x.rules.lay.slots x.rules.lay.points g k.ever st.blocked st.quads x.begun.old
     unfolding counting
     so_far =
         record {
-          blocks = framed w w' (refused_at x.rules.slots x.rules.capacity) (3 * x.rules.slots) x.rules.capacity (length st.quads) k.ever st.blocked (beyond_same w w' x.rules.slots x.rules.capacity by) blocks_before;
+          blocks = framed w w' (refused_at x.rules.lay.slots x.rules.lay.points) (3 * x.rules.lay.slots) x.rules.lay.points (length st.quads) k.ever st.blocked (beyond_same w w' x.rules.lay.slots x.rules.lay.points by) blocks_before;
           records = k.holds.so_far.records;
           number = number_before;
           text = k.holds.so_far.text;
@@ -396,42 +398,38 @@ module _ (x : Setup) (w : List ℕ) (q : List Float) (quads tr : List ℕ) (g : 
 
     can_with : g.tally.mismatch_insertions + t.inserted < 2 ^ 32
         → g.tally.trials + t.trials < 2 ^ 32
-        → (t.end ≡ ends.Placed → QuadFits quads x.rules.slots x.rules.capacity (length st.quads) t u v)
-        → ((why : Refusal) → t.end ≡ end_of why → length (with_edge (u, v) k.ever) ≤ 3 * x.rules.slots)
-        → CanSettle w' quads x.rules.slots x.rules.capacity g t u v k.ever st.blocked st.quads x.begun.old
+        → ((z : Placed) → t.end ≡ ends.Placed z → QuadFits quads x.rules.lay.slots x.rules.lay.points (length st.quads) z u v)
+        → ((why : Refusal) → t.end ≡ end_of why → length (with_edge (u, v) k.ever) ≤ 3 * x.rules.lay.slots)
+        → CanSettle w' quads x.rules.lay.slots x.rules.lay.points g t u v k.ever st.blocked st.quads x.begun.old
     can_with i j p r = record { small_slots = ready.small.slots; small_points = ready.small.points; so_far = so_far; few = few; inserted = i; trials = j; edge = is_edge; placed = p; refused = r }
 
     pub can_settle : (a : Attempt) → attempt (settings_of x.rules) x.rules.given st (u, v) ≡ after (counting st one_attempt) (u, v) a → Grown (u, v) a → FewTrials (settings_of x.rules) a
-        → AttemptTo w' q q' x.rules g.counters a t → CanSettle w' quads x.rules.slots x.rules.capacity g t u v k.ever st.blocked st.quads x.begun.old
+        → AttemptTo w' q q' x.rules g.counters a t → CanSettle w' quads x.rules.lay.slots x.rules.lay.points g t u v k.ever st.blocked st.quads x.begun.old
     can_settle (placed n m h) ran from few_tried to =
-        let l = to.2.ready.rep.points in
-        can_with (inserted_few n.insertions t.inserted (ap (λ z. z.insertions) to.2.spent) (placed_fine n m h ran l).0)
-        (tried_few n.trials t.trials (ap (λ z. z.trials) to.2.spent) few_tried)
-        (λ e. placed_fits n m h ran t to.1 from l)
-        (λ why e. absurd (omega (arith, sort_of_refusal t.end why e, ap sort_of to.0)))
+        let l = to.1.ready.rep.points in
+        let o = to.0 in
+        can_with (inserted_few n.insertions t.inserted (ap (λ z. z.insertions) to.1.spent) (placed_fine n m h ran l).0)
+        (tried_few n.trials t.trials (ap (λ z. z.trials) to.1.spent) few_tried)
+        (λ z e. subst (λ (y : Placed). QuadFits quads x.rules.lay.slots x.rules.lay.points (length st.quads) y u v) (same_placed t.end o.placed z o.end e) (placed_fits n m h ran o.placed o.quad o.few from l))
+        (λ why e. absurd (placed_refused t.end o.placed why o.end e))
     can_settle (refused why n m) ran from few_tried to =
         can_with (inserted_few n.insertions t.inserted (ap (λ z. z.insertions) to.1.spent) (refused_fine why n m ran to.1.ready.rep.points).0)
         (tried_few n.trials t.trials (ap (λ z. z.trials) to.1.spent) few_tried)
-        (λ e. absurd (omega (arith, sort_of_refusal t.end why to.0, ap sort_of e)))
+        (λ z e. absurd (placed_refused t.end z why e to.0))
         (λ why' e. refused_room why n m ran to.1.ready.rep.used)
     can_settle (ended wt n m) ran from few_tried to =
         can_with (inserted_few n.insertions t.inserted (ap (λ z. z.insertions) to.1.spent) (ended_fine wt n m ran to.1.ready.rep.points).0)
         (tried_few n.trials t.trials (ap (λ z. z.trials) to.1.spent) few_tried)
-        (λ e. absurd (no_want wt (sort_of_want t.end wt to.0) 0 (ap sort_of e) (omega arith)))
-        (λ why e. absurd (no_want wt (sort_of_want t.end wt to.0) 1 (sort_of_refusal t.end why e) (omega arith)))
-      where
-        no_want : (wt : Want) → sort_of t.end ≡ want_sort wt → (n : ℕ) → sort_of t.end ≡ n → n ≤ 1 → ⊥
-        no_want of_points e n f l = omega (arith, e, f, l)
-        no_want of_slots e n f l = omega (arith, e, f, l)
-        no_want of_trace e n f l = omega (arith, e, f, l)
+        (λ z e. absurd (placed_ended t.end z wt e to.0))
+        (λ why e. absurd (refused_ended t.end why wt e to.0))
 
     -- ---- what is left
 
-    module _ (w'' quads'' tr' : List ℕ) (r : Step) (set : SettleTo w' w'' quads'' x.rules.slots x.rules.capacity g t u v k.ever st.blocked st.quads x.begun.old r) where
+    module _ (w'' quads'' tr' : List ℕ) (r : Step) (set : SettleTo w' w'' quads'' x.rules.lay.slots x.rules.lay.points g t u v k.ever st.blocked st.quads x.begun.old r) where
       ready_after : (n : Spent) (m : Mesh) → Left w' q q' x.rules g.counters n m t → (c : Counters) → c ≡ t.counters → Ready w'' q' x.rules c m
       ready_after n m l c e =
           subst (λ (z : Counters). Ready w'' q' x.rules z m) (sym e)
-          (ready_under w' w'' q' x.rules t.counters m (kept_under w' w'' x.rules.slots x.rules.capacity set.kept) l.ready)
+          (ready_under w' w'' q' x.rules t.counters m (kept_under w' w'' x.rules.lay.slots x.rules.lay.points set.kept) l.ready)
 
       counts_after : (n : Spent) (d : Counts) (s' : Standing) → counts_of s' ≡ d → d ≡ counts_of g ⊞ spending (spent_of t) → spent_of t ≡ n → counts_of s' ≡ st.counts ⊞ one_attempt ⊞ spending n
       counts_after n d s' e f i = e ∙ f ∙ ap (λ z. z ⊞ spending (spent_of t)) counts_before ∙ ap (λ (z : Spent). st.counts ⊞ one_attempt ⊞ spending z) i
@@ -443,8 +441,9 @@ module _ (x : Setup) (w : List ℕ) (q : List Float) (quads tr : List ℕ) (g : 
           → AttemptTo w' q q' x.rules g.counters a t → Logged x.begun.log tr' t.at (attempt_mesh a) → Stepped w'' q' quads'' tr' x es (after (counting st one_attempt) (u, v) a) r
       unfolding after counting
       stepped (placed n m h) ran to lg =
-          let p = set.placed to.0 in
-          let l = to.2 in (
+          let o = to.0 in
+          let p = set.placed o.placed o.end in
+          let l = to.1 in (
             p.kind,
             record {
               ever = k.ever;
@@ -453,7 +452,7 @@ module _ (x : Setup) (w : List ℕ) (q : List Float) (quads tr : List ℕ) (g : 
                 counts = counts_after n _ r.standing (p.counted.counts l.attempts) refl l.spent;
                 behind = behind_trans x.begun.floats q q' (length st.mesh.points) (length m.points) (placed_fine n m h ran l.ready.rep.points).1 behind_before l.behind;
                 log = log_after m lg r.standing.words p.counted.words;
-                so_far = subst (λ (z : Quad). KeptSoFar w'' quads'' x.rules.slots x.rules.capacity r.standing k.ever (freed z st.blocked) (st.quads ++ z ∷ []) x.begun.old) (placed_next n m h ran t to.1) p.so_far;
+                so_far = subst (λ (z : Quad). KeptSoFar w'' quads'' x.rules.lay.slots x.rules.lay.points r.standing k.ever (freed z st.blocked) (st.quads ++ z ∷ []) x.begun.old) (placed_next n m h ran o.placed o.quad) p.so_far;
               };
               reaches = record { fixed = fx; old = k.reaches.old; reach = placed_reach n m h ran; sub = k.reaches.sub };
             },
@@ -491,17 +490,17 @@ module _ (x : Setup) (w : List ℕ) (q : List Float) (quads tr : List ℕ) (g : 
 -- ---- the callees' answers
 
 module _ (x : Setup) (w : List ℕ) (q : List Float) (quads tr : List ℕ) (g : Standing) (st : State) (u v : ℕ) (es : List Edge) (k : Makes w q quads tr x g st (u, v) es) where
-  front_as : (b : Bool) → ((m : Mesh) → Rep w x.rules.slots x.rules.capacity m → b ≡ is_front m (key u v)) → b ≡ is_front st.mesh (u, v)
+  front_as : (b : Bool) → ((m : Mesh) → Rep w x.rules.lay.slots x.rules.lay.points m → b ≡ is_front m (key u v)) → b ≡ is_front st.mesh (u, v)
   front_as b h = h st.mesh (ready x w q quads tr g st u v es k).rep ∙ ap (is_front st.mesh) (key_up u v (up x w q quads tr g st u v es k))
 
-  pub was_off : (b : Bool) → ((m : Mesh) → Rep w x.rules.slots x.rules.capacity m → b ≡ is_front m (key u v)) → not b ≡ true → is_front st.mesh (u, v) ≡ false
+  pub was_off : (b : Bool) → ((m : Mesh) → Rep w x.rules.lay.slots x.rules.lay.points m → b ≡ is_front m (key u v)) → not b ≡ true → is_front st.mesh (u, v) ≡ false
   was_off b h e = sym (front_as b h) ∙ not-true b e
 
-  pub was_front : (b : Bool) → ((m : Mesh) → Rep w x.rules.slots x.rules.capacity m → b ≡ is_front m (key u v)) → not b ≡ false → is_front st.mesh (u, v) ≡ true
+  pub was_front : (b : Bool) → ((m : Mesh) → Rep w x.rules.lay.slots x.rules.lay.points m → b ≡ is_front m (key u v)) → not b ≡ false → is_front st.mesh (u, v) ≡ true
   was_front b h e = sym (front_as b h) ∙ not-false b e
 
   -- off the front nothing is tried
-  pub off_to : (t : Tried) → Plain ends.Placement g.counters g.words 0 0 0 t → AttemptTo w q q x.rules g.counters (refused Placement nothing_spent st.mesh) t
+  pub off_to : (t : Tried) → Plain (ends.Refused kinds.Placement) g.counters g.words 0 0 0 t → AttemptTo w q q x.rules g.counters (refused Placement nothing_spent st.mesh) t
   unfolding end_of nothing_spent
   off_to t h = (
     h.end,
@@ -513,17 +512,17 @@ module _ (x : Setup) (w : List ℕ) (q : List Float) (quads tr : List ℕ) (g : 
     },
   )
 
-  pub off_log : (t : Tried) → Plain ends.Placement g.counters g.words 0 0 0 t → Logged x.begun.log tr t.at st.mesh
+  pub off_log : (t : Tried) → Plain (ends.Refused kinds.Placement) g.counters g.words 0 0 0 t → Logged x.begun.log tr t.at st.mesh
   off_log t h = subst (λ (z : ℕ). Logged x.begun.log tr z st.mesh) (sym h.at) (log_before x w q quads tr g st u v es k)
 
-  pub step_is : (w' : List ℕ) (q' : List Float) (t : Tried) (by : Beyond w w' x.rules.slots x.rules.capacity) (w'' quads'' tr' : List ℕ) (r : Step)
-      → SettleTo w' w'' quads'' x.rules.slots x.rules.capacity g t u v k.ever st.blocked st.quads x.begun.old r
+  pub step_is : (w' : List ℕ) (q' : List Float) (t : Tried) (by : Beyond w w' x.rules.lay.slots x.rules.lay.points) (w'' quads'' tr' : List ℕ) (r : Step)
+      → SettleTo w' w'' quads'' x.rules.lay.slots x.rules.lay.points g t u v k.ever st.blocked st.quads x.begun.old r
       → (a : Attempt) → attempt (settings_of x.rules) x.rules.given st (u, v) ≡ after (counting st one_attempt) (u, v) a
       → AttemptTo w' q q' x.rules g.counters a t → Logged x.begun.log tr' t.at (attempt_mesh a) → StepTo w w'' q' quads'' tr' x es (attempt (settings_of x.rules) x.rules.given st (u, v)) r
   step_is w' q' t by w'' quads'' tr' r set a ran to lg =
       record {
         is = subst (λ p. Stepped w'' q' quads'' tr' x es p r) (sym ran) (stepped x w q quads tr g st u v es k w' q' t by w'' quads'' tr' r set a ran to lg);
-        front = front_kept w w' w'' x.rules.slots x.rules.capacity by set.kept;
+        front = front_kept w w' w'' x.rules.lay.slots x.rules.lay.points by set.kept;
       }
 
 -- ---- the attempt is counted

@@ -36,7 +36,7 @@ use Rattle.attempts.specs.Runs.{Setup, Sized, Fixed}
 
 -- a call that asks for them
 abbrev asked_of : Setup → Asked
-asked_of x = record { given = 0; capacity = x.rules.capacity; count = 0; slots = x.rules.slots; joints = 0; size = x.rules.size; stop = cond x.rules.even 1 0; quality = (settings_of x.rules).quality; grid = false }
+asked_of x = record { given = 0; capacity = x.rules.lay.points; count = 0; slots = x.rules.lay.slots; joints = 0; size = x.rules.size; stop = cond x.rules.even 1 0; quality = (settings_of x.rules).quality; grid = false }
 
 same_size : (x : Setup) → (settings_of x.rules).size ≡ (asked_of x).size
 unfolding settings_of

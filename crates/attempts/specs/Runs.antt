@@ -55,11 +55,11 @@ pub record Fixed (x : Setup) : Type 0 where
   pub given : x.rules.given ≡ length x.begun.ts
   pub few : x.rules.given ≤ 4096
   pub attempts : x.rules.attempts ≤ max_attempts x.rules.given
-  pub points : length x.begun.ps ≤ x.rules.capacity
-  pub slots : length x.begun.ts ≤ x.rules.slots
+  pub points : length x.begun.ps ≤ x.rules.lay.points
+  pub slots : length x.begun.ts ≤ x.rules.lay.slots
   pub within : All Within x.begun.ps
   pub sized : Sized x.rules.size
-  pub room : 8 * x.rules.slots ≤ length x.begun.old
+  pub room : 8 * x.rules.lay.slots ≤ length x.begun.old
 
 -- the memory stands for the state; no record of refusals
 pub record Leaves (w : List ℕ) (q : List Float) (quads t : List ℕ) (x : Setup) (g : Standing) (st : State) : Type 0 where
@@ -76,7 +76,7 @@ pub record Holds (w : List ℕ) (q : List Float) (quads t : List ℕ) (x : Setup
   pub counts : counts_of g ≡ st.counts
   pub behind : Behind x.begun.floats q (length st.mesh.points)
   pub log : Logged x.begun.log t g.words st.mesh
-  pub so_far : KeptSoFar w quads x.rules.slots x.rules.capacity g ever st.blocked st.quads x.begun.old
+  pub so_far : KeptSoFar w quads x.rules.lay.slots x.rules.lay.points g ever st.blocked st.quads x.begun.old
 
 -- a run reaches the state, with the edges es waiting
 pub record Reaches (x : Setup) (st : State) (ever es : List Edge) : Type 0 where
@@ -112,4 +112,4 @@ pub record Makes (w : List ℕ) (q : List Float) (quads t : List ℕ) (x : Setup
 -- what an attempt leaves, and that the front's areas are as they were
 pub record StepTo (w w' : List ℕ) (q' : List Float) (quads' t' : List ℕ) (x : Setup) (es : List Edge) (p : Progress) (r : Step) : Type 0 where
   pub is : Stepped w' q' quads' t' x es p r
-  pub front : FrontKept w w' x.rules.slots x.rules.capacity
+  pub front : FrontKept w w' x.rules.lay.slots x.rules.lay.points

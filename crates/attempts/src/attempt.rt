@@ -9,10 +9,10 @@ ghost use Rattle.attempts.specs.Runs.{Begun, setup, Goes, Makes, StepTo};
 
 use cells::counters::Counters;
 use cells::find::is_front;
-use outcomes::{End, without_quad};
+use outcomes::{End, Kind, Tried};
 use rules::Rules;
 use settling::settle::settle;
-use settling::standing::{Going, Standing, Step, counted, limited};
+use settling::standing::{Going, Standing, Step};
 use traces::Log;
 use try_quad::tried::try_quad;
 
@@ -49,14 +49,14 @@ fn make_attempt(
     ensures { (k : Begun) (st : State) (es : List Edge) → Makes w.old q.old quads.old t.old (setup rules k) g st (u, v) es → Locks j.now k.locked → StepTo w.old w.new q.new quads.new t.new (setup rules k) es (attempt (settings_of rules) rules.given st (u, v)) result }
 {
     let c = g.counters;
-    if !is_front(w, rules.slots, rules.capacity, u, v) {
-        let off = without_quad(End::Placement, c, g.words, 0, 0, 0);
-        return settle(w, quads, rules.slots, rules.capacity, g, off, u, v);
+    if !is_front(w, rules.lay, u, v) {
+        let off = Tried::without_trial(End::Refused(Kind::Placement), c, g.words, 0);
+        return settle(w, quads, rules.lay, g, off, u, v);
     }
     let round = g.quads + 1;
     let log = Log { at: g.words, round };
     let made = try_quad(w, q, j, t, rules, c, log, u, v);
-    settle(w, quads, rules.slots, rules.capacity, g, made, u, v)
+    settle(w, quads, rules.lay, g, made, u, v)
 }
 
 // One attempt on the edge u-v, from the standing `before`. The attempt that passes a limit is counted and not made.
@@ -74,13 +74,12 @@ pub fn attempt_one(
     requires { (k : Begun) × (st : State) × (es : List Edge) × Goes w.old q.old quads.old t.old (setup rules k) before st ((u, v) ∷ es) × Locks j.now k.locked }
     ensures { (k : Begun) (st : State) (es : List Edge) → Goes w.old q.old quads.old t.old (setup rules k) before st ((u, v) ∷ es) → Locks j.now k.locked → StepTo w.old w.new q.new quads.new t.new (setup rules k) es (attempt (settings_of rules) rules.given st (u, v)) result }
 {
-    let g = counted(before);
+    let g = before.counted();
     let c = g.counters;
     if past_limit(rules.attempts, rules.given, c) {
-        let h = limited(g);
         return Step {
             kind: Going::Limited,
-            standing: h,
+            standing: g.limited(),
         };
     }
     make_attempt(w, q, j, quads, t, rules, g, u, v)

@@ -2,7 +2,7 @@
 // in an area of a slice at b with room for n records and p nodes.
 #![tactic(auto)]
 
-ghost use Rattle.std.specs.Prelude.{◌≡◌, List, ℕ, ◌^◌, ◌<◌, ◌≤◌};
+ghost use Rattle.std.specs.Prelude.{◌≡◌, List, ℕ, ◌^◌, ◌<◌, ◌≤◌, MatchOption};
 ghost use Rattle.definition.specs.Plane.{Edge};
 ghost use Rattle.definition.specs.Cells.{has_edge_in};
 ghost use Rattle.blocked_edges.specs.Records.{Room, IsEdge, Lists, list_of, place};
@@ -15,11 +15,9 @@ pub fn open(w: &mut [u32], b: usize, n: usize, p: usize)
     requires { Room w.old b n p }
     ensures { OpenTo w.old w.new b n p }
 {
-    let mut v = 0;
-    while v < p {
+    for v in 0..p {
         w[b + 3 * n + v] = n as u32;
         w[b + 3 * n + p + v] = 0;
-        v += 1;
     }
 }
 
@@ -36,22 +34,22 @@ fn list_of(p: usize, u: usize, v: usize) -> usize
     sum - p
 }
 
-// The record of the edge u-v; n where it has none.
+// The record of the edge u-v, where it has one.
 // The time taken is the length of its list.
-fn seek(w: &[u32], b: usize, n: usize, p: usize, u: usize, v: usize) -> usize
+fn seek(w: &[u32], b: usize, n: usize, p: usize, u: usize, v: usize) -> Option<usize>
     requires lists { (ever : List Edge) × Lists w.now b n p ever }
     requires edge { IsEdge p (u, v) }
-    ensures { (ever : List Edge) → Lists w.now b n p ever → result ≡ place n (u, v) ever }
+    ensures { (ever : List Edge) → Lists w.now b n p ever → MatchOption result (place n (u, v) ever ≡ n) (λ i. (i ≡ place n (u, v) ever) × (i < n)) }
 {
     let g = list_of(p, u, v);
     let mut i = wide(w[b + 3 * n + g]);
     while i < n {
         if wide(w[b + i]) == v {
-            return i;
+            return Some(i);
         }
         i = wide(w[b + 2 * n + i]);
     }
-    n
+    None
 }
 
 // The edge u-v was refused, and no quad that has u or v was placed since.
@@ -60,10 +58,9 @@ pub fn is_blocked(w: &[u32], b: usize, n: usize, p: usize, u: usize, v: usize) -
     requires edge { IsEdge p (u, v) }
     ensures { (k : ℕ) (ever bl : List Edge) → Blocks w.now b n p k ever bl → result ≡ has_edge_in bl (u, v) }
 {
-    let i = seek(w, b, n, p, u, v);
-    if i >= n {
+    let Some(i) = seek(w, b, n, p, u, v) else {
         return false;
-    }
+    };
     let born = w[b + n + i];
     let at = b + 3 * n + p;
     if born < w[at + u] {
@@ -89,8 +86,7 @@ pub fn block(
     requires { (ever : List Edge) × (bl : List Edge) × CanBlock w.old b n p c k u v ever bl }
     ensures { BlockTo w.old w.new b n p c k u v result }
 {
-    let i = seek(w, b, n, p, u, v);
-    if i < n {
+    if let Some(i) = seek(w, b, n, p, u, v) {
         w[b + n + i] = k as u32;
         return c;
     }

@@ -29,7 +29,6 @@ use Rattle.edge_candidates.proofs.Nears.{wished_kept}
 use Rattle.candidates.specs.Choice.{CanChoose, Spare, ChosenTo, CanScan, CanPick, ScannedTo}
 use Rattle.candidates.specs.Spans.{Spans}
 use Rattle.candidates.specs.Words.{Told, MarkedTo}
-use Rattle.candidates.specs.declared.aim.Known.{Known}
 use Rattle.candidates.specs.declared.spans.Span.{Span}
 
 -- ---- lists of numbers
@@ -161,18 +160,18 @@ hand_kept w w' q s p k b n m g h f z =
 wish_kept : (w w' : List ℕ) (q : List Float) (s p b i : ℕ) (o : Wish) (m : Mesh) (a other : ℕ) → b + p ≤ i → Besides w w' b p → Wished w q s i o m a other → Wished w' q s i o m a other
 wish_kept w w' q s p b i o m a other h z = wished_kept w w' q s i o m a other z.len (λ j f. z.behind j (omega arith))
 
-module _ (w w' : List ℕ) (q : List Float) (s p k b a other : ℕ) (o : Known) (g : Span) (m : Mesh) (region : List Live) (h : CanPick w q s p k b a other o g m region) (z : Besides w w' b p) where
+module _ (w w' : List ℕ) (q : List Float) (s p k b a other i : ℕ) (o : Wish) (g : Span) (m : Mesh) (region : List Live) (h : CanPick w q s p k b a other i o g m region) (z : Besides w w' b p) where
   pub pick_hand : InHand w' q s p k m (filter (fenced m) region)
   pick_hand = hand_kept w w' q s p k b p m (filter (fenced m) region) h.hand h.from z
 
-  pub pick_wish : Wished w' q s o.at o.wish m a other
-  pick_wish = wish_kept w w' q s p b o.at o.wish m a other h.to z h.wish
+  pub pick_wish : Wished w' q s i o m a other
+  pick_wish = wish_kept w w' q s p b i o m a other h.to z h.wish
 
 -- what the words told, with the triangles that have no wall gone from the list
 module _ (w w1 w2 : List ℕ) (q : List Float) (s p k j n b a other i : ℕ) (o : Wish) (m : Mesh) (region : List Live) (h : CanScan w q s p k n b a other i o m region) (g : Span) (y : MarkedTo w w1 p b m a region g)
     (z : KeptTo w1 w2 q s p j m (filter (fenced m) region)) where
-  pub can_pick : (x : Float) → Spans m a region g → CanPick w2 q s p j b a other (record { far = x; at = i; wish = o }) g m region
-  can_pick x f =
+  pub can_pick : Spans m a region g → CanPick w2 q s p j b a other i o g m region
+  can_pick f =
       record {
         hand = z.hand;
         end = omega (arith, h.first, h.count);

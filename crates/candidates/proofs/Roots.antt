@@ -13,17 +13,14 @@ both : (a b : Bool) → a ≡ true → b ≡ true → (a && b) ≡ true
 both a b p q = rw (p, q)
 
 pub far_from : (y : Quality) (x target : Float) → fits binary64 x ≡ true → true ≡ too_far y (sqrt x) target → FarFrom y x target
-far_from y x target f h =
-    record {
-      beyond = λ z g l.
-          both (edge_high ⊗ target ≺ sqrt z) (y.side_high ⊗ target ≺ sqrt z)
-          (root_beyond (edge_high ⊗ target) x z f g (and_left (edge_high ⊗ target ≺ sqrt x) (y.side_high ⊗ target ≺ sqrt x) (sym h)) l)
-          (root_beyond (y.side_high ⊗ target) x z f g (and_right (edge_high ⊗ target ≺ sqrt x) (y.side_high ⊗ target ≺ sqrt x) (sym h)) l);
-    }
+far_from y x target f h = λ z g l.
+    both (edge_high ⊗ target ≺ sqrt z) (y.side_high ⊗ target ≺ sqrt z)
+    (root_beyond (edge_high ⊗ target) x z f g (and_left (edge_high ⊗ target ≺ sqrt x) (y.side_high ⊗ target ≺ sqrt x) (sym h)) l)
+    (root_beyond (y.side_high ⊗ target) x z f g (and_right (edge_high ⊗ target ≺ sqrt x) (y.side_high ⊗ target ≺ sqrt x) (sym h)) l)
 
 pub far_endless : (y : Quality) (target : Float) → FarFrom y (inf false) target
 unfolding ◌≺◌ lt
-far_endless y target = record { beyond = λ z g l. go z l }
+far_endless y target = λ z g l. go z l
   where
     go : (z : Float) → lt (inf false) z ≡ true → too_far y (sqrt z) target ≡ true
     go nan q = absurd (false≢true q)

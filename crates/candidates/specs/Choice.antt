@@ -4,7 +4,7 @@ use Rattle.std.specs.Float.{binary64}
 use Rattle.std.specs.Float.Ieee.{fits}
 use Rattle.rings.specs.Rings.{Below}
 use Rattle.definition.specs.Lists.{filter}
-use Rattle.definition.specs.Floats.{◌⊕◌, ◌⊗◌, ◌≺◌}
+use Rattle.definition.specs.Floats.{◌⊗◌, ◌≺◌}
 use Rattle.definition.specs.Numbers.{Quality, Turn, edge_high}
 use Rattle.definition.specs.Root.{sqrt}
 use Rattle.definition.specs.Plane.{Vec}
@@ -19,7 +19,6 @@ use Rattle.edge_candidates.specs.Wishes.{Wished}
 use Rattle.edge_candidates.specs.declared.wishes.Wish.{Wish}
 use Rattle.candidates.specs.Spans.{In, Spans}
 use Rattle.candidates.specs.Words.{Told}
-use Rattle.candidates.specs.declared.aim.Known.{Known}
 use Rattle.candidates.specs.declared.spans.Span.{Span}
 
 -- what a search for the side nodes of a asks: the mesh in lent memory, nodes and a seed,
@@ -55,13 +54,9 @@ pub record ChosenTo (w w' : List ℕ) (s p n at k : ℕ) (cs : List ℕ) : Type 
 abbrev pub too_far : Quality → Float → Float → Bool
 too_far y d target = (edge_high ⊗ target ≺ d) && (y.side_high ⊗ target ≺ d)
 
--- the square of a vector's length, whose root is the length
-abbrev pub square : Vec → Float
-square d = d.dx ⊗ d.dx ⊕ d.dy ⊗ d.dy
-
 -- a length is too far where its square is beyond x
-pub record FarFrom (y : Quality) (x target : Float) : Type 0 where
-  pub beyond : (z : Float) → fits binary64 z ≡ true → (x ≺ z) ≡ true → too_far y (sqrt z) target ≡ true
+abbrev pub FarFrom : Quality → Float → Float → Type 0
+FarFrom y x target = (z : Float) → fits binary64 z ≡ true → (x ≺ z) ≡ true → too_far y (sqrt z) target ≡ true
 
 -- v is a side node for a, by an edge or from the region in hand
 abbrev pub is_choice : Quality → Turn → Mesh → ℕ → ℕ → Vec → Float → List Live → ℕ → Bool
@@ -81,12 +76,12 @@ pub record CanScan (w : List ℕ) (q : List Float) (s p k n at a other i : ℕ) 
 
 -- the region's triangles with a wall are in hand, and the words from `at` on tell of the nodes
 -- of a span that has all side nodes
-pub record CanPick (w : List ℕ) (q : List Float) (s p k at a other : ℕ) (o : Known) (g : Span) (m : Mesh) (region : List Live) : Type 0 where
+pub record CanPick (w : List ℕ) (q : List Float) (s p k at a other i : ℕ) (o : Wish) (g : Span) (m : Mesh) (region : List Live) : Type 0 where
   pub hand : InHand w q s p k m (filter (fenced m) region)
   pub end : a < length m.points
   pub from : near_at s p ≤ at
-  pub to : at + p ≤ o.at
-  pub wish : Wished w q s o.at o.wish m a other
+  pub to : at + p ≤ i
+  pub wish : Wished w q s i o m a other
   pub spans : Spans m a region g
   pub told : (v : ℕ) → In g v → Told m a region v (get_or w (at + v) 0)
 

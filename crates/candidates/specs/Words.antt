@@ -1,5 +1,5 @@
 -- A word for each node, from b on, in the p words where the side nodes will stand.
-use Rattle.std.specs.Prelude.{◌≡◌, ◌≢◌, Bool, not, cond, List, ℕ, ◌+◌, ◌%◌, ◌^◌, ◌≤◌, ◌<◌, eqb, length, get_or}
+use Rattle.std.specs.Prelude.{◌≡◌, ◌≢◌, Bool, not, cond, List, ℕ, ◌+◌, ◌%◌, ◌^◌, ◌≤◌, ◌<◌, eqb, length, get_or, Option, Some, None}
 use Rattle.definition.specs.Lists.{any}
 use Rattle.definition.specs.Cells.{Live, Mesh, has_node}
 use Rattle.cells.specs.Layout.{near_at}
@@ -62,9 +62,14 @@ pub record CanSkip (w : List ℕ) (b from high : ℕ) : Type 0 where
   pub start : from ≤ high + 1
   pub fits : b + high < length w
 
--- r is the first node from `from` on whose word is not 0, or the one behind `high`
-pub record NextTold (w : List ℕ) (b from high r : ℕ) : Type 0 where
-  pub least : from ≤ r
-  pub most : r ≤ high + 1
-  pub none : (u : ℕ) → from ≤ u → u < r → get_or w (b + u) 0 ≡ 0
-  pub found : r ≤ high → get_or w (b + r) 0 ≢ 0
+-- v is the first node from `from` to `high` whose word is not 0
+pub record FirstTold (w : List ℕ) (b from high v : ℕ) : Type 0 where
+  pub least : from ≤ v
+  pub most : v ≤ high
+  pub none : (u : ℕ) → from ≤ u → u < v → get_or w (b + u) 0 ≡ 0
+  pub is : get_or w (b + v) 0 ≢ 0
+
+-- the search found it, or no word is another than 0
+abbrev pub NextTold : List ℕ → ℕ → ℕ → ℕ → Option ℕ → Type 0
+NextTold w b from high (Some v) = FirstTold w b from high v
+NextTold w b from high None = (u : ℕ) → from ≤ u → u ≤ high → get_or w (b + u) 0 ≡ 0

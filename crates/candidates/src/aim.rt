@@ -1,4 +1,8 @@
 // What side nodes are looked for by.
+ghost use Rattle.std.proofs.Props.{props};
+ghost use Rattle.rules.specs.Settings.{quality_of};
+ghost use Rattle.candidates.specs.Choice.{FarFrom};
+
 use edge_candidates::wishes::Wish;
 use plane::vectors::Vec;
 use rules::Quality;
@@ -15,11 +19,14 @@ pub struct Aim {
     pub quality: Quality,
 }
 
-// What is worked out once for all nodes: a number that the square of a length is beyond only where the length is too
-// far, and what is wanted by edges, with the place from which on it is listed.
+// What side nodes are looked for by, with what is worked out once for all nodes:
+// a number that the square of a length is beyond only where the length is too far,
+// and what is wanted by edges, with the place from which on it is listed.
 #[derive(Clone, Copy)]
 pub struct Known {
+    pub aim: Aim,
     pub far: f64,
     pub at: usize,
     pub wish: Wish,
+    ghost far_from: { FarFrom (quality_of aim.quality) far aim.target } by { Prim.hlevel props },
 }

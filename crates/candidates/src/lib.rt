@@ -21,20 +21,21 @@ ghost use Rattle.edge_candidates.specs.Wanted.{turn, At, by_edge};
 ghost use Rattle.edge_candidates.specs.Wishes.{Wished};
 ghost use Rattle.candidates.specs.Spans.{Beside};
 ghost use Rattle.candidates.specs.Words.{Told};
-ghost use Rattle.candidates.specs.Choice.{CanChoose, ChosenTo, too_far, square, FarFrom, is_choice, CanScan, CanPick, ScannedTo};
+ghost use Rattle.candidates.specs.Choice.{CanChoose, ChosenTo, too_far, FarFrom, is_choice, CanScan, CanPick, ScannedTo};
 
 use crate::aim::{Aim, Known};
 use crate::marks::{mark_nodes, next_told};
 use crate::spans::{Span, span_for};
-use cells::layout::stack_at;
+use cells::layout::Layout;
 use edge_candidates::wishes::{Wish, add, wish_at};
 use edge_candidates::{EDGE_HIGH, edge_candidate};
 use live_regions::live::live_region;
+use live_regions::reach::square;
 use plane::floats::greater;
 use plane::points::at;
 use plane::vectors::{Vec, from_to, norm};
 use rules::Quality;
-use side_candidates::blocks::box_walls;
+use side_candidates::blocks::{Blocks, Frame, box_walls};
 use side_candidates::inside::keep_walls;
 use side_candidates::sides::{ahead, in_view_boxed};
 
@@ -50,8 +51,13 @@ const FEW_WALLS: usize = 64;
 // The most boxes around walls.
 const BOXES: usize = 64;
 
-// The sides of all boxes, four each.
-const SIDES: usize = 256;
+// A box before it is made.
+const NO_BOX: Frame = Frame {
+    x0: 0.0,
+    x1: 0.0,
+    y0: 0.0,
+    y1: 0.0,
+};
 
 // The fewest triangles in a block with a box.
 const LEAST_BLOCK: usize = 4;
@@ -66,14 +72,8 @@ fn too_far(y: Quality, d: f64, target: f64) -> bool
     false
 }
 
-// The square of a vector's length, whose root is the length.
-fn square(d: Vec) -> f64
-    ensures { result ≡ square (vec d) }
-{
-    d.dx * d.dx + d.dy * d.dy
-}
-
 // A number that the square of a length is beyond only where the length is too far, so that the root need not be taken; infinity where none is found.
+// Kept (1): infinity is such a number, beyond which nothing is, so one test serves; an Option is a second test.
 fn far_square(y: Quality, target: f64) -> f64
     ensures { FarFrom (quality_of y) result target }
 {
@@ -89,24 +89,24 @@ fn far_square(y: Quality, target: f64) -> f64
 }
 
 // v is an edge candidate, by what is wanted; its word `here` is 2 or more where it has an edge with the end.
-fn by_edge(
-    w: &[u32],
-    q: &[f64],
-    s: usize,
-    p: usize,
-    aim: Aim,
-    o: Known,
-    v: usize,
-    here: u32,
-) -> bool
-    requires { (m : Mesh) × Rep w.now s p m × Pts q.now p m × Wished w.now q.now s o.at o.wish m aim.end aim.other × At m aim.end v }
-    ensures { (m : Mesh) → Rep w.now s p m → Pts q.now p m → Wished w.now q.now s o.at o.wish m aim.end aim.other → At m aim.end v → (Beside m aim.end v → 2 ≤ here) → result ≡ by_edge (turn aim.left) m aim.end aim.other aim.target v }
+fn by_edge(w: &[u32], q: &[f64], lay: Layout, o: Known, v: usize, here: u32) -> bool
+    requires { (m : Mesh) × Rep w.now lay.slots lay.points m × Pts q.now lay.points m × Wished w.now q.now lay.slots o.at o.wish m o.aim.end o.aim.other × At m o.aim.end v }
+    ensures { (m : Mesh) → Rep w.now lay.slots lay.points m → Pts q.now lay.points m → Wished w.now q.now lay.slots o.at o.wish m o.aim.end o.aim.other → At m o.aim.end v → (Beside m o.aim.end v → 2 ≤ here) → result ≡ by_edge (turn o.aim.left) m o.aim.end o.aim.other o.aim.target v }
 {
     if here < 2 {
         return false;
     }
     edge_candidate(
-        w, q, s, p, aim.end, aim.other, aim.target, aim.left, o.at, o.wish, v,
+        w,
+        q,
+        lay,
+        o.aim.end,
+        o.aim.other,
+        o.aim.target,
+        o.aim.left,
+        o.at,
+        o.wish,
+        v,
     )
 }
 
@@ -114,34 +114,30 @@ fn by_edge(
 fn is_choice(
     w: &[u32],
     q: &[f64],
-    s: usize,
-    p: usize,
+    lay: Layout,
     k: usize,
-    h: &[f64],
-    size: usize,
-    aim: Aim,
+    h: Blocks,
     o: Known,
     v: usize,
     here: u32,
 ) -> bool
-    requires fence { (m : Mesh) × (region : List Live) × Fence w.now q.now s p k h.now size m (filter (fenced m) region) × Wished w.now q.now s o.at o.wish m aim.end aim.other × Ends m aim.end v × Told m aim.end region v here }
-    requires far_from { FarFrom (quality_of aim.quality) o.far aim.target }
-    ensures { (m : Mesh) (region : List Live) → Fence w.now q.now s p k h.now size m (filter (fenced m) region) → Wished w.now q.now s o.at o.wish m aim.end aim.other → Ends m aim.end v → Told m aim.end region v here → result ≡ is_choice (quality_of aim.quality) (turn aim.left) m aim.end aim.other (vec aim.normal) aim.target region v }
+    requires { (m : Mesh) × (region : List Live) × Fence w.now q.now lay.slots lay.points k h.boxes.now h.size m (filter (fenced m) region) × Wished w.now q.now lay.slots o.at o.wish m o.aim.end o.aim.other × Ends m o.aim.end v × Told m o.aim.end region v here }
+    ensures { (m : Mesh) (region : List Live) → Fence w.now q.now lay.slots lay.points k h.entry.boxes.now h.entry.size m (filter (fenced m) region) → Wished w.now q.now lay.slots o.at o.wish m o.aim.end o.aim.other → Ends m o.aim.end v → Told m o.aim.end region v here → result ≡ is_choice (quality_of o.aim.quality) (turn o.aim.left) m o.aim.end o.aim.other (vec o.aim.normal) o.aim.target region v }
 {
-    if by_edge(w, q, s, p, aim, o, v, here) {
+    if by_edge(w, q, lay, o, v, here) {
         return true;
     }
     if here % 2 == 0 {
         return false;
     }
-    let d = from_to(q, aim.end, v);
+    let d = from_to(q, o.aim.end, v);
     if square(d) > o.far {
         return false;
     }
-    if !ahead(aim.quality, aim.normal, d, aim.target) {
+    if !ahead(o.aim.quality, o.aim.normal, d, o.aim.target) {
         return false;
     }
-    in_view_boxed(w, q, s, p, k, h, size, aim.end, aim.other, v)
+    in_view_boxed(w, q, lay, k, h, o.aim.end, o.aim.other, v)
 }
 
 // The side nodes, all in the span g, ascending, come to b; how many they are.
@@ -150,77 +146,54 @@ fn is_choice(
 fn pick_among(
     w: &mut [u32],
     q: &[f64],
-    s: usize,
-    p: usize,
+    lay: Layout,
     k: usize,
-    h: &[f64],
-    size: usize,
+    h: Blocks,
     b: usize,
-    aim: Aim,
     o: Known,
     g: Span,
 ) -> usize
-    requires can_pick { (m : Mesh) × (region : List Live) × CanPick w.old q.now s p k b aim.end aim.other o g m region × Boxes h.now size k m (filter (fenced m) region) }
-    requires far_from { FarFrom (quality_of aim.quality) o.far aim.target }
-    ensures { (m : Mesh) (region : List Live) → CanPick w.old q.now s p k b aim.end aim.other o g m region → Boxes h.now size k m (filter (fenced m) region) → ScannedTo w.old w.new s p (length m.points) b result (filter (is_choice (quality_of aim.quality) (turn aim.left) m aim.end aim.other (vec aim.normal) aim.target region) (below (length m.points))) }
+    requires { (m : Mesh) × (region : List Live) × CanPick w.old q.now lay.slots lay.points k b o.aim.end o.aim.other o.at o.wish g m region × Boxes h.boxes.now h.size k m (filter (fenced m) region) }
+    ensures { (m : Mesh) (region : List Live) → CanPick w.old q.now lay.slots lay.points k b o.aim.end o.aim.other o.at o.wish g m region → Boxes h.entry.boxes.now h.entry.size k m (filter (fenced m) region) → ScannedTo w.old w.new lay.slots lay.points (length m.points) b result (filter (is_choice (quality_of o.aim.quality) (turn o.aim.left) m o.aim.end o.aim.other (vec o.aim.normal) o.aim.target region) (below (length m.points))) }
 {
     let mut r: usize = 0;
-    let mut v: usize = next_told(w, b, g.low, g.high);
-    while v <= g.high {
-        let yes = is_choice(w, q, s, p, k, h, size, aim, o, v, w[b + v]);
+    let mut from = g.low;
+    while let Some(v) = next_told(w, b, from, g.high) {
+        let yes = is_choice(w, q, lay, k, h, o, v, w[b + v]);
         r = add(w, b, r, v, yes);
-        v = next_told(w, b, v + 1, g.high);
+        from = v + 1;
     }
     r
 }
 
 // Like `pick`, with boxes around the walls of blocks of triangles.
-fn pick_boxed(
-    w: &mut [u32],
-    q: &[f64],
-    s: usize,
-    p: usize,
-    k: usize,
-    b: usize,
-    aim: Aim,
-    o: Known,
-    g: Span,
-) -> usize
-    requires can_pick { (m : Mesh) × (region : List Live) × CanPick w.old q.now s p k b aim.end aim.other o g m region }
-    requires far_from { FarFrom (quality_of aim.quality) o.far aim.target }
+fn pick_boxed(w: &mut [u32], q: &[f64], lay: Layout, k: usize, b: usize, o: Known, g: Span) -> usize
+    requires can_pick { (m : Mesh) × (region : List Live) × CanPick w.old q.now lay.slots lay.points k b o.aim.end o.aim.other o.at o.wish g m region }
     requires le_k { 64 ≤ k }
-    ensures { (m : Mesh) (region : List Live) → CanPick w.old q.now s p k b aim.end aim.other o g m region → ScannedTo w.old w.new s p (length m.points) b result (filter (is_choice (quality_of aim.quality) (turn aim.left) m aim.end aim.other (vec aim.normal) aim.target region) (below (length m.points))) }
+    ensures { (m : Mesh) (region : List Live) → CanPick w.old q.now lay.slots lay.points k b o.aim.end o.aim.other o.at o.wish g m region → ScannedTo w.old w.new lay.slots lay.points (length m.points) b result (filter (is_choice (quality_of o.aim.quality) (turn o.aim.left) m o.aim.end o.aim.other (vec o.aim.normal) o.aim.target region) (below (length m.points))) }
 {
-    let mut h = [0.0; SIDES];
+    let mut h = [NO_BOX; BOXES];
     let size = k / BOXES + LEAST_BLOCK;
-    box_walls(w, q, s, p, k, size, &mut h);
-    pick_among(w, q, s, p, k, &h, size, b, aim, o, g)
+    box_walls(w, q, lay, k, size, &mut h);
+    pick_among(w, q, lay, k, Blocks { boxes: &h, size }, b, o, g)
 }
 
 // The side nodes, all in the span g, ascending, come to b; how many they are.
 // The k triangles of the region that have a wall are in hand.
 // Words from b on tell of the nodes of the span, each until a side node may stand there.
 // Few triangles are gone through without boxes.
-fn pick(
-    w: &mut [u32],
-    q: &[f64],
-    s: usize,
-    p: usize,
-    k: usize,
-    b: usize,
-    aim: Aim,
-    o: Known,
-    g: Span,
-) -> usize
-    requires can_pick { (m : Mesh) × (region : List Live) × CanPick w.old q.now s p k b aim.end aim.other o g m region }
-    requires far_from { FarFrom (quality_of aim.quality) o.far aim.target }
-    ensures { (m : Mesh) (region : List Live) → CanPick w.old q.now s p k b aim.end aim.other o g m region → ScannedTo w.old w.new s p (length m.points) b result (filter (is_choice (quality_of aim.quality) (turn aim.left) m aim.end aim.other (vec aim.normal) aim.target region) (below (length m.points))) }
+fn pick(w: &mut [u32], q: &[f64], lay: Layout, k: usize, b: usize, o: Known, g: Span) -> usize
+    requires { (m : Mesh) × (region : List Live) × CanPick w.old q.now lay.slots lay.points k b o.aim.end o.aim.other o.at o.wish g m region }
+    ensures { (m : Mesh) (region : List Live) → CanPick w.old q.now lay.slots lay.points k b o.aim.end o.aim.other o.at o.wish g m region → ScannedTo w.old w.new lay.slots lay.points (length m.points) b result (filter (is_choice (quality_of o.aim.quality) (turn o.aim.left) m o.aim.end o.aim.other (vec o.aim.normal) o.aim.target region) (below (length m.points))) }
 {
     if k < FEW_WALLS {
-        let none = [0.0; 0];
-        return pick_among(w, q, s, p, k, &none, k + 1, b, aim, o, g);
+        let none = Blocks {
+            boxes: &[],
+            size: k + 1,
+        };
+        return pick_among(w, q, lay, k, none, b, o, g);
     }
-    pick_boxed(w, q, s, p, k, b, aim, o, g)
+    pick_boxed(w, q, lay, k, b, o, g)
 }
 
 // The side nodes, with the region of k triangles in hand and what is wanted listed from i on, ascending, come to b;
@@ -229,8 +202,7 @@ fn pick(
 fn scan(
     w: &mut [u32],
     q: &[f64],
-    s: usize,
-    p: usize,
+    lay: Layout,
     k: usize,
     n: usize,
     b: usize,
@@ -238,67 +210,48 @@ fn scan(
     i: usize,
     o: Wish,
 ) -> usize
-    requires { (m : Mesh) × (region : List Live) × CanScan w.old q.now s p k n b aim.end aim.other i o m region }
-    ensures { (m : Mesh) (region : List Live) → CanScan w.old q.now s p k n b aim.end aim.other i o m region → ScannedTo w.old w.new s p n b result (filter (is_choice (quality_of aim.quality) (turn aim.left) m aim.end aim.other (vec aim.normal) aim.target region) (below n)) }
+    requires { (m : Mesh) × (region : List Live) × CanScan w.old q.now lay.slots lay.points k n b aim.end aim.other i o m region }
+    ensures { (m : Mesh) (region : List Live) → CanScan w.old q.now lay.slots lay.points k n b aim.end aim.other i o m region → ScannedTo w.old w.new lay.slots lay.points n b result (filter (is_choice (quality_of aim.quality) (turn aim.left) m aim.end aim.other (vec aim.normal) aim.target region) (below n)) }
 {
-    let g = span_for(w, s, p, k, aim.end);
-    mark_nodes(w, s, p, k, b, aim.end, g);
-    let fenced = keep_walls(w, s, p, k);
+    let g = span_for(w, lay, k, aim.end);
+    mark_nodes(w, lay, k, b, aim.end, g);
+    let fenced = keep_walls(w, lay, k);
     let known = Known {
+        aim,
         far: far_square(aim.quality, aim.target),
         at: i,
         wish: o,
     };
-    pick(w, q, s, p, fenced, b, aim, known, g)
+    pick(w, q, lay, fenced, b, known, g)
 }
 
-// The live region around the node a that its side nodes are looked for in; how many triangles it has.
-fn region_around(
-    w: &mut [u32],
-    q: &[f64],
-    s: usize,
-    p: usize,
-    used: usize,
-    seed: usize,
-    a: usize,
-    target: f64,
-    y: Quality,
-) -> usize
-    requires lent { (m : Mesh) × Lent w.old q.now s p used m × (a < length m.points) }
-    requires seed_lt_s { seed < s }
-    ensures { (m : Mesh) → Lent w.old q.now s p used m → a < length m.points → LiveTo w.old w.new s p result m (live_region m seed (node_at m a) (((quality_of y).side_high ⊕ side_margin) ⊗ target)) }
+// The live region around the end that its side nodes are looked for in; how many triangles it has.
+fn region_around(w: &mut [u32], q: &[f64], lay: Layout, used: usize, seed: usize, aim: Aim) -> usize
+    requires lent { (m : Mesh) × Lent w.old q.now lay.slots lay.points used m × (aim.end < length m.points) }
+    requires seed_lt_s { seed < lay.slots }
+    ensures { (m : Mesh) → Lent w.old q.now lay.slots lay.points used m → aim.end < length m.points → LiveTo w.old w.new lay.slots lay.points result m (live_region m seed (node_at m aim.end) (((quality_of aim.quality).side_high ⊕ side_margin) ⊗ aim.target)) }
 {
-    let o = at(q, a);
-    live_region(
-        w,
-        q,
-        s,
-        p,
-        used,
-        seed,
-        o.x,
-        o.y,
-        (y.side_high + SIDE_MARGIN) * target,
-    )
+    let o = at(q, aim.end);
+    let r = (aim.quality.side_high + SIDE_MARGIN) * aim.target;
+    live_region(w, q, lay, used, seed, o.x, o.y, r)
 }
 
 // The side nodes for an end, ascending, come to `at`; how many they are. What is wanted there is listed where the stack of the region was.
 pub fn candidates(
     w: &mut [u32],
     q: &[f64],
-    s: usize,
-    p: usize,
+    lay: Layout,
     used: usize,
     n: usize,
     at: usize,
     seed: usize,
     aim: Aim,
 ) -> usize
-    requires { (m : Mesh) × CanChoose w.old q.now s p used n at aim.end aim.other seed m }
-    ensures { (m : Mesh) → CanChoose w.old q.now s p used n at aim.end aim.other seed m → ChosenTo w.old w.new s p n at result (candidates (quality_of aim.quality) (turn aim.left) m aim.end aim.other seed (vec aim.normal) aim.target) }
+    requires { (m : Mesh) × CanChoose w.old q.now lay.slots lay.points used n at aim.end aim.other seed m }
+    ensures { (m : Mesh) → CanChoose w.old q.now lay.slots lay.points used n at aim.end aim.other seed m → ChosenTo w.old w.new lay.slots lay.points n at result (candidates (quality_of aim.quality) (turn aim.left) m aim.end aim.other seed (vec aim.normal) aim.target) }
 {
-    let k = region_around(w, q, s, p, used, seed, aim.end, aim.target, aim.quality);
-    let i = stack_at(s, p);
-    let o = wish_at(w, q, s, p, aim.end, aim.other, i);
-    scan(w, q, s, p, k, n, at, aim, i, o)
+    let k = region_around(w, q, lay, used, seed, aim);
+    let i = lay.stack_at();
+    let o = wish_at(w, q, lay, aim.end, aim.other, i);
+    scan(w, q, lay, k, n, at, aim, i, o)
 }

@@ -9,7 +9,7 @@ ghost use Rattle.candidates.specs.Words.{Spare, Cleared, Put, of_region, Raised,
 use crate::spans::Span;
 use cells::clear::clear_range;
 use cells::find::{node, node_after, node_before};
-use cells::layout::{BEFORE, CORNERS, list_at};
+use cells::layout::{BEFORE, CORNERS, Layout};
 use rings::next;
 use words::wide;
 
@@ -35,31 +35,29 @@ fn put(w: &mut [u32], p: usize, b: usize, v: usize)
 }
 
 // The words of the nodes of the triangle in slot i are 1.
-fn mark_cell(w: &mut [u32], s: usize, p: usize, b: usize, i: usize)
-    requires can_mark { CanMark w.old s p b }
-    requires rep { (m : Mesh) × Rep w.old s p m × TriIn m i }
-    requires i_lt_s { i < s }
-    ensures { (m : Mesh) → Rep w.old s p m → (t : TriIn m i) → Put w.old w.new p b (tri_has t.t) }
+fn mark_cell(w: &mut [u32], lay: Layout, b: usize, i: usize)
+    requires can_mark { CanMark w.old lay.slots lay.points b }
+    requires rep { (m : Mesh) × Rep w.old lay.slots lay.points m × TriIn m i }
+    requires i_lt_s { i < lay.slots }
+    ensures { (m : Mesh) → Rep w.old lay.slots lay.points m → (t : TriIn m i) → Put w.old w.new lay.points b (tri_has t.t) }
 {
-    let x = node(w, s, i, 0);
-    let y = node(w, s, i, 1);
-    let z = node(w, s, i, 2);
-    put(w, p, b, x);
-    put(w, p, b, y);
-    put(w, p, b, z);
+    let x = node(w, lay.slots, i, 0);
+    let y = node(w, lay.slots, i, 1);
+    let z = node(w, lay.slots, i, 2);
+    put(w, lay.points, b, x);
+    put(w, lay.points, b, y);
+    put(w, lay.points, b, z);
 }
 
 // The words of the nodes of the region of k triangles in hand are 1.
-fn mark_region(w: &mut [u32], s: usize, p: usize, k: usize, b: usize)
-    requires can_mark { CanMark w.old s p b }
-    requires in_hand { (q : List Float) × (m : Mesh) × (region : List Live) × InHand w.old q s p k m region }
-    ensures { (q : List Float) (m : Mesh) (region : List Live) → InHand w.old q s p k m region → Put w.old w.new p b (of_region region) }
+fn mark_region(w: &mut [u32], lay: Layout, k: usize, b: usize)
+    requires can_mark { CanMark w.old lay.slots lay.points b }
+    requires in_hand { (q : List Float) × (m : Mesh) × (region : List Live) × InHand w.old q lay.slots lay.points k m region }
+    ensures { (q : List Float) (m : Mesh) (region : List Live) → InHand w.old q lay.slots lay.points k m region → Put w.old w.new lay.points b (of_region region) }
 {
-    let mut i: usize = 0;
-    while i < k {
-        let j = wide(w[list_at(s, p) + i]);
-        mark_cell(w, s, p, b, j);
-        i += 1;
+    for i in 0..k {
+        let j = wide(w[lay.list_at() + i]);
+        mark_cell(w, lay, b, j);
     }
 }
 
@@ -73,42 +71,45 @@ fn raise(w: &mut [u32], p: usize, b: usize, v: usize)
 }
 
 // The words of the nodes that have an edge with a become 2 or more, and stay odd or even.
-fn mark_ring(w: &mut [u32], s: usize, p: usize, b: usize, a: usize)
-    requires can_mark { CanMark w.old s p b }
-    requires rep { (m : Mesh) × Rep w.old s p m × (a < length m.points) }
-    ensures { (m : Mesh) → Rep w.old s p m → a < length m.points → RaisedBy w.old w.new p b m a }
+fn mark_ring(w: &mut [u32], lay: Layout, b: usize, a: usize)
+    requires can_mark { CanMark w.old lay.slots lay.points b }
+    requires rep { (m : Mesh) × Rep w.old lay.slots lay.points m × (a < length m.points) }
+    ensures { (m : Mesh) → Rep w.old lay.slots lay.points m → a < length m.points → RaisedBy w.old w.new lay.points b m a }
 {
-    let mut c = next(w, BEFORE * s, CORNERS * s + p, CORNERS * s + a);
-    while c < CORNERS * s {
-        raise(w, p, b, node_after(w, s, c));
-        raise(w, p, b, node_before(w, s, c));
-        c = next(w, BEFORE * s, CORNERS * s + p, c);
+    let mut c = next(
+        w,
+        BEFORE * lay.slots,
+        CORNERS * lay.slots + lay.points,
+        CORNERS * lay.slots + a,
+    );
+    while c < CORNERS * lay.slots {
+        raise(w, lay.points, b, node_after(w, lay.slots, c));
+        raise(w, lay.points, b, node_before(w, lay.slots, c));
+        c = next(w, BEFORE * lay.slots, CORNERS * lay.slots + lay.points, c);
     }
 }
 
 // The words from b on tell of each node of the span whether it is one of the region of k triangles in hand,
 // and of the others that have no edge with a.
-pub fn mark_nodes(w: &mut [u32], s: usize, p: usize, k: usize, b: usize, a: usize, g: Span)
-    requires can_mark { CanMark w.old s p b }
-    requires in_hand { (q : List Float) × (m : Mesh) × (region : List Live) × InHand w.old q s p k m region × (a < length m.points) × (g.high < length m.points) }
-    ensures { (q : List Float) (m : Mesh) (region : List Live) → InHand w.old q s p k m region → a < length m.points → g.high < length m.points → MarkedTo w.old w.new p b m a region g }
+pub fn mark_nodes(w: &mut [u32], lay: Layout, k: usize, b: usize, a: usize, g: Span)
+    requires can_mark { CanMark w.old lay.slots lay.points b }
+    requires in_hand { (q : List Float) × (m : Mesh) × (region : List Live) × InHand w.old q lay.slots lay.points k m region × (a < length m.points) × (g.high < length m.points) }
+    ensures { (q : List Float) (m : Mesh) (region : List Live) → InHand w.old q lay.slots lay.points k m region → a < length m.points → g.high < length m.points → MarkedTo w.old w.new lay.points b m a region g }
 {
-    clear_span(w, p, b, g);
-    mark_region(w, s, p, k, b);
-    mark_ring(w, s, p, b, a);
+    clear_span(w, lay.points, b, g);
+    mark_region(w, lay, k, b);
+    mark_ring(w, lay, b, a);
 }
 
-// The first node from `from` to `high` whose word is not 0, or the one behind `high`: no other node can be a side node.
-pub fn next_told(w: &[u32], b: usize, from: usize, high: usize) -> usize
+// The first node from `from` to `high` whose word is not 0, if there is one: no other node can be a side node.
+pub fn next_told(w: &[u32], b: usize, from: usize, high: usize) -> Option<usize>
     requires { CanSkip w.now b from high }
     ensures { NextTold w.now b from high result }
 {
-    let mut v = from;
-    while v <= high {
+    for v in from..=high {
         if w[b + v] != 0 {
-            return v;
+            return Some(v);
         }
-        v += 1;
     }
-    v
+    None
 }

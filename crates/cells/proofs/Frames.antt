@@ -11,7 +11,7 @@ use borrow.Author.Tests.{eqb-true, ltb-true}
 use Rattle.rings.specs.Rings.{nx, Below, Out, Distinct, Kept, Family}
 use Rattle.rings.proofs.Families.{family_kept}
 use Rattle.definition.specs.Lists.{filter}
-use Rattle.definition.specs.Cells.{Cell, Live, Mesh, nodes, key, owns, owners, tris_of}
+use Rattle.definition.specs.Cells.{Cell, Live, Mesh, key, owns, owners, tris_of}
 use Rattle.definition.specs.Components.{odd_one}
 use Rattle.laws.specs.Frames.{on, Under, Keeps, under_less, under_set}
 use Rattle.cells.specs.Layout.{nodes_at, rings_at, codes, notes_at, even_at, mesh_end}

@@ -8,7 +8,7 @@ use native.Mathlib.Omega.{arith}
 use lib.ListN.{length, get_or}
 use borrow.Author.Tests.{lt-ltb, le-ltb}
 use Rattle.rings.specs.Rings.{nx, pv, Linked, Below}
-use Rattle.rings.proofs.Lists.{same, room}
+use Rattle.rings.proofs.Lists.{room}
 use Rattle.definition.specs.Lists.{filter}
 use Rattle.definition.specs.Cells.{Live, Mesh, nodes, key, has_side, owns}
 use Rattle.cells.specs.Layout.{rings_at, codes}

@@ -1,7 +1,6 @@
 // Slices cleared to zero.
 ghost use Rattle.std.specs.Prelude.{◌≡◌, ℕ, ◌+◌, ◌<◌, ◌≤◌, length, get_or};
 ghost use Rattle.definition.specs.Call.{all_of};
-ghost use Rattle.definition.specs.Floats.{0·0};
 ghost use Rattle.laws.specs.Frames.{Only, Zeros};
 
 // The n words from place `from` on are cleared.
@@ -10,11 +9,7 @@ pub fn clear_range(w: &mut [u32], from: usize, n: usize)
     ensures only { Only w.old w.new from (from + n) }
     ensures by_index { (k : ℕ) → k < n → get_or w.new (from + k) 0 ≡ 0 }
 {
-    let mut i = 0;
-    while i < n {
-        w[from + i] = 0;
-        i += 1;
-    }
+    w[from..from + n].fill(0);
 }
 
 // The first n words are cleared.
@@ -25,24 +20,11 @@ pub fn clear_first(w: &mut [u32], n: usize)
     clear_range(w, 0, n);
 }
 
-// The whole slice of words is cleared.
-pub fn clear_words(w: &mut [u32])
-    ensures { w.new ≡ all_of 0 w.old }
+// Each place of the slice becomes z.
+pub fn clear<T: Copy>(w: &mut [T], z: T)
+    ensures { w.new ≡ all_of z w.old }
 {
-    let mut i = 0;
-    while i < w.len() {
-        w[i] = 0;
-        i += 1;
-    }
-}
-
-// The whole slice of floats is cleared.
-pub fn clear_floats(w: &mut [f64])
-    ensures { w.new ≡ all_of 0·0 w.old }
-{
-    let mut i = 0;
-    while i < w.len() {
-        w[i] = 0.0;
-        i += 1;
+    for i in 0..w.len() {
+        w[i] = z;
     }
 }

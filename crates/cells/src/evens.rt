@@ -3,31 +3,31 @@ ghost use Rattle.std.specs.Prelude.{◌≡◌, ◌≤◌, eqb, get_or, set};
 ghost use Rattle.cells.specs.Layout.{even_at};
 ghost use Rattle.cells.specs.Rep.{Room};
 
-use crate::layout::even_at;
+use crate::layout::Layout;
 
 // Whether it is noted that no component is odd.
-pub fn is_even(w: &[u32], s: usize, p: usize) -> bool
-    requires room { Room w.now s p }
-    requires le_s { 1 ≤ s }
-    ensures { result ≡ eqb (get_or w.now (even_at s p) 0) 1 }
+pub fn is_even(w: &[u32], lay: Layout) -> bool
+    requires room { Room w.now lay.slots lay.points }
+    requires le_s { 1 ≤ lay.slots }
+    ensures { result ≡ eqb (get_or w.now (even_at lay.slots lay.points) 0) 1 }
 {
-    w[even_at(s, p)] == 1
+    w[lay.even_at()] == 1
 }
 
 // Notes that no component is odd.
-pub fn note_even(w: &mut [u32], s: usize, p: usize)
-    requires room { Room w.old s p }
-    requires le_s { 1 ≤ s }
-    ensures { w.new ≡ set w.old (even_at s p) 1 }
+pub fn note_even(w: &mut [u32], lay: Layout)
+    requires room { Room w.old lay.slots lay.points }
+    requires le_s { 1 ≤ lay.slots }
+    ensures { w.new ≡ set w.old (even_at lay.slots lay.points) 1 }
 {
-    w[even_at(s, p)] = 1;
+    w[lay.even_at()] = 1;
 }
 
 // Removes the note, so that nothing is known of the components.
-pub fn forget_even(w: &mut [u32], s: usize, p: usize)
-    requires room { Room w.old s p }
-    requires le_s { 1 ≤ s }
-    ensures { w.new ≡ set w.old (even_at s p) 0 }
+pub fn forget_even(w: &mut [u32], lay: Layout)
+    requires room { Room w.old lay.slots lay.points }
+    requires le_s { 1 ≤ lay.slots }
+    ensures { w.new ≡ set w.old (even_at lay.slots lay.points) 0 }
 {
-    w[even_at(s, p)] = 0;
+    w[lay.even_at()] = 0;
 }

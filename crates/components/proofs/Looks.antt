@@ -1,6 +1,6 @@
 -- A look for a triangle that is not listed, beside a triangle and around a region.
-use Rattle.std.specs.Prelude.{◌≡◌, ◌+◌, ◌<◌, ◌≤◌, ◌∷◌, ◌++◌}
-use Rattle.laws.specs.Kit.{refl, sym, ◌∙◌, ap, subst, inl, inr, true, ℕ, arith, dec_le, List, [], append-nil, append_assoc, length, get_or, length-append}
+use Rattle.std.specs.Prelude.{None, Some, IsSome, is_some, Option as Answer, ◌≡◌, ◌+◌, ◌<◌, ◌≤◌, ◌∷◌, ◌++◌}
+use Rattle.laws.specs.Kit.{refl, sym, ◌∙◌, ap, subst, inl, inr, true, false, ℕ, arith, List, [], append-nil, append_assoc, length, get_or, length-append}
 use Rattle.rings.specs.Rings.{Out}
 use Rattle.definition.specs.Cells.{Tri, Live, Mesh, live_tri}
 use Rattle.laws.specs.Lists.{In, in_right, in_either, Stored}
@@ -19,31 +19,30 @@ use Rattle.components.proofs.Floods.{tri_at}
 
 -- ---- found or not
 
--- one found is one, whatever was looked for
-pub looked_other : {s r : ℕ} {m : Mesh} {xs : List Live} {P Q : Live → Type 0} → Looked s r m xs P → r < s → Looked s r m xs Q
-looked_other (nobody k f) l = absurd (omega (arith, k, l))
-looked_other (somebody y i t e k o) l = somebody y i t e k o
-
 -- it is a triangle of the mesh, and not listed
-pub found_tri : {s r : ℕ} {m : Mesh} {xs : List Live} {P : Live → Type 0} → Looked s r m xs P → r < s → TriIn m r × Out r (slots xs)
-found_tri (nobody k f) l = absurd (omega (arith, k, l))
-found_tri {r = r} {m = m} (somebody y i t e k o) l = (tri_at m r y i t (sym e), o)
+pub found_tri : {s j : ℕ} {r : Answer ℕ} {m : Mesh} {xs : List Live} {P : Live → Type 0} → Looked s r m xs P → r ≡ Some j → TriIn m j × Out j (slots xs)
+found_tri (nobody k f) l = absurd (cc)
+found_tri {j = j} {m = m} {xs = xs} (somebody y i t e k o) l =
+    let q : y.slot ≡ j = cc in
+    (tri_at m j y i t (sym q), subst (λ (v : ℕ). Out v (slots xs)) q o)
 
 -- none was found
-pub none_found : {s r : ℕ} {m : Mesh} {xs : List Live} {P : Live → Type 0} → Looked s r m xs P → s ≤ r → (y : Live) → In y m.live → live_tri y ≡ true → P y → In y xs
+pub none_found : {s : ℕ} {r : Answer ℕ} {m : Mesh} {xs : List Live} {P : Live → Type 0} → Looked s r m xs P → is_some r ≡ false → (y : Live) → In y m.live → live_tri y ≡ true → P y → In y xs
 none_found (nobody k f) l = f
-none_found (somebody y i t e k o) l = absurd (omega (arith, k, l))
+none_found (somebody y i t e k o) l = absurd (let z = ap is_some e in cc)
 
--- beside a triangle: none at its first node, then a look at the second
-pub looked_both : {s p r r2 : ℕ} {m : Mesh} {xs : List Live} {t : Tri} {x y z u v : ℕ} → Nodes p x y z t → u ≡ x → v ≡ y → Looked s r m xs (At u y z) → s ≤ r → Looked s r2 m xs (At v z z)
-    → Looked s r2 m xs (Beside t)
-looked_both {s} {r2 = r2} {t = t} {y = y} {z = z} {u = u} {v = v} n eu ev a l b = elim (dec_le s r2) [
-  | yes e ↦ nobody e (λ k i h o. elim (shares_at t k o) [
-    | inl j ↦ none_found a l k i h (at_same k t.n0 t.n1 t.n2 u y z (sym (eu ∙ n.n0)) (sym n.n1) (sym n.n2) j)
-    | inr j ↦ none_found b e k i h (at_same k t.n1 t.n2 t.n2 v z z (sym (ev ∙ n.n1)) (sym n.n2) (sym n.n2) j)
-  ])
-  | no e ↦ looked_other b (omega (arith, e))
-]
+-- one found is one, whatever was looked for
+pub looked_other : {s : ℕ} {r : Answer ℕ} {m : Mesh} {xs : List Live} {P Q : Live → Type 0} → Looked s r m xs P → IsSome r → Looked s r m xs Q
+looked_other (nobody k f) l = absurd (let z = ap is_some k in cc)
+looked_other (somebody y i t e k o) l = somebody y i t e k o
+
+-- beside a triangle: none at its first node, then none at the second
+pub looked_both : {s p : ℕ} {m : Mesh} {xs : List Live} {t : Tri} {x y z u v : ℕ} → Nodes p x y z t → u ≡ x → v ≡ y → Looked s None m xs (At u y z) → Looked s None m xs (At v z z)
+    → Looked s None m xs (Beside t)
+looked_both {t = t} {y = y} {z = z} {u = u} {v = v} n eu ev a b = nobody refl (λ k i h o. elim (shares_at t k o) [
+  | inl j ↦ none_found a refl k i h (at_same k t.n0 t.n1 t.n2 u y z (sym (eu ∙ n.n0)) (sym n.n1) (sym n.n2) j)
+  | inr j ↦ none_found b refl k i h (at_same k t.n1 t.n2 t.n2 v z z (sym (ev ∙ n.n1)) (sym n.n2) (sym n.n2) j)
+])
 
 -- ---- around a region
 
@@ -99,18 +98,18 @@ module _ {w : List ℕ} {s p k n : ℕ} (i : ℕ) {m : Mesh} {region xs : List L
             slot = q ∙ ap (λ (v : ℕ). get_or w (list_at s p + v) 0) b ∙ st;
           }
 
-  pub looking_end : Looking i m region xs → n ≤ i → {r : ℕ} → s ≤ r → Looked s r m xs (BesideOne region)
-  looking_end g l {r} q = go g.done g.todo g.parts g.at g.so
+  pub looking_end : Looking i m region xs → n ≤ i → Looked s None m xs (BesideOne region)
+  looking_end g l = go g.done g.todo g.parts g.at g.so
     where
-      go : (done todo : List Live) → region ≡ done ++ todo → i ≡ length done → ((z : Live) → In z m.live → live_tri z ≡ true → BesideOne done z → In z xs) → Looked s r m xs (BesideOne region)
-      go done [] e b f = nobody q (λ z v t h. f z v t (h.0, subst (λ (u : List Live). In h.0 u) (e ∙ append-nil done) h.1, h.2))
+      go : (done todo : List Live) → region ≡ done ++ todo → i ≡ length done → ((z : Live) → In z m.live → live_tri z ≡ true → BesideOne done z → In z xs) → Looked s None m xs (BesideOne region)
+      go done [] e b f = nobody refl (λ z v t h. f z v t (h.0, subst (λ (u : List Live). In h.0 u) (e ∙ append-nil done) h.1, h.2))
       go done (y ∷ todo) e b f = absurd (omega (arith, a.len, ap length e, length-append done (y ∷ todo), b, l))
 
 module _ {i j : ℕ} {m : Mesh} {region xs : List Live} (b : Facing i j m region xs) where
   pub facing_tri : TriIn m j
   facing_tri = tri_at m j b.y b.live b.is_tri b.slot
 
-  pub looking_on : {s r : ℕ} → Looked s r m xs (Beside facing_tri.t) → s ≤ r → Looking (i + 1) m region xs
+  pub looking_on : {s : ℕ} {r : Answer ℕ} → Looked s r m xs (Beside facing_tri.t) → is_some r ≡ false → Looking (i + 1) m region xs
   unfolding facing_tri tri_at
   looking_on h l =
       record {

@@ -1,5 +1,5 @@
 -- The pieces that a region leaves, taken from beside it: whole ones, which are even, and a part of one more.
-use Rattle.std.specs.Prelude.{◌≡◌, ◌≢◌, ◌⊎◌, ◌+◌, ◌-◌, ◌%◌, ◌<◌, ◌≤◌, ◌∷◌, ◌++◌}
+use Rattle.std.specs.Prelude.{IsSome, is_some, Option as Answer, ◌≡◌, ◌≢◌, ◌⊎◌, ◌+◌, ◌-◌, ◌%◌, ◌<◌, ◌≤◌, ◌∷◌, ◌++◌}
 use Rattle.laws.specs.Kit.{refl, sym, ◌∙◌, ap, subst, inl, inr, Bool, true, false, ℕ, arith, List, [], map, append-nil, append_assoc, length, length-append, length-map}
 use Rattle.rings.specs.Rings.{Out}
 use Rattle.definition.specs.Cells.{Tri, Live, Mesh, live_tri, tris_of}
@@ -68,12 +68,12 @@ module _ {w : List ℕ} {s p k i : ℕ} {m : Mesh} {xs : List Live} (h : Marked 
   begun_aside {w2} a = aside_trans w w1 w2 s p (subst (λ (v : List ℕ). Aside w v s p) (sym e) (begun h t o).aside) a
 
 -- the flood so far, and what a look around the region found
-pub record Spreading (v w : List ℕ) (s p k head t : ℕ) (m : Mesh) (region xs : List Live) (x : Live) : Type 0 where
+pub record Spreading (v w : List ℕ) (s p k head : ℕ) (t : Answer ℕ) (m : Mesh) (region xs : List Live) (x : Live) : Type 0 where
   pub flood : Flooding v w s p k head m xs x
   pub looked : Looked s t m (xs ++ (flood.done ++ flood.todo)) (BesideOne region)
 
 -- it ends where it is whole, or none beside the region is left
-pub pieced : {u v w : List ℕ} {s p k head t : ℕ} {m : Mesh} {region xs : List Live} {x : Live} → Aside u v s p → Spreading v w s p k head t m region xs x → (t < s → k ≤ head)
+pub pieced : {u v w : List ℕ} {s p k head : ℕ} {t : Answer ℕ} {m : Mesh} {region xs : List Live} {x : Live} → Aside u v s p → Spreading v w s p k head t m region xs x → (IsSome t → k ≤ head)
     → Pieced u w s p k t m region xs x
 unfolding flood_end
 pieced {u} {v} {w} {s} {p} a g h =
@@ -90,7 +90,7 @@ pieced {u} {v} {w} {s} {p} a g h =
 -- ---- the pieces so far
 
 -- those taken are whole and even, and t is what a look around the region finds
-pub record Taking (w₀ w : List ℕ) (s p k t : ℕ) (m : Mesh) (region : List Live) : Type 0 where
+pub record Taking (w₀ w : List ℕ) (s p k : ℕ) (t : Answer ℕ) (m : Mesh) (region : List Live) : Type 0 where
   pub pieces : List (List Live)
   pub sweep : Sweeping w₀ w s p k 0 m region pieces
   pub even : (x : List Live) → In x pieces → length x % 2 ≡ 0
@@ -99,7 +99,7 @@ pub record Taking (w₀ w : List ℕ) (s p k t : ℕ) (m : Mesh) (region : List 
 pub start_around : {w : List ℕ} {s p n : ℕ} {m : Mesh} {region : List Live} → Marked w s p n m region → Around w s p n n m region region
 start_around {region = region} h = record { state = h; rest = []; parts = sym (append-nil region); len = h.len }
 
-pub taking_start : {w : List ℕ} {s p n t : ℕ} {m : Mesh} {region : List Live} → Marked w s p n m region → Looked s t m region (BesideOne region) → Taking w w s p n t m region
+pub taking_start : {w : List ℕ} {s p n : ℕ} {t : Answer ℕ} {m : Mesh} {region : List Live} → Marked w s p n m region → Looked s t m region (BesideOne region) → Taking w w s p n t m region
 taking_start {w} {s} {p} {t = t} {m = m} {region = region} h f =
     record {
       pieces = [];
@@ -108,7 +108,7 @@ taking_start {w} {s} {p} {t = t} {m = m} {region = region} h f =
       looked = subst (λ (l : List Live). Looked s t m l (BesideOne region)) (sym (append-nil region)) f;
     }
 
-module _ {w₀ w : List ℕ} {s p k t : ℕ} {m : Mesh} {region : List Live} (g : Taking w₀ w s p k t m region) where
+module _ {w₀ w : List ℕ} {s p k : ℕ} {t : Answer ℕ} {m : Mesh} {region : List Live} (g : Taking w₀ w s p k t m region) where
   pub taking_few : k ≤ s
   taking_few = omega (arith, few g.sweep.state, g.sweep.state.rep.used)
 
@@ -132,7 +132,7 @@ module _ {w₀ w : List ℕ} {s p k t : ℕ} {m : Mesh} {region : List Live} (g 
         }
 
     -- no triangle beside the region is left
-    pub none_beside : s ≤ t → {w1 : List ℕ} → Listed w1 s p n m region → Aside w1 w₀ s p → OddTo w1 w s p n m region false
+    pub none_beside : is_some t ≡ false → {w1 : List ℕ} → Listed w1 s p n m region → Aside w1 w₀ s p → OddTo w1 w s p n m region false
     none_beside l {w1} h a =
         record {
           same = sym (cut_even m region g.pieces [] (cut [] (λ c f. (false, λ z i. absurd i))
@@ -142,7 +142,7 @@ module _ {w₀ w : List ℕ} {s p k t : ℕ} {m : Mesh} {region : List Live} (g 
         }
 
     -- no triangle beside the region is left after a part of one piece more
-    pub none_after : {w' : List ℕ} {r t' : ℕ} {x : Live} → Pieced w w' s p r t' m region (region ++ joined g.pieces) x → s ≤ t' → {w1 : List ℕ} → Listed w1 s p n m region → Aside w1 w₀ s p
+    pub none_after : {w' : List ℕ} {r : ℕ} {t' : Answer ℕ} {x : Live} → Pieced w w' s p r t' m region (region ++ joined g.pieces) x → is_some t' ≡ false → {w1 : List ℕ} → Listed w1 s p n m region → Aside w1 w₀ s p
         → OddTo w1 w' s p n m region false
     none_after {w'} {r} {t'} {x} f l {w1} h a =
         let xs = region ++ joined g.pieces in
@@ -154,7 +154,7 @@ module _ {w₀ w : List ℕ} {s p k t : ℕ} {m : Mesh} {region : List Live} (g 
           aside = aside_trans w1 w₀ w' s p a (aside_trans w₀ w w' s p g.sweep.aside f.aside);
         }
 
-  module _ {w' : List ℕ} {r t' : ℕ} {x : Live} (f : Pieced w w' s p r t' m region (region ++ joined g.pieces) x) where
+  module _ {w' : List ℕ} {r : ℕ} {t' : Answer ℕ} {x : Live} (f : Pieced w w' s p r t' m region (region ++ joined g.pieces) x) where
     pub pieced_length : r ≡ k + length f.new
     pieced_length = omega (arith, f.state.len, g.sweep.state.len, length-append (region ++ joined g.pieces) f.new)
 
@@ -168,7 +168,7 @@ module _ {w₀ w : List ℕ} {s p k t : ℕ} {m : Mesh} {region : List Live} (g 
     pub pieced_few : r ≤ s
     pieced_few = omega (arith, few f.state, f.state.rep.used)
 
-    module _ (l : t' < s) where
+    module _ (l : IsSome t') where
       flooded : Flooded w w' s p r m (region ++ joined g.pieces) x
       flooded = record { new = f.new; state = f.state; aside = f.aside; reach = f.whole l }
 

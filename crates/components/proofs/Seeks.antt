@@ -1,14 +1,14 @@
 -- One cell looked at, and the ring of a node walked past those listed.
-use Rattle.std.specs.Prelude.{◌≡◌, ◌≢◌, ◌⊎◌, ◌||◌, ◌+◌, ◌*◌, ◌/◌, ◌<◌, ◌≤◌}
-use Rattle.laws.specs.Kit.{refl, sym, ◌∙◌, subst, inl, inr, Bool, true, false, false≢true, ℕ, arith, dec_le, eq-eqb, ne_eqb, List, get_or}
-use Rattle.rings.specs.Rings.{Out, nx}
+use Rattle.std.specs.Prelude.{None, Some, ◌≡◌, ◌≢◌, ◌⊎◌, ◌||◌, ◌+◌, ◌*◌, ◌/◌, ◌<◌, ◌≤◌}
+use Rattle.laws.specs.Kit.{ap, refl, sym, ◌∙◌, subst, inl, inr, Bool, true, false, false≢true, ℕ, arith, eq-eqb, ne_eqb, List, get_or}
+use Rattle.rings.specs.Rings.{nx}
 use Rattle.definition.specs.Cells.{Tri, Cell, tri, Live, Mesh, live_tri, tri_has}
 use Rattle.laws.specs.Bools.{either, never}
 use Rattle.laws.specs.Lists.{In}
 use Rattle.account.specs.Triangles.{Has as Corner}
 use Rattle.account.proofs.Triangles.{has_test, test_has}
 use Rattle.cells.specs.Layout.{marks_at, rings_at}
-use Rattle.cells.specs.Rep.{CellAt, slots}
+use Rattle.cells.specs.Rep.{CellAt}
 use Rattle.cells.specs.Walk.{left}
 use Rattle.cells.proofs.Walks.{start}
 use Rattle.cells.proofs.Slots.{rep_held, in_has}
@@ -118,12 +118,11 @@ module _ {w : List ℕ} {s p k u y z c : ℕ} {m : Mesh} {xs rest : List Live} (
   sought_seen h = record { state = g.passed.ring.state; live = (g.here h).live; slot = (g.here h).slot }
 
 -- in the whole ring
-pub sought_looked : {w : List ℕ} {s p k u y z c : ℕ} {m : Mesh} {xs : List Live} → Sought w s p k u y z c m xs m.live → Looked s (c / 4) m xs (At u y z)
-sought_looked {w} {s} {p} {k} {u} {y} {z} {c} {m} {xs} g = elim (dec_le (4 * s) c) [
-  | yes l ↦ nobody (omega (arith, l)) (sought_none g l)
-  | no l ↦
-      let h : c < 4 * s = omega (arith, l) in
+module _ {w : List ℕ} {s p k u y z c : ℕ} {m : Mesh} {xs : List Live} (g : Sought w s p k u y z c m xs m.live) where
+  pub sought_found : {P : Live → Type 0} → c < 4 * s → Looked s (Some (c / 4)) m xs P
+  sought_found h =
       let f = g.here h in
-      somebody f.x f.live f.is_tri (sym f.slot) (inside w s p k (c / 4) m xs f.x (sought_seen g h))
-      (subst (λ (v : ℕ). Out v (slots xs)) (sym f.slot) f.out)
-]
+      somebody f.x f.live f.is_tri (ap (λ (v : ℕ). Some v) f.slot) (let z = inside w s p k (c / 4) m xs f.x (sought_seen g h) in omega (arith, f.slot, z)) f.out
+
+  pub sought_nobody : 4 * s ≤ c → Looked s None m xs (At u y z)
+  sought_nobody l = nobody refl (sought_none g l)

@@ -1,7 +1,7 @@
 -- A look around a region: a triangle beside it that is not listed, and the pieces that a flood takes from there.
-use Rattle.std.specs.Prelude.{◌≡◌, ◌<◌, ◌++◌}
-use Rattle.laws.specs.Kit.{Bool, true, ℕ, List, length}
-use Rattle.definition.specs.Cells.{Tri, Live, Mesh, live_tri}
+use Rattle.std.specs.Prelude.{IsSome, Option as Answer, ◌≡◌, ◌++◌}
+use Rattle.laws.specs.Kit.{ℕ, List, length}
+use Rattle.definition.specs.Cells.{Live, Mesh}
 use Rattle.laws.specs.Lists.{In}
 use Rattle.account.specs.Triangles.{Shares}
 use Rattle.regions.specs.Listing.{Aside}
@@ -21,11 +21,11 @@ pub record Around (w : List ℕ) (s p k n : ℕ) (m : Mesh) (region xs : List Li
 
 -- with xs listed, triangles that shared edges lead to from x are listed behind them: all,
 -- or so many that none beside the region is left; t is what a look around it then finds
-pub record Pieced (w w' : List ℕ) (s p r t : ℕ) (m : Mesh) (region xs : List Live) (x : Live) : Type 0 where
+pub record Pieced (w w' : List ℕ) (s p r : ℕ) (t : Answer ℕ) (m : Mesh) (region xs : List Live) (x : Live) : Type 0 where
   pub new : List Live
   pub state : Marked w' s p r m (xs ++ new)
   pub aside : Aside w w' s p
   pub done : List Live
   pub reach : Reach m xs x done new
-  pub whole : t < s → Reach m xs x new new
+  pub whole : IsSome t → Reach m xs x new new
   pub looked : Looked s t m (xs ++ new) (BesideOne region)

@@ -1,5 +1,5 @@
 -- A walk along the ring of a node past the triangles listed, which can be taken up again.
-use Rattle.std.specs.Prelude.{◌≡◌, ◌⊎◌, ◌*◌, ◌/◌, ◌<◌, ◌≤◌}
+use Rattle.std.specs.Prelude.{None, Some, Option as Answer, ◌≡◌, ◌⊎◌, ◌*◌, ◌/◌, ◌<◌}
 use Rattle.laws.specs.Kit.{Bool, true, false, ℕ, List}
 use Rattle.rings.specs.Rings.{Out}
 use Rattle.definition.specs.Cells.{Live, Mesh, live_tri}
@@ -39,7 +39,7 @@ pub record Sought (w : List ℕ) (s p k u y z r : ℕ) (m : Mesh) (xs rest : Lis
   pub passed : Passed w s p k u y z r m xs rest
   pub here : r < 4 * s → Fresh u y z (r / 4) m xs
 
--- r is the slot of a live triangle that is not listed; s or more where each that P speaks of is listed
-pub data Looked (s r : ℕ) (m : Mesh) (xs : List Live) (P : Live → Type 0) : Type 0 where
-  nobody : s ≤ r → ((y : Live) → In y m.live → live_tri y ≡ true → P y → In y xs) → Looked s r m xs P
-  somebody : (y : Live) → In y m.live → live_tri y ≡ true → y.slot ≡ r → r < s → Out r (slots xs) → Looked s r m xs P
+-- r is the slot of a live triangle that is not listed; none where each that P speaks of is listed
+pub data Looked (s : ℕ) (r : Answer ℕ) (m : Mesh) (xs : List Live) (P : Live → Type 0) : Type 0 where
+  nobody : r ≡ None → ((y : Live) → In y m.live → live_tri y ≡ true → P y → In y xs) → Looked s r m xs P
+  somebody : (y : Live) → In y m.live → live_tri y ≡ true → r ≡ Some y.slot → y.slot < s → Out y.slot (slots xs) → Looked s r m xs P

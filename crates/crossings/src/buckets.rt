@@ -82,6 +82,8 @@ fn below(bucket: f64, x: f64, y: f64) -> f64
 
 // A number such that whatever is at least this number lies in buckets behind those of x and y.
 // It is a NaN, to which nothing compares, where a step of one bucket does not leave those buckets.
+// Kept (2): it differs from `below` in the bound, the step and the order of what it compares.
+// One function over these takes all three, and its two clauses are Before and After still.
 fn above(bucket: f64, x: f64, y: f64) -> f64
     ensures { After bucket x y result }
 {

@@ -16,17 +16,10 @@ ghost use Rattle.crossings.specs.Crossings.{IsFirst};
 use crate::boxes::passed_over;
 use crate::buckets::{Limits, axis_meets, limits_of};
 use cells::find::{node_after, node_before};
-use cells::layout::{BEFORE, CORNERS};
+use cells::layout::{BEFORE, CORNERS, Layout};
 use plane::points::at;
 use plane::sides::side;
 use rings::next;
-
-// An edge by its nodes, the smaller first, or none.
-#[derive(Clone, Copy)]
-pub enum Crossing {
-    At(usize, usize),
-    Nothing,
-}
 
 // ---- one edge
 
@@ -118,40 +111,46 @@ fn better_of(
 // ---- the mesh
 
 // The least b above a such that the mesh has the edge a-b and it crosses u-v; n where there is none.
+// Kept (1): n is what the search for the least begins with, as LeastAt states it.
+// An Option would be taken apart at each comparison of `better_of`.
 fn least_beside(
     w: &[u32],
     q: &[f64],
-    s: usize,
-    p: usize,
+    lay: Layout,
     n: usize,
     bucket: f64,
     u: usize,
     v: usize,
     a: usize,
 ) -> usize
-    requires known { (m : Mesh) × Known w.now q.now s p n bucket m }
+    requires known { (m : Mesh) × Known w.now q.now lay.slots lay.points n bucket m }
     requires segment { Segment n u v }
     requires a_lt_n { a < n }
-    ensures { (m : Mesh) → Known w.now q.now s p n bucket m → LeastAt m n u v a result }
+    ensures { (m : Mesh) → Known w.now q.now lay.slots lay.points n bucket m → LeastAt m n u v a result }
 {
     let d = side(q, u, v, a);
     let mut best = n;
-    let mut c = next(w, BEFORE * s, CORNERS * s + p, CORNERS * s + a);
-    while c < CORNERS * s {
-        let one = better_of(q, n, bucket, u, v, a, d, node_after(w, s, c), best);
-        best = better_of(q, n, bucket, u, v, a, d, node_before(w, s, c), one);
-        c = next(w, BEFORE * s, CORNERS * s + p, c);
+    let mut c = next(
+        w,
+        BEFORE * lay.slots,
+        CORNERS * lay.slots + lay.points,
+        CORNERS * lay.slots + a,
+    );
+    while c < CORNERS * lay.slots {
+        let one = better_of(q, n, bucket, u, v, a, d, node_after(w, lay.slots, c), best);
+        best = better_of(q, n, bucket, u, v, a, d, node_before(w, lay.slots, c), one);
+        c = next(w, BEFORE * lay.slots, CORNERS * lay.slots + lay.points, c);
     }
     best
 }
 
 // The least b above a such that the mesh has the edge a-b and it crosses u-v; n where there is none.
 // The box of a is noted; where it lies beyond the limits of u-v, the neighbours of a are not read.
+// Kept (1): it hands on the number of `least_beside`, by the same LeastAt.
 fn least_near(
     w: &mut [u32],
     q: &[f64],
-    s: usize,
-    p: usize,
+    lay: Layout,
     n: usize,
     bucket: f64,
     u: usize,
@@ -159,17 +158,17 @@ fn least_near(
     a: usize,
     l: Limits,
 ) -> usize
-    requires known { (m : Mesh) × Known w.old q.now s p n bucket m }
+    requires known { (m : Mesh) × Known w.old q.now lay.slots lay.points n bucket m }
     requires segment { Segment n u v }
     requires a_lt_n { a < n }
     requires limits { IsLimits bucket (point_at q.now u) (point_at q.now v) l }
-    ensures keeps { Keeps w.old w.new (mesh_end s p) }
-    ensures is { (m : Mesh) → Known w.old q.now s p n bucket m → Known w.new q.now s p n bucket m × LeastAt m n u v a result }
+    ensures keeps { Keeps w.old w.new (mesh_end lay.slots lay.points) }
+    ensures is { (m : Mesh) → Known w.old q.now lay.slots lay.points n bucket m → Known w.new q.now lay.slots lay.points n bucket m × LeastAt m n u v a result }
 {
-    if passed_over(w, q, s, p, n, a, l) {
+    if passed_over(w, q, lay, n, a, l) {
         return n;
     }
-    least_beside(w, q, s, p, n, bucket, u, v, a)
+    least_beside(w, q, lay, n, bucket, u, v, a)
 }
 
 // The smallest edge that crosses u-v, by node numbers, where none does whose smaller node is below `from`.
@@ -177,28 +176,25 @@ fn least_near(
 pub fn first_crossing(
     w: &mut [u32],
     q: &[f64],
-    s: usize,
-    p: usize,
+    lay: Layout,
     n: usize,
     bucket: f64,
     u: usize,
     v: usize,
     from: usize,
-) -> Crossing
-    requires known { (m : Mesh) × Known w.old q.now s p n bucket m }
+) -> Option<(usize, usize)>
+    requires known { (m : Mesh) × Known w.old q.now lay.slots lay.points n bucket m }
     requires segment { Segment n u v }
     requires from_le_n { from ≤ n }
-    ensures keeps { Keeps w.old w.new (mesh_end s p) }
-    ensures is { (m : Mesh) → Known w.old q.now s p n bucket m → Known w.new q.now s p n bucket m × (NoneBelow m u v from → IsFirst m n u v result) }
+    ensures keeps { Keeps w.old w.new (mesh_end lay.slots lay.points) }
+    ensures is { (m : Mesh) → Known w.old q.now lay.slots lay.points n bucket m → Known w.new q.now lay.slots lay.points n bucket m × (NoneBelow m u v from → IsFirst m n u v result) }
 {
     let l = limits_of(q, bucket, u, v);
-    let mut a = from;
-    while a < n {
-        let b = least_near(w, q, s, p, n, bucket, u, v, a, l);
+    for a in from..n {
+        let b = least_near(w, q, lay, n, bucket, u, v, a, l);
         if b < n {
-            return Crossing::At(a, b);
+            return Some((a, b));
         }
-        a += 1;
     }
-    Crossing::Nothing
+    None
 }

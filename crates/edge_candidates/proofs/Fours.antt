@@ -1,6 +1,6 @@
 -- Kept ideals asked four at once, and one of each few first.
 use Rattle.std.specs.Prelude.{◌≡◌, ◌||◌, ◌+◌, ◌*◌, ◌<◌, ◌≤◌}
-use Rattle.laws.specs.Kit.{refl, sym, ◌∙◌, ap, subst, inl, inr, Bool, true, false, false≢true, ℕ, arith, dec_le, List}
+use Rattle.laws.specs.Kit.{sym, ◌∙◌, subst, inl, inr, Bool, true, false, false≢true, ℕ, arith, dec_le, List}
 use native.Mathlib.Nat.{lt_of_not-le}
 use Rattle.definition.specs.Plane.{Vec}
 use Rattle.laws.specs.Bools.{either, none_left, none_right}

@@ -1,6 +1,6 @@
 -- The direction halfway between two units, and the ideal that a front edge gives.
-use Rattle.std.specs.Prelude.{◌≡◌, ◌≢◌, ◌&&◌, ◌∷◌}
-use Rattle.laws.specs.Kit.{refl, sym, ◌∙◌, ap, Bool, true, false, not, cond, false≢true, ℕ, eqb, eq-eqb, ne_eqb, List, [], length, Float}
+use Rattle.std.specs.Prelude.{◌≡◌, Some, None, ◌≢◌, ◌&&◌, ◌∷◌}
+use Rattle.laws.specs.Kit.{refl, sym, ◌∙◌, ap, subst, Bool, true, false, not, cond, false≢true, ℕ, eqb, eq-eqb, ne_eqb, List, [], length, Float}
 use mathlib.Core.Bool.{or-false}
 use Rattle.definition.specs.Floats.{◌≺◌, ◌≼◌}
 use Rattle.definition.specs.Lists.{filter, any}
@@ -10,11 +10,12 @@ use Rattle.definition.specs.Cells.{Mesh, key, node_at, owns, cells_at, front_own
 use Rattle.definition.specs.Candidates.{toward, plus, halfway, ideal_by}
 use Rattle.definition.specs.Call.{point_at}
 use Rattle.cells.proofs.Near.{near_front}
+use Rattle.plane.specs.Vectors.{vec}
+use Rattle.plane.specs.declared.vectors.Vec as direction
 use Rattle.cells.specs.Rep.{Pts}
 use Rattle.plane.specs.Points.{node_of}
 use Rattle.edge_candidates.specs.Wanted.{wanted_by, every, gives, At}
 use Rattle.edge_candidates.specs.Wishes.{between, ideal, ideal_from, GivenBy}
-use Rattle.edge_candidates.specs.declared.wishes.Given.{Given}
 
 -- ---- halfway
 
@@ -104,5 +105,9 @@ half_is q a v u d o h x n l ed en eo eh el ex =
     ex ∙ ap (λ (z : Vec). over z l) f ∙ ap (over k) g
 
 -- no ideal
-pub not_given : (q : List Float) (m : Mesh) (a other : ℕ) (u : Vec) (v : ℕ) (r : Given) → r.yes ≡ false → false ≡ gives m a other u v → GivenBy q m a other u v r
-not_given q m a other u v r e h = record { yes = e ∙ h; is = λ y. absurd (false≢true (sym e ∙ y)) }
+pub not_given : (q : List Float) (m : Mesh) (a other : ℕ) (u : Vec) (v : ℕ) → false ≡ gives m a other u v → GivenBy q m a other u v None
+not_given q m a other u v h = record { yes = h; is = λ x e. cc }
+
+-- the ideal
+pub given : (q : List Float) (m : Mesh) (a other : ℕ) (u : Vec) (v : ℕ) (x : direction.Vec) → true ≡ gives m a other u v → vec x ≡ ideal_from q a u v → GivenBy q m a other u v (Some x)
+given q m a other u v x h i = record { yes = h; is = λ y e. let z : x ≡ y = cc in subst (λ (d : direction.Vec). vec d ≡ ideal_from q a u v) z i }

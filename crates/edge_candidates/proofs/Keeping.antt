@@ -66,9 +66,6 @@ module _ (w w1 w2 : List ℕ) (s b i : ℕ) (room : i < s) (x : Vec) (p1 : PutTo
   pub keep_done : is_nan x.dx ≡ false → is_nan x.dy ≡ false → KeepTo w w2 s b i i x (i + 1)
   keep_done nx ny = record { some = omega arith; besides = keep_besides; kept = λ q a u k e. keep_more q a u k e nx ny }
 
-pub keep_same : (w : List ℕ) (s b i k : ℕ) (x : Vec) → k ≤ i → KeepTo w w s b i k x k
-keep_same w s b i k x h = record { some = omega arith; besides = record { len = refl; before = λ j l. refl; behind = λ j l. refl }; kept = λ q a u z e. z }
-
 pub keep_none : (w : List ℕ) (q : List Float) (s a : ℕ) (u : Vec) (b : ℕ) → Kept w q s a u b 0
 keep_none w q s a u b = record { few = omega arith; numbers = λ i h. absurd (omega (arith, h)); each = λ i h. absurd (omega (arith, h)) }
 

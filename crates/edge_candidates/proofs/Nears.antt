@@ -11,7 +11,6 @@ use Rattle.definition.specs.Candidates.{toward, turned}
 use Rattle.cells.proofs.Points.{node_within}
 use Rattle.cells.specs.Rep.{Pts}
 use Rattle.plane.specs.Vectors.{vec}
-use Rattle.edge_candidates.specs.Words.{vec_at}
 use Rattle.edge_candidates.specs.Wanted.{near, wanted_by, every, gives, near_ideal}
 use Rattle.edge_candidates.specs.Wishes.{ideal_from, Listed, CanList, Kept, ListedTo, CanTest, Wished, WishedTo, Tested, kept_test, node_test}
 use Rattle.edge_candidates.specs.declared.wishes.Wish.{Wish}

@@ -1,6 +1,6 @@
 -- What is wanted at an end, listed in lent memory: nodes that give an ideal from b on, at most two a slot,
 -- and the ideals of the first of them behind, at most one a slot.
-use Rattle.std.specs.Prelude.{◌≡◌, ◌||◌, ◌+◌, ◌*◌, ◌^◌, ◌<◌, ◌≤◌}
+use Rattle.std.specs.Prelude.{◌≡◌, ◌||◌, ◌+◌, ◌*◌, ◌^◌, ◌<◌, ◌≤◌, Option, Some, is_some}
 use Rattle.laws.specs.Kit.{Bool, true, false, cond, ℕ, List, length, get_or, set, Float}
 use Rattle.definition.specs.Floats.{◌≼◌}
 use Rattle.definition.specs.Numbers.{tiny_length}
@@ -16,7 +16,7 @@ use Rattle.plane.specs.Vectors.{vec}
 use Rattle.edge_candidates.specs.Words.{Numbers, vec_at}
 use Rattle.edge_candidates.specs.Wanted.{near, gives, At}
 use Rattle.edge_candidates.specs.declared.wishes.Wish.{Wish}
-use Rattle.edge_candidates.specs.declared.wishes.Given.{Given}
+use Rattle.plane.specs.declared.vectors.Vec as direction
 use Rattle.edge_candidates.specs.declared.wishes.Found.{Found}
 
 -- ---- one ideal
@@ -35,9 +35,9 @@ abbrev pub ideal_from : List Float → ℕ → Vec → ℕ → Vec
 ideal_from q a u v = between u (from_to (point_at q a) (point_at q v))
 
 -- whether the edge from a to v gives an ideal, and which
-pub record GivenBy (q : List Float) (m : Mesh) (a other : ℕ) (u : Vec) (v : ℕ) (r : Given) : Type 0 where
-  pub yes : r.yes ≡ gives m a other u v
-  pub is : r.yes ≡ true → vec r.ideal ≡ ideal_from q a u v
+pub record GivenBy (q : List Float) (m : Mesh) (a other : ℕ) (u : Vec) (v : ℕ) (r : Option direction.Vec) : Type 0 where
+  pub yes : is_some r ≡ gives m a other u v
+  pub is : (x : direction.Vec) → r ≡ Some x → vec x ≡ ideal_from q a u v
 
 -- ---- lists of nodes
 

@@ -29,10 +29,7 @@ fn float_of(bits: u64) -> f64
 pub fn is_number(x: f64) -> bool
     ensures { result ≡ true → is_nan x ≡ false }
 {
-    if x != x {
-        return false;
-    }
-    true
+    !x.is_nan()
 }
 
 // The float x comes to `at`.

@@ -16,6 +16,7 @@ ghost use Rattle.edge_candidates.specs.Wishes.{Wished, CanTest, CanGet, Hit, Tes
 use crate::doubles::get;
 use crate::wishes::{Wish, ideal_toward};
 use cells::find::tri_around;
+use cells::layout::Layout;
 use plane::vectors::{Vec, dot, from_to, norm, over};
 use words::wide;
 
@@ -31,6 +32,7 @@ pub const EDGE_HIGH: f64 = 2.5;
 const SPREAD: usize = 16;
 
 // A quarter turn of a vector.
+// Kept (7): `left` is tested here alone, and picks the signs of one step.
 pub fn turned(left: bool, u: Vec) -> Vec
     ensures { vec result ≡ turned (turn left) (vec u) }
 {
@@ -65,27 +67,14 @@ fn vec_at(w: &[u32], at: usize) -> Vec
     }
 }
 
-// One or the other is true, found without a branch.
-fn either(x: bool, y: bool) -> bool
-    ensures { result ≡ (x || y) }
-{
-    if x {
-        return true;
-    }
-    y
-}
-
-// One of the four ideals that stand at `at` is near e.
+// One of the four ideals that stand at `at` is near e, found without a branch.
 fn four_near(w: &[u32], at: usize, e: Vec) -> bool
     requires { CanGet w.now at 4 }
     ensures { result ≡ four_test w.now at (vec e) }
 {
-    let low = either(is_near(e, vec_at(w, at)), is_near(e, vec_at(w, at + 4)));
-    let high = either(
-        is_near(e, vec_at(w, at + 8)),
-        is_near(e, vec_at(w, at + 12)),
-    );
-    either(low, high)
+    let low = is_near(e, vec_at(w, at)) | is_near(e, vec_at(w, at + 4));
+    let high = is_near(e, vec_at(w, at + 8)) | is_near(e, vec_at(w, at + 12));
+    low | high
 }
 
 // One of the ideals in the places from i to k, which stand from b on, is near e.
@@ -93,12 +82,10 @@ fn few_near(w: &[u32], b: usize, i: usize, k: usize, e: Vec) -> bool
     requires { CanGet w.now b k }
     ensures { Tested (kept_test w.now b (vec e)) i k result }
 {
-    let mut j = i;
-    while j < k {
+    for j in i..k {
         if is_near(e, vec_at(w, b + 4 * j)) {
             return true;
         }
-        j += 1;
     }
     false
 }
@@ -109,17 +96,16 @@ fn all_near(w: &[u32], b: usize, k: usize, e: Vec) -> bool
     requires { CanGet w.now b k }
     ensures { Tested (kept_test w.now b (vec e)) 0 k result }
 {
-    let mut i: usize = 0;
-    while k - i >= 8 {
-        if four_near(w, b + 4 * i, e) {
+    for i in 0..k / 8 {
+        let n = 8 * i;
+        if four_near(w, b + 4 * n, e) {
             return true;
         }
-        if four_near(w, b + 4 * (i + 4), e) {
+        if four_near(w, b + 4 * (n + 4), e) {
             return true;
         }
-        i += 8;
     }
-    few_near(w, b, i, k, e)
+    few_near(w, b, 8 * (k / 8), k, e)
 }
 
 // One of each SPREAD of the k ideals that stand from b on is near e.
@@ -128,12 +114,10 @@ fn spread_near(w: &[u32], b: usize, k: usize, e: Vec) -> bool
     requires { CanGet w.now b k }
     ensures { result ≡ true → Hit (kept_test w.now b (vec e)) 0 k }
 {
-    let mut i: usize = 0;
-    while i < k {
+    for i in (0..k).step_by(SPREAD) {
         if is_near(e, vec_at(w, b + 4 * i)) {
             return true;
         }
-        i += SPREAD;
     }
     false
 }
@@ -157,12 +141,10 @@ fn rest_near(w: &[u32], q: &[f64], a: usize, u: Vec, b: usize, k: usize, r: usiz
     requires { CanTest w.now q.now a b r }
     ensures { Tested (node_test w.now q.now a (vec u) b (vec e)) k r result }
 {
-    let mut i = k;
-    while i < r {
+    for i in k..r {
         if is_near(e, ideal_toward(q, a, u, wide(w[b + i]))) {
             return true;
         }
-        i += 1;
     }
     false
 }
@@ -207,8 +189,7 @@ fn edge_reach(d: f64, target: f64) -> bool
 pub fn edge_candidate(
     w: &[u32],
     q: &[f64],
-    s: usize,
-    p: usize,
+    lay: Layout,
     a: usize,
     other: usize,
     target: f64,
@@ -217,8 +198,8 @@ pub fn edge_candidate(
     o: Wish,
     v: usize,
 ) -> bool
-    requires { (m : Mesh) × Rep w.now s p m × Pts q.now p m × Wished w.now q.now s b o m a other × At m a v }
-    ensures { (m : Mesh) → Rep w.now s p m → Pts q.now p m → Wished w.now q.now s b o m a other → At m a v → result ≡ by_edge (turn left) m a other target v }
+    requires { (m : Mesh) × Rep w.now lay.slots lay.points m × Pts q.now lay.points m × Wished w.now q.now lay.slots b o m a other × At m a v }
+    ensures { (m : Mesh) → Rep w.now lay.slots lay.points m → Pts q.now lay.points m → Wished w.now q.now lay.slots b o m a other → At m a v → result ≡ by_edge (turn left) m a other target v }
 {
     if o.near {
         return false;
@@ -229,7 +210,7 @@ pub fn edge_candidate(
     if v == other {
         return false;
     }
-    if tri_around(w, s, p, v, a) >= s {
+    if tri_around(w, lay, v, a) >= lay.slots {
         return false;
     }
     let d = from_to(q, a, v);
@@ -237,5 +218,5 @@ pub fn edge_candidate(
     if !edge_reach(n, target) {
         return false;
     }
-    near_ideal(w, q, s, a, b, o, left, over(d, n))
+    near_ideal(w, q, lay.slots, a, b, o, left, over(d, n))
 }

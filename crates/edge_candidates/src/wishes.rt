@@ -1,7 +1,7 @@
 // What is wanted at an end of a front edge, worked out once for all candidates.
 // The nodes whose front edges give an ideal are listed, and the ideals of the first of them are kept as they are
 // found.
-ghost use Rattle.std.specs.Prelude.{◌≡◌, false};
+ghost use Rattle.std.specs.Prelude.{◌≡◌};
 ghost use Rattle.definition.specs.Cells.{Mesh};
 ghost use Rattle.definition.specs.Candidates.{plus};
 ghost use Rattle.cells.specs.Rep.{Rep, Pts};
@@ -12,7 +12,7 @@ ghost use Rattle.edge_candidates.specs.Wishes.{ideal_from, GivenBy, CanAdd, Adde
 
 use crate::doubles::{is_number, put};
 use cells::find::{is_front_around, node_after, node_before};
-use cells::layout::{BEFORE, CORNERS};
+use cells::layout::{BEFORE, CORNERS, Layout};
 use plane::vectors::{Vec, from_to, norm, over};
 use rings::next;
 
@@ -24,19 +24,13 @@ pub const IDEAL_SUM: f64 = 0.2;
 
 // What is wanted at an end: whether the other end is in the same place, where no edge is a candidate;
 // the unit toward it; how many nodes are listed, and of how many the ideals are kept.
+// Kept (1): `wish_at` promises the unit and the lists (`Wished`) where `near` holds too, so it answers no Option.
 #[derive(Clone, Copy)]
 pub struct Wish {
     pub near: bool,
     pub unit: Vec,
     pub count: usize,
     pub kept: usize,
-}
-
-// Whether an edge gives an ideal, and the ideal.
-#[derive(Clone, Copy)]
-struct Given {
-    yes: bool,
-    ideal: Vec,
 }
 
 // How many nodes are listed, and of how many the ideals are kept.
@@ -56,51 +50,40 @@ fn plus(u: Vec, v: Vec) -> Vec
     }
 }
 
-// The answer for an edge that gives no ideal.
-fn nothing(u: Vec) -> Given
-    ensures { result.yes ≡ false }
-{
-    Given {
-        yes: false,
-        ideal: u,
-    }
-}
-
-// Whether the edge from a to v is a front edge that gives an ideal, and the ideal.
+// The ideal that the edge from a to v gives, if it is a front edge that gives one.
 // Its owners are sought around v: the walk is around a already.
 fn ideal_of(
     w: &[u32],
     q: &[f64],
-    s: usize,
-    p: usize,
+    lay: Layout,
     a: usize,
     other: usize,
     u: Vec,
     v: usize,
-) -> Given
-    requires { (m : Mesh) × Rep w.now s p m × Pts q.now p m × At m a v }
-    ensures { (m : Mesh) → Rep w.now s p m → Pts q.now p m → At m a v → GivenBy q.now m a other (vec u) v result }
+) -> Option<Vec>
+    requires { (m : Mesh) × Rep w.now lay.slots lay.points m × Pts q.now lay.points m × At m a v }
+    ensures { (m : Mesh) → Rep w.now lay.slots lay.points m → Pts q.now lay.points m → At m a v → GivenBy q.now m a other (vec u) v result }
 {
     if v == a {
-        return nothing(u);
+        return None;
     }
     if v == other {
-        return nothing(u);
+        return None;
     }
-    if is_front_around(w, s, p, v, a) {
-        let d = from_to(q, a, v);
-        let n = norm(d);
-        if n <= TINY_LENGTH {
-            return nothing(u);
-        }
-        let h = plus(u, over(d, n));
-        let l = norm(h);
-        return Given {
-            yes: l > IDEAL_SUM,
-            ideal: over(h, l),
-        };
+    if !is_front_around(w, lay, v, a) {
+        return None;
     }
-    nothing(u)
+    let d = from_to(q, a, v);
+    let n = norm(d);
+    if n <= TINY_LENGTH {
+        return None;
+    }
+    let h = plus(u, over(d, n));
+    let l = norm(h);
+    if l > IDEAL_SUM {
+        return Some(over(h, l));
+    }
+    None
 }
 
 // The ideal that the edge from a to v gives, where it gives one: halfway between the unit u and its own.
@@ -114,6 +97,7 @@ pub fn ideal_toward(q: &[f64], a: usize, u: Vec, v: usize) -> Vec
 }
 
 // The node v comes behind the r nodes from b on, if it counts; how many they are then.
+// Kept (7): a closure for `yes` would be lent w beside the list in it; here the test is done before the list changes.
 pub fn add(w: &mut [u32], b: usize, r: usize, v: usize, yes: bool) -> usize
     requires { CanAdd w.old b r v }
     ensures { AddedTo w.old w.new b r v yes result }
@@ -126,7 +110,7 @@ pub fn add(w: &mut [u32], b: usize, r: usize, v: usize, yes: bool) -> usize
 }
 
 // The ideal x of node i from b on is kept, if those of the nodes before it are, there is room, and it has numbers.
-// The answer is how many are kept then; they stand 2 s behind b.
+// The answer is how many are kept then; they stand behind b and two words for each slot.
 fn keep(w: &mut [u32], s: usize, b: usize, i: usize, k: usize, x: Vec) -> usize
     requires { CanKeep w.old s b i k }
     ensures { KeepTo w.old w.new s b i k (vec x) result }
@@ -153,8 +137,7 @@ fn keep(w: &mut [u32], s: usize, b: usize, i: usize, k: usize, x: Vec) -> usize
 fn list_node(
     w: &mut [u32],
     q: &[f64],
-    s: usize,
-    p: usize,
+    lay: Layout,
     a: usize,
     other: usize,
     u: Vec,
@@ -162,15 +145,14 @@ fn list_node(
     g: Found,
     v: usize,
 ) -> Found
-    requires { (m : Mesh) × CanNode w.old q.now s p a other b m (vec u) g v }
-    ensures { (m : Mesh) → CanNode w.old q.now s p a other b m (vec u) g v → NodeTo w.old w.new q.now s a other b m (vec u) g v result }
+    requires { (m : Mesh) × CanNode w.old q.now lay.slots lay.points a other b m (vec u) g v }
+    ensures { (m : Mesh) → CanNode w.old q.now lay.slots lay.points a other b m (vec u) g v → NodeTo w.old w.new q.now lay.slots a other b m (vec u) g v result }
 {
-    let x = ideal_of(w, q, s, p, a, other, u, v);
-    if !x.yes {
+    let Some(x) = ideal_of(w, q, lay, a, other, u, v) else {
         return g;
-    }
+    };
     w[b + g.count] = v as u32;
-    let k = keep(w, s, b, g.count, g.kept, x.ideal);
+    let k = keep(w, lay.slots, b, g.count, g.kept, x);
     Found {
         count: g.count + 1,
         kept: k,
@@ -181,46 +163,42 @@ fn list_node(
 fn list_givers(
     w: &mut [u32],
     q: &[f64],
-    s: usize,
-    p: usize,
+    lay: Layout,
     a: usize,
     other: usize,
     u: Vec,
     b: usize,
 ) -> Found
-    requires { (m : Mesh) × CanList w.old q.now s p a other b m }
-    ensures { (m : Mesh) → CanList w.old q.now s p a other b m → ListedTo w.old w.new q.now s b result m a other (vec u) }
+    requires { (m : Mesh) × CanList w.old q.now lay.slots lay.points a other b m }
+    ensures { (m : Mesh) → CanList w.old q.now lay.slots lay.points a other b m → ListedTo w.old w.new q.now lay.slots b result m a other (vec u) }
 {
     let mut g = Found { count: 0, kept: 0 };
-    let mut c = next(w, BEFORE * s, CORNERS * s + p, CORNERS * s + a);
-    while c < CORNERS * s {
-        let x = node_after(w, s, c);
-        let y = node_before(w, s, c);
-        let d = next(w, BEFORE * s, CORNERS * s + p, c);
-        let one = list_node(w, q, s, p, a, other, u, b, g, x);
-        g = list_node(w, q, s, p, a, other, u, b, one, y);
+    let mut c = next(
+        w,
+        BEFORE * lay.slots,
+        CORNERS * lay.slots + lay.points,
+        CORNERS * lay.slots + a,
+    );
+    while c < CORNERS * lay.slots {
+        let x = node_after(w, lay.slots, c);
+        let y = node_before(w, lay.slots, c);
+        let d = next(w, BEFORE * lay.slots, CORNERS * lay.slots + lay.points, c);
+        let one = list_node(w, q, lay, a, other, u, b, g, x);
+        g = list_node(w, q, lay, a, other, u, b, one, y);
         c = d;
     }
     g
 }
 
 // What is wanted at a, with the nodes listed from b on and the ideals kept behind them.
-pub fn wish_at(
-    w: &mut [u32],
-    q: &[f64],
-    s: usize,
-    p: usize,
-    a: usize,
-    other: usize,
-    b: usize,
-) -> Wish
-    requires { (m : Mesh) × CanList w.old q.now s p a other b m }
-    ensures { (m : Mesh) → CanList w.old q.now s p a other b m → WishedTo w.old w.new q.now s b result m a other }
+pub fn wish_at(w: &mut [u32], q: &[f64], lay: Layout, a: usize, other: usize, b: usize) -> Wish
+    requires { (m : Mesh) × CanList w.old q.now lay.slots lay.points a other b m }
+    ensures { (m : Mesh) → CanList w.old q.now lay.slots lay.points a other b m → WishedTo w.old w.new q.now lay.slots b result m a other }
 {
     let d = from_to(q, a, other);
     let n = norm(d);
     let u = over(d, n);
-    let g = list_givers(w, q, s, p, a, other, u, b);
+    let g = list_givers(w, q, lay, a, other, u, b);
     Wish {
         near: n <= TINY_LENGTH,
         unit: u,

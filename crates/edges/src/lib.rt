@@ -10,45 +10,47 @@ ghost use Rattle.cells.specs.Rep.{Pts};
 ghost use Rattle.edges.specs.Stored.{edge_on};
 ghost use Rattle.edges.specs.Places.{Place, Known};
 
-use cells::layout::{front_u_at, front_v_at, order_at};
+use cells::layout::Layout;
 use plane::vectors::length;
 use words::wide;
 
 // The number of the edge at place i.
-fn number_on(w: &[u32], s: usize, p: usize, i: usize) -> usize
-    requires { Place w.now s p i }
-    ensures { result ≡ listn.get_or w.now (order_at s p + i) 0 }
+fn number_on(w: &[u32], lay: Layout, i: usize) -> usize
+    requires { Place w.now lay.slots lay.points i }
+    ensures { result ≡ listn.get_or w.now (order_at lay.slots lay.points + i) 0 }
 {
-    let o = order_at(s, p);
+    let o = lay.order_at();
     wide(w[o + i])
 }
 
 // The first node of the edge at place i.
-pub fn first_on(w: &[u32], s: usize, p: usize, i: usize) -> usize
-    requires { Place w.now s p i }
-    ensures { result ≡ (edge_on w.now s p i).0 }
+pub fn first_on(w: &[u32], lay: Layout, i: usize) -> usize
+    requires { Place w.now lay.slots lay.points i }
+    ensures { result ≡ (edge_on w.now lay.slots lay.points i).0 }
 {
-    let u = front_u_at(s, p);
-    let n = number_on(w, s, p, i);
+    let u = lay.front_u_at();
+    let n = number_on(w, lay, i);
     wide(w[u + n])
 }
 
 // The second node of the edge at place i.
-pub fn second_on(w: &[u32], s: usize, p: usize, i: usize) -> usize
-    requires { Place w.now s p i }
-    ensures { result ≡ (edge_on w.now s p i).1 }
+// Kept (2): it reads another area than `first_on`, three lines in each.
+// One function of the area would leave both beside it, since the clauses name the first node and the second.
+pub fn second_on(w: &[u32], lay: Layout, i: usize) -> usize
+    requires { Place w.now lay.slots lay.points i }
+    ensures { result ≡ (edge_on w.now lay.slots lay.points i).1 }
 {
-    let v = front_v_at(s, p);
-    let n = number_on(w, s, p, i);
+    let v = lay.front_v_at();
+    let n = number_on(w, lay, i);
     wide(w[v + n])
 }
 
 // The length of the edge at place i.
-pub fn length_on(w: &[u32], q: &[f64], s: usize, p: usize, i: usize) -> f64
-    requires { (m : Mesh) × Place w.now s p i × Pts q.now p m × Known (listn.length m.points) (edge_on w.now s p i) }
-    ensures { (m : Mesh) → Pts q.now p m → Known (listn.length m.points) (edge_on w.now s p i) → result ≡ edge_length m.points (edge_on w.now s p i) }
+pub fn length_on(w: &[u32], q: &[f64], lay: Layout, i: usize) -> f64
+    requires { (m : Mesh) × Place w.now lay.slots lay.points i × Pts q.now lay.points m × Known (listn.length m.points) (edge_on w.now lay.slots lay.points i) }
+    ensures { (m : Mesh) → Pts q.now lay.points m → Known (listn.length m.points) (edge_on w.now lay.slots lay.points i) → result ≡ edge_length m.points (edge_on w.now lay.slots lay.points i) }
 {
-    let u = first_on(w, s, p, i);
-    let v = second_on(w, s, p, i);
+    let u = first_on(w, lay, i);
+    let v = second_on(w, lay, i);
     length(q, u, v)
 }

@@ -3,6 +3,7 @@
 // A test on doubles answers first, where its error bound decides; wide numbers answer the rest.
 #![tactic(auto)]
 
+pub mod corners;
 mod cosines;
 mod differences;
 pub mod limits;

@@ -1,12 +1,13 @@
 -- Coordinates compared as numbers: floats that are neither infinite nor a NaN are totally ordered,
+use Rattle.std.specs.Ordering.{ordering_reverse}
 use Rattle.std.specs.Prelude.{◌≡◌, ◌&&◌, ◌+◌, ◌*◌, ◌<◌}
 use Rattle.laws.specs.Kit.{refl, sym, ◌∙◌, ap, Bool, true, false, ℕ, arith, ℕ_discrete, eqb, ltb, eq-eqb, ne_eqb, eqb-true, le-ltb, Float, nan, fin, inf, down, up, eq, lt}
 use Rattle.std.specs.Float.Ieee.{below, level}
 use Rattle.std.specs.Float.Ieee.Fits.{down_pos}
 use Rattle.definition.specs.Floats.{◌≺◌}
 use Rattle.laws.specs.Numbers.{eqb_swap}
-use Rattle.filing.specs.declared.Order.TheVariants.{Same}
-use Rattle.filing.specs.Filing.{reverse, order_numbers, order_floats}
+use Rattle.std.specs.declared.cmp.Ordering.TheVariants.{Equal}
+use Rattle.filing.specs.Filing.{order_numbers, order_floats}
 use Rattle.filing.specs.Totals.{Total}
 use Rattle.filing.proofs.Totals.{equal_is, numbers_back, numbers_same, weighed}
 use Rattle.filing.specs.Coordinates.{Numeric}
@@ -76,7 +77,7 @@ unfolding side
 floats =
     record {
       self = λ x h. by_side x x h h ∙ equal_is (side x x) (side x x) refl;
-      back = λ x y h k. by_side y x k h ∙ numbers_back (side x y) (side y x) ∙ sym (ap reverse (by_side x y h k));
+      back = λ x y h k. by_side y x k h ∙ numbers_back (side x y) (side y x) ∙ sym (ap ordering_reverse (by_side x y h k));
       chain = λ x y z h k l.
           rw (by_side x y h k, by_side y z k l, by_side x z h l)
           (weighed (side x y) (side y x) (side y z) (side z y) (side x z) (side z x) (part z) (part x) (part y) (part_pos z) (part_pos x) (part_pos y)
@@ -116,8 +117,8 @@ eq_side nan y h k = elim h [ ]
 eq_side (fin s m e) (fin t n d) h k = level_side s t (m * up e) (n * up d) (down e) (down d)
 
 -- two floats are the same in the order exactly where they are equal as numbers
-pub floats_same : (x y : Float) → Numeric x → Numeric y → order_floats x y ≡ Same → eq x y ≡ true
+pub floats_same : (x y : Float) → Numeric x → Numeric y → order_floats x y ≡ Equal → eq x y ≡ true
 floats_same x y h k e = eq_side x y h k ∙ eq-eqb (side x y) (side y x) (numbers_same (side x y) (side y x) (sym (by_side x y h k) ∙ e))
 
-pub same_floats : (x y : Float) → Numeric x → Numeric y → eq x y ≡ true → order_floats x y ≡ Same
+pub same_floats : (x y : Float) → Numeric x → Numeric y → eq x y ≡ true → order_floats x y ≡ Equal
 same_floats x y h k e = by_side x y h k ∙ equal_is (side x y) (side y x) (eqb-true (side x y) (side y x) (sym (eq_side x y h k) ∙ e))

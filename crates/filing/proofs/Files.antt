@@ -1,13 +1,14 @@
 -- Triangles as numbers: the order of the numbers is the order of the triangles,
 -- so that places sorted by number hold the triangles as they are filed.
+use Rattle.std.specs.Ordering.{ordering_then, is_eq, is_lt}
 use Rattle.std.specs.Prelude.{◌≡◌, ◌≢◌, ◌+◌, ◌*◌, ◌<◌, ◌∷◌}
 use Rattle.laws.specs.Kit.{refl, sym, ◌∙◌, ap, subst, inl, inr, true, false, ℕ, arith, ltb, List, [], map, length, Float}
 use Rattle.definition.specs.Lists.{sort, below}
 use Rattle.definition.specs.Cells.{Tri, new_tri}
 use Rattle.definition.specs.Call.{tri_at, first_points, first_tris, all_of}
 use Rattle.definition.specs.Account.{All}
-use Rattle.filing.specs.declared.Order.{Order}
-use Rattle.filing.specs.Filing.{then, is_same, is_before, earlier, order_numbers, order_points, order_tris, order_lists, rotated, filed_tris, filing_order}
+use Rattle.std.specs.declared.cmp.Ordering.{Ordering}
+use Rattle.filing.specs.Filing.{earlier, order_numbers, order_points, order_tris, order_lists, rotated, filed_tris, filing_order}
 use Rattle.filing.specs.Totals.{less, equal, more}
 use Rattle.filing.proofs.Totals.{stand, less_is, equal_is, more_is}
 use Rattle.filing.proofs.Sorting.{sort_alike, lists_alike, all_sorted}
@@ -67,7 +68,7 @@ small_key ts n small j l =
 
 -- the earlier triangle has the lesser number
 earlier_less : (s t : Tri) → Low s → Low t → earlier order_tris s t ≡ ltb (key s) (key t)
-earlier_less s t h k = ap is_before (key_order s t h k) ∙ sym (earlier_is (key s) (key t))
+earlier_less s t h k = ap is_lt (key_order s t h k) ∙ sym (earlier_is (key s) (key t))
 
 -- places filled and sorted hold the triangles as they are filed
 pub filed_places : (ts w w₁ w₂ : List ℕ) (n : ℕ) → Small ts n → Filled ts w w₁ n → Sorted w₁ w₂ n → FiledPlaces ts w w₂ n
@@ -93,16 +94,16 @@ places_order ts us v w n small small' e f =
 -- ---- the order of two meshes, part by part
 
 module _ (g c g' c' : ℕ) (ps qs : List Float) (ts us : List ℕ) where
-  abbrev whole : Order
+  abbrev whole : Ordering
   whole = filing_order (read g c ps ts) (read g' c' qs us)
 
-  abbrev by_points : ℕ → Order
+  abbrev by_points : ℕ → Ordering
   by_points n = order_lists order_points (first_points g ps) (first_points n qs)
 
-  abbrev by_tris : ℕ → Order
+  abbrev by_tris : ℕ → Ordering
   by_tris n = order_lists order_tris (filed_tris (first_tris c ts)) (filed_tris (first_tris n us))
 
-  filing_is : whole ≡ then (order_numbers g g') (then (by_points g') (then (order_numbers c c') (by_tris c')))
+  filing_is : whole ≡ ordering_then (order_numbers g g') (ordering_then (by_points g') (ordering_then (order_numbers c c') (by_tris c')))
   unfolding filing_order first_points first_tris below
   filing_is = rw (row_length, row_length, row_length, row_length)
 
@@ -111,17 +112,17 @@ module _ (g c g' c' : ℕ) (ps qs : List Float) (ts us : List ℕ) where
   given_differ d = decides (order_numbers g g') _ (differ g g' d) ∙ sym filing_is
 
   module _ (same_given : g ≡ g') where
-    after_given : then (by_points g) (then (order_numbers c c') (by_tris c')) ≡ whole
+    after_given : ordering_then (by_points g) (ordering_then (order_numbers c c') (by_tris c')) ≡ whole
     after_given =
-        ap (λ n. then (by_points n) (then (order_numbers c c') (by_tris c'))) same_given
-        ∙ ap (λ o. then o (then (by_points g') (then (order_numbers c c') (by_tris c')))) (sym (equal_is g g' same_given)) ∙ sym filing_is
+        ap (λ n. ordering_then (by_points n) (ordering_then (order_numbers c c') (by_tris c'))) same_given
+        ∙ ap (λ o. ordering_then o (ordering_then (by_points g') (ordering_then (order_numbers c c') (by_tris c')))) (sym (equal_is g g' same_given)) ∙ sym filing_is
 
     -- the points decide
-    pub points_differ : is_same (by_points g) ≡ false → by_points g ≡ whole
+    pub points_differ : is_eq (by_points g) ≡ false → by_points g ≡ whole
     points_differ h = decides (by_points g) _ h ∙ after_given
 
-    module _ (same_points : is_same (by_points g) ≡ true) where
-      after_points : then (order_numbers c c') (by_tris c') ≡ whole
+    module _ (same_points : is_eq (by_points g) ≡ true) where
+      after_points : ordering_then (order_numbers c c') (by_tris c') ≡ whole
       after_points = passes_on (by_points g) _ same_points ∙ after_given
 
       -- the triangle counts decide
@@ -130,7 +131,7 @@ module _ (g c g' c' : ℕ) (ps qs : List Float) (ts us : List ℕ) where
 
       -- the triangles decide
       pub tris_decide : c ≡ c' → by_tris c ≡ whole
-      tris_decide e = ap by_tris e ∙ ap (λ o. then o (by_tris c')) (sym (equal_is c c' e)) ∙ after_points
+      tris_decide e = ap by_tris e ∙ ap (λ o. ordering_then o (by_tris c')) (sym (equal_is c c' e)) ∙ after_points
 
 -- ---- cleared work
 

@@ -1,14 +1,17 @@
 -- The number of a mesh's first refusal, and what the call is by it.
-use Rattle.std.specs.Prelude.{◌≡◌, ◌≢◌, ◌||◌, ◌*◌}
-use Rattle.laws.specs.Kit.{sym, ◌∙◌, ap, false, cond, none, ℕ, arith, ltb, ltb-false, length}
+use Rattle.std.specs.Prelude.{Result, Ok, Err, IsErrAnd, ◌≡◌, ◌||◌, ◌*◌}
+use Rattle.laws.specs.Kit.{sym, ◌∙◌, ap, cond, none, arith, ltb, ltb-false, length}
 use Rattle.definition.specs.Lists.{find}
 use Rattle.definition.specs.Call.{unknown_node, repeated_node, far_point, most_given}
 use Rattle.laws.specs.Bools.{or_none}
 use Rattle.refusals.specs.Passed.{known}
 use Rattle.refusals.specs.Refusals.{number_of, turn, no_turn, not_taken, some_found}
-use Rattle.filing.specs.declared.Answer.TheVariants.{Refused}
+use Rattle.filing.specs.Filing.{Refused}
 use Rattle.filing.specs.Filing.{Mesh, asked, lent, over_limit, too_short, triangle_words, conditions, refused, filed, untouched, call}
-use Rattle.filing.specs.Promise.{returned, Readable}
+use Rattle.std.specs.declared.cmp.Ordering.{Ordering}
+use Rattle.refusals.specs.declared.named.Refusal.{Refusal}
+use Rattle.refusals.specs.Numbers.{number, number_positive}
+use Rattle.filing.specs.Promise.{answered, returned, Readable}
 use Rattle.filing.specs.Refusals.{Clear}
 
 module _ (m : Mesh) where
@@ -52,21 +55,26 @@ module _ (m : Mesh) (zero_is : number_of (refused m) ≡ 0) where
         nodes = λ i a. (let v = n i a in omega arith);
       }
 
+-- a refusal that is handed on as it is
+handed_on : (r : Result Ordering Refusal) (k : Refusal) → IsErrAnd r (λ e. e ≡ k) → answered r ≡ Refused (number k)
+handed_on (Ok o) k h = absurd h
+handed_on (Err e) k h = ap (λ e. Refused (number e)) h
+
 module _ (a b : Mesh) where
   -- a refusal is the whole answer, and nothing is touched; the first mesh's comes first
-  pub first_refused : (k : ℕ) → k ≡ number_of (refused a) → k ≢ 0 → returned (Refused k) a.work b.work ≡ call a b
+  pub first_refused : (r : Result Ordering Refusal) (k : Refusal) → IsErrAnd r (λ e. e ≡ k) → number k ≡ number_of (refused a) → returned r a.work b.work ≡ call a b
   unfolding call number_of untouched
-  first_refused k e h =
-      let f = some_found (refused a) (λ q. h (e ∙ q)) in
+  first_refused r k h e =
+      let f = some_found (refused a) (λ q. let p = number_positive k in omega arith) in
       let g : call a b ≡ untouched (number_of (refused a)) a b = rw (f.1, call) in
-      ap (λ k. returned (Refused k) a.work b.work) e ∙ sym g
+      ap (λ z. record { answer = z; first_work = a.work; second_work = b.work }) (handed_on r k h ∙ ap Refused e) ∙ sym g
 
-  pub second_refused : number_of (refused a) ≡ 0 → (k : ℕ) → k ≡ number_of (refused b) → k ≢ 0 → returned (Refused k) a.work b.work ≡ call a b
+  pub second_refused : number_of (refused a) ≡ 0 → (r : Result Ordering Refusal) (k : Refusal) → IsErrAnd r (λ e. e ≡ k) → number k ≡ number_of (refused b) → returned r a.work b.work ≡ call a b
   unfolding call number_of untouched
-  second_refused z k e h =
-      let f = some_found (refused b) (λ q. h (e ∙ q)) in
+  second_refused z r k h e =
+      let f = some_found (refused b) (λ q. let p = number_positive k in omega arith) in
       let g : call a b ≡ untouched (number_of (refused b)) a b = rw (none_holds a z, f.1, call) in
-      ap (λ k. returned (Refused k) a.work b.work) e ∙ sym g
+      ap (λ z. record { answer = z; first_work = a.work; second_work = b.work }) (handed_on r k h ∙ ap Refused e) ∙ sym g
 
   -- where both meshes pass, the answer is their order
   pub both_filed : number_of (refused a) ≡ 0 → number_of (refused b) ≡ 0 → call a b ≡ filed a b

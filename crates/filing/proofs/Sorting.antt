@@ -1,4 +1,5 @@
 -- Lists sorted by an order, and what a function makes of them.
+use Rattle.std.specs.Ordering.{ordering_reverse, is_lt}
 use Rattle.std.specs.Prelude.{◌≡◌, ◌∷◌}
 use Rattle.laws.specs.Kit.{refl, sym, ◌∙◌, ap, inl, inr, Bool, true, false, List, [], map}
 use Rattle.definition.specs.Lists.{insert, sort}
@@ -6,31 +7,31 @@ use Rattle.definition.specs.Account.{All}
 use Rattle.laws.specs.Bools.{which, never}
 use Rattle.laws.specs.Lists.{all_from, all_at, sort_in}
 use Rattle.sorting.specs.Ascending.{Strict}
-use Rattle.filing.specs.declared.Order.{Order}
-use Rattle.filing.specs.declared.Order.TheVariants.{Before, Same, After}
-use Rattle.filing.specs.Filing.{reverse, order_lists, is_before, earlier}
+use Rattle.std.specs.declared.cmp.Ordering.{Ordering}
+use Rattle.std.specs.declared.cmp.Ordering.TheVariants.{Less, Equal, Greater}
+use Rattle.filing.specs.Filing.{order_lists, earlier}
 use Rattle.filing.specs.Totals.{Chained, Total, Any}
 
 -- ---- orders of three
-through : (p q r : Order) → Chained p q r → is_before p ≡ false → is_before q ≡ false → is_before r ≡ false
-through Before q r h k l = never true refl k
-through Same q r h k l = ap is_before h ∙ l
-through After Before r h k l = never true refl l
-through After Same r h k l = ap is_before h
-through After After r h k l = ap is_before h
+through : (p q r : Ordering) → Chained p q r → is_lt p ≡ false → is_lt q ≡ false → is_lt r ≡ false
+through Less q r h k l = never true refl k
+through Equal q r h k l = ap is_lt h ∙ l
+through Greater Less r h k l = never true refl l
+through Greater Equal r h k l = ap is_lt h
+through Greater Greater r h k l = ap is_lt h
 
-not_back : (p q : Order) → q ≡ reverse p → is_before p ≡ true → is_before q ≡ false
-not_back Before q h k = ap is_before h
-not_back Same q h k = never false k refl
-not_back After q h k = never false k refl
+not_back : (p q : Ordering) → q ≡ ordering_reverse p → is_lt p ≡ true → is_lt q ≡ false
+not_back Less q h k = ap is_lt h
+not_back Equal q h k = never false k refl
+not_back Greater q h k = never false k refl
 
-level : (p q : Order) → q ≡ reverse p → is_before p ≡ false → is_before q ≡ false → p ≡ Same
-level Before q h k l = never true refl k
-level Same q h k l = refl
-level After q h k l = never (is_before q) (ap is_before h) l
+level : (p q : Ordering) → q ≡ ordering_reverse p → is_lt p ≡ false → is_lt q ≡ false → p ≡ Equal
+level Less q h k l = never true refl k
+level Equal q h k l = refl
+level Greater q h k l = never (is_lt q) (ap is_lt h) l
 
 -- a total order that tells elements apart sorts them in one way
-pub strict : {A : Type 0} (o : A → A → Order) → Total Any o → ((x y : A) → o x y ≡ Same → x ≡ y) → Strict (earlier o)
+pub strict : {A : Type 0} (o : A → A → Ordering) → Total Any o → ((x y : A) → o x y ≡ Equal → x ≡ y) → Strict (earlier o)
 strict o t tells =
     record {
       through = λ x y z h k. through (o x y) (o y z) (o x z) (t.chain x y z tt tt tt) h k;
@@ -39,7 +40,7 @@ strict o t tells =
     }
 
 -- ---- what a function makes of lists
-module _ {A B : Type 0} (P : A → Type 0) (f : A → B) (o : A → A → Order) (q : B → B → Order) (alike : (x y : A) → P x → P y → o x y ≡ q (f x) (f y)) where
+module _ {A B : Type 0} (P : A → Type 0) (f : A → B) (o : A → A → Ordering) (q : B → B → Ordering) (alike : (x y : A) → P x → P y → o x y ≡ q (f x) (f y)) where
   pub lists_alike : (xs ys : List A) → All P xs → All P ys → order_lists o xs ys ≡ order_lists q (map f xs) (map f ys)
   unfolding order_lists
   lists_alike [] [] h k = refl

@@ -4,10 +4,19 @@ ghost use Rattle.filing.specs.Filing.{order_lists, order_tris, filed_tris, filin
 ghost use Rattle.filing.specs.Places.{Fileable, FiledPlaces};
 ghost use Rattle.filing.specs.Promise.{read, Readable, Ordered};
 
-use crate::Order;
-use crate::orders::{is_same, order_keys, order_numbers, order_points};
+use crate::orders::{order_keys, order_points};
 use crate::places::put_triangles;
 use sorting::sort_places;
+use std::cmp::Ordering;
+
+// A mesh that is handed in: its slices, and how many points and triangles they hold at their front.
+#[derive(Clone, Copy)]
+pub struct Given<'a> {
+    pub points: &'a [f64],
+    pub given: usize,
+    pub triangles: &'a [u32],
+    pub count: usize,
+}
 
 // The first n places get the first n triangles, each from its smallest node on, ascending.
 fn file_triangles(triangles: &[u32], w: &mut [u32], n: usize)
@@ -19,7 +28,13 @@ fn file_triangles(triangles: &[u32], w: &mut [u32], n: usize)
 }
 
 // The order of the first n triangles of two meshes, each list sorted.
-fn order_triangles(first: &[u32], v: &mut [u32], second: &[u32], w: &mut [u32], n: usize) -> Order
+fn order_triangles(
+    first: &[u32],
+    v: &mut [u32],
+    second: &[u32],
+    w: &mut [u32],
+    n: usize,
+) -> Ordering
     requires { Fileable first.now v.old n × Fileable second.now w.old n }
     ensures { Ordered
         (order_lists order_tris (filed_tris (first_tris n first.now)) (filed_tris (first_tris n second.now)))
@@ -31,41 +46,24 @@ fn order_triangles(first: &[u32], v: &mut [u32], second: &[u32], w: &mut [u32], 
 }
 
 // The order of two meshes: by point count, by points, by triangle count, by triangles.
-pub fn order_meshes(
-    first_points: &[f64],
-    first_given: usize,
-    first_triangles: &[u32],
-    first_count: usize,
-    first_work: &mut [u32],
-    second_points: &[f64],
-    second_given: usize,
-    second_triangles: &[u32],
-    second_count: usize,
-    second_work: &mut [u32],
-) -> Order
-    requires { Readable first_given first_count first_points.now first_triangles.now first_work.old
-        × Readable second_given second_count second_points.now second_triangles.now second_work.old }
+pub fn order_meshes(first: Given, v: &mut [u32], second: Given, w: &mut [u32]) -> Ordering
+    requires { Readable first.given first.count first.points.now first.triangles.now v.old
+        × Readable second.given second.count second.points.now second.triangles.now w.old }
     ensures { Ordered
         (filing_order
-        (read first_given first_count first_points.now first_triangles.now)
-        (read second_given second_count second_points.now second_triangles.now))
-        result first_work.old first_work.new second_work.old second_work.new }
+        (read first.entry.given first.entry.count first.entry.points.now first.entry.triangles.now)
+        (read second.entry.given second.entry.count second.entry.points.now second.entry.triangles.now))
+        result v.old v.new w.old w.new }
 {
-    if first_given != second_given {
-        return order_numbers(first_given, second_given);
+    if first.given != second.given {
+        return first.given.cmp(&second.given);
     }
-    let o = order_points(first_points, second_points, first_given);
-    if !is_same(o) {
+    let o = order_points(first.points, second.points, first.given);
+    if o.is_ne() {
         return o;
     }
-    if first_count != second_count {
-        return order_numbers(first_count, second_count);
+    if first.count != second.count {
+        return first.count.cmp(&second.count);
     }
-    order_triangles(
-        first_triangles,
-        first_work,
-        second_triangles,
-        second_work,
-        first_count,
-    )
+    order_triangles(first.triangles, v, second.triangles, w, first.count)
 }

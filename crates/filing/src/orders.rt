@@ -1,118 +1,75 @@
-// Before, same or after: numbers, points and sorted places.
+// The order of points and of sorted places.
 ghost use Rattle.std.specs.Prelude.{◌≡◌, ◌+◌, ◌*◌, ◌<◌, ◌≤◌, length};
-ghost use Rattle.std.specs.Float.Ieee.{lt};
 ghost use Rattle.definition.specs.Call.{point_at, first_points};
-ghost use Rattle.filing.specs.Filing.{is_same, order_numbers, order_floats, order_points, order_lists};
+ghost use Rattle.std.specs.Ordering.{is_eq};
+ghost use Rattle.filing.specs.Filing.{order_numbers, order_floats, order_points, order_lists};
 ghost use Rattle.sorting.specs.Places.{keys};
 
-use crate::Order;
 use sorting::key_at;
-
-// The order is neither before nor after.
-pub fn is_same(o: Order) -> bool
-    ensures { result ≡ is_same o }
-{
-    match o {
-        Order::Before => false,
-        Order::Same => true,
-        Order::After => false,
-    }
-}
-
-// The order of two numbers.
-pub fn order_numbers(a: usize, b: usize) -> Order
-    ensures { result ≡ order_numbers a b }
-{
-    if a < b {
-        return Order::Before;
-    }
-    if b < a {
-        return Order::After;
-    }
-    Order::Same
-}
-
-// The number x is below y; neither zero is below the other.
-fn below(x: f64, y: f64) -> bool
-    ensures { result ≡ lt x y }
-{
-    x < y
-}
+use std::cmp::Ordering;
 
 // The order of two coordinates.
-fn order_floats(x: f64, y: f64) -> Order
+fn order_floats(x: f64, y: f64) -> Ordering
     ensures { result ≡ order_floats x y }
 {
-    if below(x, y) {
-        return Order::Before;
-    }
-    if below(y, x) {
-        return Order::After;
-    }
-    Order::Same
+    x.partial_cmp(&y).unwrap_or(Ordering::Equal)
 }
 
 // Two coordinates are the same.
+// Kept (4): `==` differs from it: a NaN is below no number and above none, and so the same here.
 fn same_floats(x: f64, y: f64) -> bool
-    ensures { result ≡ is_same (order_floats x y) }
+    ensures { result ≡ is_eq (order_floats x y) }
 {
-    if below(x, y) {
-        return false;
-    }
-    !below(y, x)
+    !(x < y || y < x)
 }
 
 // Point i of two slices is the same.
+// Kept (4): of the three coordinates z is not read, so that it is no equality of slices.
 fn same_point(a: &[f64], b: &[f64], i: usize) -> bool
     requires { (3 * i + 2 < length a.now) × (3 * i + 2 < length b.now) }
-    ensures { result ≡ is_same (order_points (point_at a.now i) (point_at b.now i)) }
+    ensures { result ≡ is_eq (order_points (point_at a.now i) (point_at b.now i)) }
 {
-    if same_floats(a[3 * i], b[3 * i]) {
-        return same_floats(a[3 * i + 1], b[3 * i + 1]);
-    }
-    false
+    same_floats(a[3 * i], b[3 * i]) && same_floats(a[3 * i + 1], b[3 * i + 1])
 }
 
 // The order of point i of two slices: by x, then by y.
-fn order_point(a: &[f64], b: &[f64], i: usize) -> Order
+fn order_point(a: &[f64], b: &[f64], i: usize) -> Ordering
     requires { (3 * i + 2 < length a.now) × (3 * i + 2 < length b.now) }
     ensures { result ≡ order_points (point_at a.now i) (point_at b.now i) }
 {
     let x = order_floats(a[3 * i], b[3 * i]);
-    if is_same(x) {
+    if x.is_eq() {
         return order_floats(a[3 * i + 1], b[3 * i + 1]);
     }
     x
 }
 
 // The order of the first n points of two slices.
-pub fn order_points(a: &[f64], b: &[f64], n: usize) -> Order
+// Kept (6): the C interface lends slices that may be longer than what the mesh has of them.
+pub fn order_points(a: &[f64], b: &[f64], n: usize) -> Ordering
     requires { (3 * n ≤ length a.now) × (3 * n ≤ length b.now) }
     ensures { result ≡ order_lists order_points (first_points n a.now) (first_points n b.now) }
 {
-    let mut i = 0;
-    while i < n {
+    for i in 0..n {
         if !same_point(a, b, i) {
             return order_point(a, b, i);
         }
-        i += 1;
     }
-    Order::Same
+    Ordering::Equal
 }
 
 // The order of the first n places of two work slices.
-pub fn order_keys(a: &[u32], b: &[u32], n: usize) -> Order
+// Kept (6): a work slice holds as many places behind these, which sorting takes.
+pub fn order_keys(a: &[u32], b: &[u32], n: usize) -> Ordering
     requires { (2 * n ≤ length a.now) × (2 * n ≤ length b.now) }
     ensures { result ≡ order_lists order_numbers (keys a.now 0 n) (keys b.now 0 n) }
 {
-    let mut i = 0;
-    while i < n {
+    for i in 0..n {
         let x = key_at(a, i);
         let y = key_at(b, i);
         if x != y {
-            return order_numbers(x, y);
+            return x.cmp(&y);
         }
-        i += 1;
     }
-    Order::Same
+    Ordering::Equal
 }

@@ -41,12 +41,12 @@ fn put_rotated(w: &mut [u32], i: usize, a: u32, b: u32, c: u32)
 }
 
 // The first n triangles go to the first n places.
+// Kept (6): the C interface lends slices that may be longer than what the mesh has of them.
 pub fn put_triangles(triangles: &[u32], w: &mut [u32], n: usize)
     requires { (3 * n ≤ length triangles.now) × (2 * n ≤ length w.old) × Small triangles.now n }
     ensures { Filled triangles.now w.old w.new n }
 {
-    let mut i = 0;
-    while i < n {
+    for i in 0..n {
         put_rotated(
             w,
             i,
@@ -54,6 +54,5 @@ pub fn put_triangles(triangles: &[u32], w: &mut [u32], n: usize)
             triangles[3 * i + 1],
             triangles[3 * i + 2],
         );
-        i += 1;
     }
 }

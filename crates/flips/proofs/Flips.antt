@@ -28,10 +28,9 @@ use Rattle.crossings.proofs.Tris.{TriOk, tri_ok, Which, is0, is1, is2, which, of
 use Rattle.account.proofs.Flips.{free_flip}
 use Rattle.flips.specs.Nodes.{tri_read}
 use Rattle.flips.specs.Flip.{Kinds, TwinsAt, CanTurn, FlipTo}
+use Rattle.std.specs.Prelude.{Option, Some, None}
 use Rattle.flips.specs.Twins.{OfKinds, IsTwins}
 use Rattle.flips.specs.declared.flip.Turned.TheVariants.{Not, Short, Flipped}
-use Rattle.flips.specs.declared.flip.Twins.{Twins}
-use Rattle.flips.specs.declared.flip.Twins.TheVariants.{Two, Other}
 
 -- ---- the owners
 
@@ -119,10 +118,10 @@ module _ (w : List ℕ) (s p u v : ℕ) (m : Mesh) (c1 : ℕ) (a1 : At w s p u v
           }
 
 -- what the kinds say is what the owners are
-pub answer : (w : List ℕ) (u v i j : ℕ) (m : Mesh) (r : Twins) → OfKinds w i j r → (Kinds w i j → TwinsAt m u v i j) → ((Kinds w i j → ⊥) → flip m (key u v) ≡ none)
+pub answer : (w : List ℕ) (u v i j : ℕ) (m : Mesh) (r : Option (ℕ × ℕ)) → OfKinds w i j r → (Kinds w i j → TwinsAt m u v i j) → ((Kinds w i j → ⊥) → flip m (key u v) ≡ none)
     → IsTwins m u v r
-answer w u v i j m (Two a b) h f g = rw (h.0, h.1) (f h.2)
-answer w u v i j m Other h f g = g h
+answer w u v i j m (Some t) h f g = rw (h.0, h.1) (f h.2)
+answer w u v i j m None h f g = g h
 
 -- ---- the third node
 

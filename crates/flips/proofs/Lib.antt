@@ -1,4 +1,5 @@
 pub mod Notes
+pub mod Found
 pub mod Flips
 pub mod Evens
 pub mod Splits

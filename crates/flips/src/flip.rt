@@ -14,19 +14,11 @@ ghost use Rattle.flips.specs.Twins.{OfKinds, IsTwins};
 
 use cells::evens::{is_even, note_even};
 use cells::find::{first_owner, next_owner, node};
-use cells::layout::CORNERS;
+use cells::layout::{CORNERS, Layout};
 use crossings::cross::off_edge;
 use joints::locked;
 use meshes::store::set_tri;
 use plane::sides::apart;
-use words::lesser;
-
-// The slots of an edge's owners, where those are two and both triangles.
-#[derive(Clone, Copy)]
-pub enum Twins {
-    Two(usize, usize),
-    Other,
-}
 
 // A flip: not possible, not made for want of room for its entry, or made.
 #[derive(Clone, Copy)]
@@ -80,37 +72,37 @@ fn runs(w: &[u32], s: usize, i: usize, u: usize, v: usize) -> bool
 }
 
 // The slots i and j, where both hold triangles.
-fn tris(w: &[u32], s: usize, i: usize, j: usize) -> Twins
+fn tris(w: &[u32], s: usize, i: usize, j: usize) -> Option<(usize, usize)>
     requires { CanSee w.now s i × CanSee w.now s j }
     ensures { OfKinds w.now i j result }
 {
     if w[i] != 3 {
-        return Twins::Other;
+        return None;
     }
     if w[j] != 3 {
-        return Twins::Other;
+        return None;
     }
-    Twins::Two(i, j)
+    Some((i, j))
 }
 
-// The owners of the edge u-v, where those are two and both triangles.
-fn two_tris(w: &[u32], s: usize, p: usize, u: usize, v: usize) -> Twins
-    requires rep { (m : Mesh) × Rep w.now s p m }
-    requires edge { IsEdge p u v }
-    ensures { (m : Mesh) → Rep w.now s p m → IsTwins m u v result }
+// The slots of the owners of the edge u-v, where those are two and both triangles.
+fn two_tris(w: &[u32], lay: Layout, u: usize, v: usize) -> Option<(usize, usize)>
+    requires rep { (m : Mesh) × Rep w.now lay.slots lay.points m }
+    requires edge { IsEdge lay.points u v }
+    ensures { (m : Mesh) → Rep w.now lay.slots lay.points m → IsTwins m u v result }
 {
-    let a = first_owner(w, s, p, u, v);
-    if a >= CORNERS * s {
-        return Twins::Other;
+    let a = first_owner(w, lay, u, v);
+    if a >= CORNERS * lay.slots {
+        return None;
     }
-    let b = next_owner(w, s, p, u, v, a);
-    if b >= CORNERS * s {
-        return Twins::Other;
+    let b = next_owner(w, lay, u, v, a);
+    if b >= CORNERS * lay.slots {
+        return None;
     }
-    if next_owner(w, s, p, u, v, b) < CORNERS * s {
-        return Twins::Other;
+    if next_owner(w, lay, u, v, b) < CORNERS * lay.slots {
+        return None;
     }
-    tris(w, s, a / CORNERS, b / CORNERS)
+    tris(w, lay.slots, a / CORNERS, b / CORNERS)
 }
 
 // The two triangles on the edge u-v with the third nodes x and y form a strictly convex quad.
@@ -130,52 +122,41 @@ fn convex_pair(q: &[f64], u: usize, v: usize, x: usize, y: usize) -> bool
 // A node below which a flip of the edge u-v makes no new edge, not above u:
 // the least of u and of the diagonal's ends.
 // It is 0 where there is no flip.
-pub fn below_flip(w: &[u32], s: usize, p: usize, u: usize, v: usize) -> usize
-    requires rep { (m : Mesh) × Rep w.now s p m }
-    requires up { Up p u v }
+pub fn below_flip(w: &[u32], lay: Layout, u: usize, v: usize) -> usize
+    requires rep { (m : Mesh) × Rep w.now lay.slots lay.points m }
+    requires up { Up lay.points u v }
     ensures few { result ≤ u }
-    ensures is { (m : Mesh) → Rep w.now s p m → StaysBelow m u v result }
+    ensures is { (m : Mesh) → Rep w.now lay.slots lay.points m → StaysBelow m u v result }
 {
-    let t = two_tris(w, s, p, u, v);
-    let Twins::Two(a, b) = t else {
+    let t = two_tris(w, lay, u, v);
+    let Some(two) = t else {
         return 0;
     };
-    let x = third(w, s, a, u, v);
-    let y = third(w, s, b, u, v);
-    lesser(u, lesser(x, y))
+    let x = third(w, lay.slots, two.0, u, v);
+    let y = third(w, lay.slots, two.1, u, v);
+    u.min(x.min(y))
 }
 
 // The triangles in slots i and j on the edge u-v, with the third nodes x and y, take the other diagonal,
 // with the winding of the first.
-fn turn(
-    w: &mut [u32],
-    s: usize,
-    p: usize,
-    u: usize,
-    v: usize,
-    i: usize,
-    j: usize,
-    x: usize,
-    y: usize,
-)
-    requires { (m : Mesh) × Rep w.old s p m × CanTurn m u v i j x y }
-    ensures { Turns w.old w.new s p (λ m. CanTurn m u v i j x y) (λ m. flipped m (u, v) i (tri_read w.old s i) j x y) }
+fn turn(w: &mut [u32], lay: Layout, u: usize, v: usize, i: usize, j: usize, x: usize, y: usize)
+    requires { (m : Mesh) × Rep w.old lay.slots lay.points m × CanTurn m u v i j x y }
+    ensures { Turns w.old w.new lay.slots lay.points (λ m. CanTurn m u v i j x y) (λ m. flipped m (u, v) i (tri_read w.old lay.slots i) j x y) }
 {
-    if runs(w, s, i, u, v) {
-        set_tri(w, s, p, i, x, u, y);
-        set_tri(w, s, p, j, y, v, x);
+    if runs(w, lay.slots, i, u, v) {
+        set_tri(w, lay, i, x, u, y);
+        set_tri(w, lay, j, y, v, x);
         return;
     }
-    set_tri(w, s, p, i, x, y, u);
-    set_tri(w, s, p, j, y, x, v);
+    set_tri(w, lay, i, x, y, u);
+    set_tri(w, lay, j, y, x, v);
 }
 
 // The turn that is the flip of the edge u-v.
 // A note that no component is odd stays, for a flip keeps the components even.
 fn turn_evenly(
     w: &mut [u32],
-    s: usize,
-    p: usize,
+    lay: Layout,
     u: usize,
     v: usize,
     i: usize,
@@ -183,15 +164,15 @@ fn turn_evenly(
     x: usize,
     y: usize,
 )
-    requires { (m : Mesh) × Rep w.old s p m × IsFlip w.old s m u v i j x y }
-    ensures { Turns w.old w.new s p (λ m. IsFlip w.old s m u v i j x y) (λ m. flipped m (u, v) i (tri_read w.old s i) j x y) }
+    requires { (m : Mesh) × Rep w.old lay.slots lay.points m × IsFlip w.old lay.slots m u v i j x y }
+    ensures { Turns w.old w.new lay.slots lay.points (λ m. IsFlip w.old lay.slots m u v i j x y) (λ m. flipped m (u, v) i (tri_read w.old lay.slots i) j x y) }
 {
-    let even = is_even(w, s, p);
-    turn(w, s, p, u, v, i, j, x, y);
+    let even = is_even(w, lay);
+    turn(w, lay, u, v, i, j, x, y);
     if !even {
         return;
     }
-    note_even(w, s, p);
+    note_even(w, lay);
 }
 
 // The edge u-v becomes the other diagonal of its two triangles.
@@ -201,31 +182,30 @@ pub fn flip(
     w: &mut [u32],
     q: &[f64],
     j: &[u32],
-    s: usize,
-    p: usize,
+    lay: Layout,
     u: usize,
     v: usize,
     room: bool,
 ) -> Turned
-    requires rep { (m : Mesh) × Rep w.old s p m × Pts q.now p m × Locks j.now m.locked }
-    requires up { Up p u v }
-    ensures { Flips w.old w.new q.now j.now s p u v room result }
+    requires rep { (m : Mesh) × Rep w.old lay.slots lay.points m × Pts q.now lay.points m × Locks j.now m.locked }
+    requires up { Up lay.points u v }
+    ensures { Flips w.old w.new q.now j.now lay.slots lay.points u v room result }
 {
     if locked(j, u, v) {
         return Turned::Not;
     }
-    let t = two_tris(w, s, p, u, v);
-    let Twins::Two(a, b) = t else {
+    let t = two_tris(w, lay, u, v);
+    let Some(two) = t else {
         return Turned::Not;
     };
-    let x = third(w, s, a, u, v);
-    let y = third(w, s, b, u, v);
+    let x = third(w, lay.slots, two.0, u, v);
+    let y = third(w, lay.slots, two.1, u, v);
     if !convex_pair(q, u, v, x, y) {
         return Turned::Not;
     }
     if !room {
         return Turned::Short;
     }
-    turn_evenly(w, s, p, u, v, a, b, x, y);
+    turn_evenly(w, lay, u, v, two.0, two.1, x, y);
     Turned::Flipped
 }

@@ -8,7 +8,8 @@ ghost use Rattle.flips.specs.Recover.{FlipsOnce, Recovers};
 
 use crate::flip::{Turned, below_flip, flip};
 use cells::find::has_edge;
-use crossings::cross::{Crossing, first_crossing};
+use cells::layout::Layout;
+use crossings::cross::first_crossing;
 use traces::{FLIP, fits, note_flip};
 
 // Whether an edge was flipped, whether only its entry did not fit, where the next entry goes,
@@ -38,8 +39,7 @@ fn flip_crossing(
     q: &[f64],
     j: &[u32],
     t: &mut [u32],
-    s: usize,
-    p: usize,
+    lay: Layout,
     n: usize,
     bucket: f64,
     at: usize,
@@ -47,13 +47,13 @@ fn flip_crossing(
     v: usize,
     from: usize,
 ) -> Flipping
-    requires by_index { (base : List ℕ) × (m : Mesh) × Known w.old q.now s p n bucket m × Locks j.now m.locked × Logged base t.old at m × NoneBelow m u v from }
+    requires by_index { (base : List ℕ) × (m : Mesh) × Known w.old q.now lay.slots lay.points n bucket m × Locks j.now m.locked × Logged base t.old at m × NoneBelow m u v from }
     requires segment { Segment n u v }
     requires from_le_n { from ≤ n }
-    ensures { FlipsOnce w.old w.new q.now j.now t.old t.new s p n bucket at u v from result }
+    ensures { FlipsOnce w.old w.new q.now j.now t.old t.new lay.slots lay.points n bucket at u v from result }
 {
-    let e = first_crossing(w, q, s, p, n, bucket, u, v, from);
-    let Crossing::At(a, b) = e else {
+    let e = first_crossing(w, q, lay, n, bucket, u, v, from);
+    let Some(x) = e else {
         return Flipping {
             made: false,
             short: false,
@@ -61,9 +61,9 @@ fn flip_crossing(
             from,
         };
     };
-    let low = below_flip(w, s, p, a, b);
+    let low = below_flip(w, lay, x.0, x.1);
     let room = fits(t, at, FLIP);
-    let f = flip(w, q, j, s, p, a, b, room);
+    let f = flip(w, q, j, lay, x.0, x.1, room);
     match f {
         Turned::Not => Flipping {
             made: false,
@@ -78,7 +78,7 @@ fn flip_crossing(
             from,
         },
         Turned::Flipped => {
-            let next = note_flip(t, at, a, b);
+            let next = note_flip(t, at, x.0, x.1);
             Flipping {
                 made: true,
                 short: false,
@@ -97,8 +97,7 @@ pub fn recover(
     q: &[f64],
     j: &[u32],
     t: &mut [u32],
-    s: usize,
-    p: usize,
+    lay: Layout,
     n: usize,
     used: usize,
     bucket: f64,
@@ -106,15 +105,14 @@ pub fn recover(
     u: usize,
     v: usize,
 ) -> Recovered
-    requires by_index { (base : List ℕ) × (m : Mesh) × Known w.old q.now s p n bucket m × (m.used ≡ used) × Locks j.now m.locked × Logged base t.old at m }
+    requires by_index { (base : List ℕ) × (m : Mesh) × Known w.old q.now lay.slots lay.points n bucket m × (m.used ≡ used) × Locks j.now m.locked × Logged base t.old at m }
     requires segment { Segment n u v }
-    ensures { Recovers w.old w.new q.now j.now t.old t.new s p n used bucket at u v result }
+    ensures { Recovers w.old w.new q.now j.now t.old t.new lay.slots lay.points n used bucket at u v result }
 {
-    let mut k = 0;
     let mut at = at;
     let mut from = 0;
-    while k < used {
-        if has_edge(w, s, p, u, v) {
+    for k in 0..used {
+        if has_edge(w, lay, u, v) {
             return Recovered {
                 there: true,
                 short: false,
@@ -122,7 +120,7 @@ pub fn recover(
                 at,
             };
         }
-        let f = flip_crossing(w, q, j, t, s, p, n, bucket, at, u, v, from);
+        let f = flip_crossing(w, q, j, t, lay, n, bucket, at, u, v, from);
         at = f.at;
         from = f.from;
         if !f.made {
@@ -133,13 +131,12 @@ pub fn recover(
                 at,
             };
         }
-        k += 1;
     }
-    let there = has_edge(w, s, p, u, v);
+    let there = has_edge(w, lay, u, v);
     Recovered {
         there,
         short: false,
-        flips: k,
+        flips: used,
         at,
     }
 }

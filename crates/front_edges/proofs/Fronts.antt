@@ -21,7 +21,7 @@ use Rattle.cells.specs.Rep.{Rep}
 use Rattle.edges.specs.Stored.{Edges, edge_in}
 use Rattle.meshes.proofs.Valid.{valid}
 use Rattle.front_edges.specs.Runs.{pairs, Run, CanWalk}
-use Rattle.front_edges.specs.Noting.{Past, EdgesTo, CanSkip, SkipTo}
+use Rattle.front_edges.specs.Noting.{Past, EdgesTo}
 use Rattle.front_edges.specs.Front.{FrontTo}
 use Rattle.front_edges.proofs.Members.{front_ascending}
 use Rattle.front_edges.proofs.Noting.{pairs_length}
@@ -164,25 +164,9 @@ module _ (w₀ : List ℕ) (s p : ℕ) (m : Mesh) (r : Rep w₀ s p m) where
           ∙ ap (λ (z : ℕ). get_or (flat_map (front_at m) (below u) ++ front_at m u) z (0, 0)) (let y : length (flat_map (front_at m) (below u)) + t ≡ i = omega (arith, h.len) in y)
           ∙ ap (λ (es : List Edge). get_or es i (0, 0)) (sym (upto_more (front_at m) u))
 
-  -- a search from node a on has its room
-  pub can_skip : (w : List ℕ) (u k a n : ℕ) → Sofar w₀ w s p u k m → n ≡ length m.points → a ≤ n → CanSkip w s p a n
-  can_skip w u k a n h e l = record { room = h.rep.room; order = l; inside = omega (arith, e, h.rep.points) }
-
-  -- d nodes more that are noted as having no front edge
-  over : (w : List ℕ) (u k d : ℕ) → Sofar w₀ w s p u k m → u + d ≤ length m.points → ((v : ℕ) → u ≤ v → v < u + d → note w s p v % 4 ≡ 1) → Sofar w₀ w s p (u + d) k m
-  over w u k zero h l g = let z : u ≡ u + 0 = omega arith in subst (λ (i : ℕ). Sofar w₀ w s p i k m) z h
-  over w u k (suc d) h l g =
-      let z : u + d + 1 ≡ u + suc d = omega arith in
-      let f : Sofar w₀ w s p (u + d) k m = over w u k d h (omega arith) (λ v a b. g v a (omega arith)) in
-      let x : note w s p (u + d) % 4 ≡ 1 = g (u + d) (omega arith) (omega arith) in
-      let can : CanWalk w s p (u + d) k m = can_walk w (u + d) k f (omega arith) in
-      subst (λ (i : ℕ). Sofar w₀ w s p i k m) z
-      (sofar_more w w (u + d) k k f (copied_none w s p (u + d) k 1 m (record { walk = can; is = sym x; some = λ q. omega arith }) refl))
-
-  pub sofar_over : (w : List ℕ) (u k n r : ℕ) → n ≡ length m.points → Sofar w₀ w s p u k m → SkipTo w s p u n r → Sofar w₀ w s p r k m
-  sofar_over w u k n r e h g =
-      let z : u + (r - u) ≡ r = omega (arith, g.low) in
-      subst (λ (i : ℕ). Sofar w₀ w s p i k m) z (over w u k (r - u) h (omega (arith, e, g.high)) (λ v a b. g.none v a (omega (arith, g.low))))
+  -- a node that is noted as having no front edge is passed over
+  pub sofar_noted : (w : List ℕ) (u k : ℕ) → Sofar w₀ w s p u k m → u < length m.points → note w s p u % 4 ≡ 1 → Sofar w₀ w s p (u + 1) k m
+  sofar_noted w u k h l x = sofar_more w w u k k h (copied_none w s p u k 1 m (record { walk = can_walk w u k h l; is = sym x; some = λ q. omega arith }) refl)
 
   -- none of them is there twice
   edges_from : (n : ℕ) (es : List Edge) → ((e : Edge) → In e es → (e.0 < e.1) × (e.1 < n)) → Pairwise (λ e f. e ≢ f) es → Edges n es

@@ -97,17 +97,3 @@ pub record EdgesTo (w w' : List ℕ) (s p u from r : ℕ) (m : Mesh) : Type 0 wh
   pub are : pairs u vs ≡ front_at m u
   pub past : Past w w' s p from
   pub rep : Rep w' s p m
-
--- ---- nodes that are passed over
-
--- what the search for a node from `from` on and below n asks
-pub record CanSkip (w : List ℕ) (s p from n : ℕ) : Type 0 where
-  pub room : Room w s p
-  pub order : from ≤ n
-  pub inside : n ≤ p
-
--- each node from `from` to r is noted as having no front edge
-pub record SkipTo (w : List ℕ) (s p from n r : ℕ) : Type 0 where
-  pub low : from ≤ r
-  pub high : r ≤ n
-  pub none : (u : ℕ) → from ≤ u → u < r → note w s p u % 4 ≡ 1

@@ -13,13 +13,16 @@ use Rattle.definition.specs.Job as defined
 use Rattle.definition.specs.Job.{entitled, bad_job, job_limit, charge, handed_on, JobReturned, after_mesh, run_mesh, job}
 use Rattle.laws.specs.Lists.{known}
 use Rattle.account.proofs.Jobs.{job_handed}
+use Rattle.std.specs.Prelude.{Err}
+use Rattle.refusals.specs.declared.named.Refusal.{Refusal}
+use Rattle.refusals.specs.declared.named.Refusal.TheVariants.{BadJob}
+use Rattle.refusals.specs.Numbers.{number, not_0}
 use Rattle.refusals.specs.Refusals.{number_of, first_refusal, none_holds}
 use Rattle.allowances.specs.declared.Job.{Job}
 use Rattle.allowances.specs.States.{job_of}
-use Rattle.mesher.specs.declared.Answer.{Answer}
 use Rattle.mesher.specs.declared.run.Ran.{Ran}
-use Rattle.mesher.specs.Promise.{Returns, KeptAccountWithin, KeptJoints, KeptArea}
-use Rattle.mesher.specs.Parts.{Refused, progress_of, RanTo}
+use Rattle.mesher.specs.Promise.{answered, Returns, KeptAccountWithin, KeptJoints, KeptArea}
+use Rattle.mesher.specs.Parts.{refused, progress_of, RanTo}
 use Rattle.mesher.proofs.Ends.{call_is, untouched_returns}
 use Rattle.mesher.proofs.Accounts.{all_kept}
 use Rattle.jobs.specs.Jobs.{JobReturns}
@@ -57,20 +60,20 @@ module _ (j : defined.Job) (a : Asked) (l : Lent) where
 
 -- ---- what came back
 
--- 16 hands the state back as it was
-pub bad_returns : (s : Job) (a : Asked) (l : Lent) → bad_job (job_of s) ≡ true → (x : Answer) → Refused 16 x
-    → JobReturns (job (job_of s) a l) (record { answer = x; charged = 0; next = s }) l
-bad_returns s a l b x y =
-    subst (λ (v : JobReturned). JobReturns v (record { answer = x; charged = 0; next = s }) l) (sym (job_bad (job_of s) a l b))
-    (record { returns = untouched_returns l 16 x y; charged = refl; next = refl })
+-- BadJob hands the state back as it was
+pub bad_returns : (s : Job) (a : Asked) (l : Lent) → bad_job (job_of s) ≡ true
+    → JobReturns (job (job_of s) a l) (record { answer = Err BadJob; charged = 0; next = s }) l
+bad_returns s a l b =
+    subst (λ (v : JobReturned). JobReturns v (record { answer = Err BadJob; charged = 0; next = s }) l) (sym (job_bad (job_of s) a l b))
+    (record { returns = untouched_returns l 16 (answered (Err BadJob)) (refused BadJob); charged = refl; next = refl })
 
 module _ (s n : Job) (a : Asked) (l : Lent) (b : bad_job (job_of s) ≡ false) where
   -- a mesh that is refused before its run is charged nothing
-  pub refused_mesh : (k : ℕ) → k ≡ first_refusal a l → k ≢ 0 → (x : Answer) → Refused k x → job_of n ≡ handed_on (job_of s) 0
-      → JobReturns (job (job_of s) a l) (record { answer = x; charged = 0; next = n }) l
-  refused_mesh k e z x y next =
-      subst (λ (v : JobReturned). JobReturns v (record { answer = x; charged = 0; next = n }) l) (sym (job_refused (job_of s) a l b k e z))
-      (record { returns = untouched_returns l k x y; charged = refl; next = next })
+  pub refused_mesh : (k : Refusal) → number k ≡ first_refusal a l → job_of n ≡ handed_on (job_of s) 0
+      → JobReturns (job (job_of s) a l) (record { answer = Err k; charged = 0; next = n }) l
+  refused_mesh k e next =
+      subst (λ (v : JobReturned). JobReturns v (record { answer = Err k; charged = 0; next = n }) l) (sym (job_refused (job_of s) a l b (number k) e (not_0 k)))
+      (record { returns = untouched_returns l (number k) (answered (Err k)) (refused k); charged = refl; next = next })
 
   module _ (z : first_refusal a l ≡ 0) (x : Ran) (exit : Lent) (h : RanTo (job_limit (job_of s) a) a l x exit) where
     -- one that ran
@@ -82,6 +85,6 @@ module _ (s n : Job) (a : Asked) (l : Lent) (b : bad_job (job_of s) ≡ false) w
 
 -- A run keeps its account, its joints and its area, whatever its limit.
 pub ran_kept : (most : ℕ) (a : Asked) (l : Lent) → fits binary64 a.quality.largest_cosine ≡ true → first_refusal a l ≡ 0 → (x : Ran) (exit : Lent) → RanTo most a l x exit
-    → KeptAccountWithin most a l x.answer exit × KeptJoints a l x.answer exit × KeptArea a l x.answer exit
+    → KeptAccountWithin most a l (answered x.answer) exit × KeptJoints a l (answered x.answer) exit × KeptArea a l (answered x.answer) exit
 ran_kept most a l f z x exit h =
-    all_kept most a l f x.answer exit (subst (λ (v : Returned). Returns v x.answer exit) (sym (call_is most a l z)) h.returns)
+    all_kept most a l f (answered x.answer) exit (subst (λ (v : Returned). Returns v (answered x.answer) exit) (sym (call_is most a l z)) h.returns)

@@ -5,25 +5,25 @@
 ghost use Rattle.definition.specs.Job.{job_limit, job};
 ghost use Rattle.refusals.specs.Stated.{asked};
 ghost use Rattle.allowances.specs.States.{job_of};
-ghost use Rattle.mesher.specs.Promise.{lent_of, KeptAccountWithin, KeptJoints, KeptArea};
+ghost use Rattle.mesher.specs.Promise.{answered, lent_of, KeptAccountWithin, KeptJoints, KeptArea};
 ghost use Rattle.jobs.specs.Jobs.{JobReturns};
 
 use allowances::{Job, bad_job, handed_on, limit_of};
 use mesher::Answer;
-use mesher::run::{refused, run};
-use refusals::{Room, Stated, refusal};
+use mesher::run::run;
+use refusals::{Refusal, Room, Stated, refusal};
 
-// What a mesh of a job comes to: the answer, the attempts charged, and the state for the next mesh.
+// What a mesh of a job comes to: the answer or why it is refused, the attempts charged, and the state for the next mesh.
 #[derive(Clone, Copy)]
 pub struct Mesh {
-    pub answer: Answer,
+    pub answer: Result<Answer, Refusal>,
     pub charged: usize,
     pub next: Job,
 }
 
 // The next mesh of a job, in slices of its own: as run_front, with no more attempts than the job leaves it.
-// 16 comes before every other refusal and hands the state back as it was.
-// A mesh that is refused gets its number, and the job goes on.
+// BadJob comes before every other refusal and hands the state back as it was.
+// A mesh that is refused says so in its answer, and the job goes on.
 pub fn run_mesh(
     points: &mut [f64],
     triangles: &[u32],
@@ -47,22 +47,22 @@ pub fn run_mesh(
         (job_limit (job_of state) (asked stated))
         (asked stated)
         (lent_of points.old triangles.now joints.now quads.old triangles_out.old components.old work.old float_work.old trace.old)
-        result.answer
+        (answered result.answer)
         (lent_of points.new triangles.now joints.now quads.new triangles_out.new components.new work.new float_work.new trace.new) }
     ensures kept_joints { KeptJoints
         (asked stated)
         (lent_of points.old triangles.now joints.now quads.old triangles_out.old components.old work.old float_work.old trace.old)
-        result.answer
+        (answered result.answer)
         (lent_of points.new triangles.now joints.now quads.new triangles_out.new components.new work.new float_work.new trace.new) }
     ensures kept_area { KeptArea
         (asked stated)
         (lent_of points.old triangles.now joints.now quads.old triangles_out.old components.old work.old float_work.old trace.old)
-        result.answer
+        (answered result.answer)
         (lent_of points.new triangles.now joints.now quads.new triangles_out.new components.new work.new float_work.new trace.new) }
 {
     if bad_job(state) {
         return Mesh {
-            answer: refused(16),
+            answer: Err(Refusal::BadJob),
             charged: 0,
             next: state,
         };
@@ -74,10 +74,9 @@ pub fn run_mesh(
         work: work.len(),
         floats: float_work.len(),
     };
-    let k = refusal(points, triangles, joints, stated, room);
-    if k != 0 {
+    if let Err(k) = refusal(points, triangles, joints, stated, room) {
         return Mesh {
-            answer: refused(k as usize),
+            answer: Err(k),
             charged: 0,
             next: handed_on(state, 0),
         };

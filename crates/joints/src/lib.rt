@@ -43,12 +43,10 @@ fn listed(j: &[u32], u: usize, v: usize) -> bool
     ensures { (es : List Edge) → Kept j.now es → result ≡ has_edge_in es (u, v) }
 {
     let n = wide(j[COUNT]);
-    let mut i = 0;
-    while i < n {
+    for i in 0..n {
         if is_joint(j, i, u, v) {
             return true;
         }
-        i += 1;
     }
     false
 }
@@ -104,6 +102,7 @@ fn put_joint(j: &mut [u32], i: usize, a: u32, b: u32)
     put_edge(j, i, b, a);
 }
 
+// Kept (6): C's callers lend a slice that may be longer than the joints stated.
 // The table of the first n pairs of a slice.
 pub fn put_joints(j: &mut [u32], joints: &[u32], n: usize)
     requires in_bounds { 1537 ≤ length j.old }
@@ -112,9 +111,7 @@ pub fn put_joints(j: &mut [u32], joints: &[u32], n: usize)
     ensures { Kept j.new (table (joint_at joints.now) (below n)) }
 {
     j[COUNT] = n as u32;
-    let mut i = 0;
-    while i < n {
+    for i in 0..n {
         put_joint(j, i, joints[2 * i], joints[2 * i + 1]);
-        i += 1;
     }
 }

@@ -9,7 +9,7 @@ ghost use Rattle.cells.specs.Rep.{Rep};
 ghost use Rattle.leftovers.specs.Wrote.{three, slot_tris, CanWrite, WroteSlot};
 
 use cells::find::kind;
-use cells::layout::CORNERS;
+use cells::layout::{CORNERS, Layout};
 
 // Numbers a triangle.
 const TRIANGLE: usize = 3;
@@ -25,31 +25,29 @@ fn write_three(out: &mut [u32], a: u32, b: u32, c: u32)
 }
 
 // The triangle in slot i, if the slot holds one, comes behind the n that stand in the slice; how many they are then.
-fn write_slot(w: &[u32], out: &mut [u32], s: usize, p: usize, i: usize, n: usize) -> usize
-    requires rep { (m : Mesh) × Rep w.now s p m }
-    requires can_write { CanWrite out.old s i n }
-    ensures { (m : Mesh) → Rep w.now s p m → WroteSlot out.old out.new n result (slot_tris m i) }
+fn write_slot(w: &[u32], out: &mut [u32], lay: Layout, i: usize, n: usize) -> usize
+    requires rep { (m : Mesh) × Rep w.now lay.slots lay.points m }
+    requires can_write { CanWrite out.old lay.slots i n }
+    ensures { (m : Mesh) → Rep w.now lay.slots lay.points m → WroteSlot out.old out.new n result (slot_tris m i) }
 {
-    if kind(w, s, i) != 3 {
+    if kind(w, lay.slots, i) != 3 {
         return n;
     }
-    let j = s + CORNERS * i;
+    let j = lay.slots + CORNERS * i;
     let at = TRIANGLE * n;
     write_three(&mut out[at..], w[j], w[j + 1], w[j + 2]);
     n + 1
 }
 
 // The live triangles, by ascending slot, come to the front of the slice; how many they are.
-pub fn write_triangles(w: &[u32], out: &mut [u32], s: usize, p: usize, used: usize) -> usize
-    requires rep { (m : Mesh) × Rep w.now s p m × (m.used ≡ used) }
-    requires s_in_bounds { 3 * s ≤ length out.old }
-    ensures { (m : Mesh) → Rep w.now s p m → m.used ≡ used → (result ≡ length (triangles m)) × (out.new ≡ onto (flat_map tri_nodes (triangles m)) out.old) }
+pub fn write_triangles(w: &[u32], out: &mut [u32], lay: Layout, used: usize) -> usize
+    requires rep { (m : Mesh) × Rep w.now lay.slots lay.points m × (m.used ≡ used) }
+    requires s_in_bounds { 3 * lay.slots ≤ length out.old }
+    ensures { (m : Mesh) → Rep w.now lay.slots lay.points m → m.used ≡ used → (result ≡ length (triangles m)) × (out.new ≡ onto (flat_map tri_nodes (triangles m)) out.old) }
 {
     let mut n = 0;
-    let mut i = 0;
-    while i < used {
-        n = write_slot(w, out, s, p, i, n);
-        i += 1;
+    for i in 0..used {
+        n = write_slot(w, out, lay, i, n);
     }
     n
 }

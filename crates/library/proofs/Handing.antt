@@ -10,22 +10,22 @@ use borrow.Author.Tests.{eq-eqb, ne_eqb}
 use Rattle.definition.specs.Call.{Asked, Lent, onto}
 use Rattle.laws.specs.Lists.{nothing}
 use Rattle.refusals.specs.Refusals.{first_refusal}
-use Rattle.mesher.specs.declared.Answer.{Answer}
+use Rattle.mesher.specs.Promise.{Reply}
 use Rattle.answer_numbers.specs.Runs.{numbers, up_to_4}
 use Rattle.library.specs.Exported.{handed, Roomy, Exported}
 
 -- after a refusal what was there
-pub kept : (r : Answer) (old : List ℕ) → r.refusal ≢ 0 → old ≡ handed r old
+pub kept : (r : Reply) (old : List ℕ) → r.refusal ≢ 0 → old ≡ handed r old
 kept r old h = rw (ne_eqb r.refusal 0 h)
 
 -- after a finished run its numbers
-pub put : (r : Answer) (old new : List ℕ) → r.refusal ≡ 0 → new ≡ onto (numbers r) old → new ≡ handed r old
+pub put : (r : Reply) (old new : List ℕ) → r.refusal ≡ 0 → new ≡ onto (numbers r) old → new ≡ handed r old
 put r old new h e = rw (eq-eqb r.refusal 0 h) e
 
 -- ---- the promise
 
 -- with room the call, whatever the slice holds then
-pub with_room : (a : Asked) (l : Lent) (old : List ℕ) (k : ℕ) (new : List ℕ) (exit : Lent) (r : Answer)
+pub with_room : (a : Asked) (l : Lent) (old : List ℕ) (k : ℕ) (new : List ℕ) (exit : Lent) (r : Reply)
     → 15 ≤ length old → Roomy a l old k new exit r → Exported a l old k new exit
 with_room a l old k new exit r h d = record { roomy = λ _. (r, d); short = λ s. absurd (omega (arith, h, s)) }
 

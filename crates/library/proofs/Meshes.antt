@@ -9,7 +9,7 @@ use lib.ListN.{length}
 use Rattle.definition.specs.Call.{Asked, Lent, onto}
 use Rattle.definition.specs.Job as defined
 use Rattle.definition.specs.Job.{bad_job, job_limit, job}
-use Rattle.mesher.specs.Promise.{KeptAccountWithin, KeptJoints, KeptArea}
+use Rattle.mesher.specs.Promise.{answered, KeptAccountWithin, KeptJoints, KeptArea}
 use Rattle.jobs.specs.declared.Mesh.{Mesh}
 use Rattle.jobs.specs.Jobs.{JobReturns}
 use Rattle.answer_numbers.specs.Jobs.{state_in}
@@ -55,13 +55,13 @@ without_answer j a l js old e h b d =
 -- What came back of a mesh by the state j that the slice has.
 pub record Came (j : defined.Job) (a : Asked) (l : Lent) (m : Mesh) (exit : Lent) : Type 0 where
   pub returns : JobReturns (job j a l) m exit
-  pub keeps : KeptAccountWithin (job_limit j a) a l m.answer exit
-  pub joints : KeptJoints a l m.answer exit
-  pub area : KeptArea a l m.answer exit
+  pub keeps : KeptAccountWithin (job_limit j a) a l (answered m.answer) exit
+  pub joints : KeptJoints a l (answered m.answer) exit
+  pub area : KeptArea a l (answered m.answer) exit
 
 -- room for both
 pub with_both : (j : defined.Job) (a : Asked) (l : Lent) (js old : List ℕ) (k : ℕ) (ks new : List ℕ) (exit : Lent) (m : Mesh) → j ≡ state_in js → 5 ≤ length js → bad_job j ≡ false → 15 ≤ length old
-    → Came j a l m exit → k ≡ m.answer.refusal → ks ≡ onto (job_numbers m) js → new ≡ handed m.answer old → ExportedJob a l js old k ks new exit
+    → Came j a l m exit → k ≡ (answered m.answer).refusal → ks ≡ onto (job_numbers m) js → new ≡ handed (answered m.answer) old → ExportedJob a l js old k ks new exit
 with_both j a l js old k ks new exit m e h b d c number state answer =
     let good : bad_job (state_in js) ≡ false = subst (λ v. bad_job v ≡ false) e b in
     let x = subst (λ (v : defined.Job). Came v a l m exit) e c in

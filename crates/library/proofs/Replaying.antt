@@ -11,9 +11,8 @@ use lib.ListN.{length}
 use borrow.Author.Tests.{eq-eqb, ne_eqb}
 use Rattle.definition.specs.Call.{Lent, over_limit, onto}
 use Rattle.definition.specs.Replay.{Told, as_asked, ReplayAnswer, rebuilt, unplayed, replay}
-use Rattle.retrace.specs.declared.ending.Replayed.{Replayed}
 use Rattle.retrace.specs.Replaying as retrace
-use Rattle.retrace.specs.Replaying.{answer_number, answer_lengths, lengths_in}
+use Rattle.retrace.specs.Replaying.{Reply, answer_number, answer_lengths, lengths_in}
 use Rattle.answer_numbers.specs.Replays.{lengths_listed, lengths_put}
 use Rattle.library.specs.Replays.{replay_numbers, ExportedReplay}
 use Rattle.library.proofs.Unplayed.{numbered_answer}
@@ -23,7 +22,7 @@ pub without_room : (t : Told) (l : Lent) (old : List ℕ) (k : ℕ) → length o
 without_room t l old k h e =
     record { roomy = λ s. absurd (omega (arith, h, s)); short = λ _. record { number = e; answer = refl; lent = refl } }
 
-module _ (t : Told) (l : Lent) (old : List ℕ) (r : Replayed) (exit : Lent) (room : 4 ≤ length old) (is : retrace.Replays (replay t l) r exit) where
+module _ (t : Told) (l : Lent) (old : List ℕ) (r : Reply) (exit : Lent) (room : 4 ≤ length old) (is : retrace.Replays (replay t l) r exit) where
   with_room : (k : ℕ) (new : List ℕ) → k ≡ r.refusal → new ≡ onto (replay_numbers (replay t l).answer) old → ExportedReplay t l old k new exit
   with_room k new number answer =
       record { roomy = λ _. record { number = number ∙ is.number; answer = answer; lent = sym is.lent }; short = λ s. absurd (omega (arith, room, s)) }

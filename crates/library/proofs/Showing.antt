@@ -8,6 +8,8 @@ use lib.ListN.{length}
 use Rattle.definition.specs.Call.{Asked, Lent, onto}
 use Rattle.definition.specs.Preview.{preview}
 use Rattle.refusals.specs.Refusals.{first_refusal}
+use Rattle.std.specs.Prelude.{Result}
+use Rattle.refusals.specs.declared.named.Refusal.{Refusal}
 use Rattle.mesher.specs.declared.preview.Shown.{Shown}
 use Rattle.mesher.specs.Previews.{shown_of, Previews}
 use Rattle.answer_numbers.specs.Runs.{up_to_4}
@@ -20,7 +22,7 @@ without_room a l u v old k h e =
     record { roomy = λ s. absurd (omega (arith, h, s)); short = λ _. record { number = e; answer = refl; lent = refl } }
 
 -- with it
-pub with_room : (a : Asked) (l : Lent) (u v : ℕ) (old : List ℕ) (k : ℕ) (new : List ℕ) (exit : Lent) (r : Shown) → 12 ≤ length old → Previews (preview a l u v) r exit
+pub with_room : (a : Asked) (l : Lent) (u v : ℕ) (old : List ℕ) (k : ℕ) (new : List ℕ) (exit : Lent) (r : Result Shown Refusal) → 12 ≤ length old → Previews (preview a l u v) r exit
     → k ≡ refusal_number (shown_of r) → new ≡ onto (shown_numbers (shown_of r)) old → ExportedPreview a l u v old k new exit
 with_room a l u v old k new exit r h p number answer =
     record {

@@ -4,8 +4,7 @@ use Rattle.std.specs.Prelude.{◌≡◌, cond, List, ℕ, ◌<◌, ◌≤◌, eq
 use Rattle.definition.specs.Numbers.{Quality}
 use Rattle.definition.specs.Call.{Asked, Lent, call, onto}
 use Rattle.refusals.specs.Refusals.{first_refusal}
-use Rattle.mesher.specs.declared.Answer.{Answer}
-use Rattle.mesher.specs.Promise.{Returns, KeptAccount, KeptJoints, KeptArea}
+use Rattle.mesher.specs.Promise.{Reply, Returns, KeptAccount, KeptJoints, KeptArea}
 use Rattle.answer_numbers.specs.Runs.{numbers, up_to_4}
 
 -- a quality set by its five numbers
@@ -15,12 +14,12 @@ set_of least_jacobian largest_cosine side_low side_high pairs =
 
 -- what the answer's slice holds: the numbers of a finished run before what was there,
 -- and after a refusal what was there
-abbrev pub handed : Answer → List ℕ → List ℕ
+abbrev pub handed : Reply → List ℕ → List ℕ
 handed r old = cond (eqb r.refusal 0) (onto (numbers r) old) old
 
 -- With room for the numbers: r is all that the definition's call answers,
 -- k is its number, and the slice has its numbers.
-pub record Roomy (a : Asked) (l : Lent) (old : List ℕ) (k : ℕ) (new : List ℕ) (exit : Lent) (r : Answer) : Type 0 where
+pub record Roomy (a : Asked) (l : Lent) (old : List ℕ) (k : ℕ) (new : List ℕ) (exit : Lent) (r : Reply) : Type 0 where
   pub returns : Returns (call a l) r exit
   pub keeps : KeptAccount a l r exit
   pub joints : KeptJoints a l r exit
@@ -36,5 +35,5 @@ pub record Short (a : Asked) (l : Lent) (old : List ℕ) (k : ℕ) (new : List �
 
 -- k is returned of a call that states a and lends l, with `old` in the answer's slice; `new` and `exit` are there then
 pub record Exported (a : Asked) (l : Lent) (old : List ℕ) (k : ℕ) (new : List ℕ) (exit : Lent) : Type 0 where
-  pub roomy : 15 ≤ length old → (r : Answer) × Roomy a l old k new exit r
+  pub roomy : 15 ≤ length old → (r : Reply) × Roomy a l old k new exit r
   pub short : length old < 15 → Short a l old k new exit

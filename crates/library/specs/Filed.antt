@@ -1,16 +1,14 @@
 -- The promise of the exported filing order: the call of its definition, the answer as one number.
 use Rattle.std.specs.Prelude.{◌≡◌, List, ℕ}
-use Rattle.filing.specs.declared.Order.{Order}
-use Rattle.filing.specs.declared.Order.TheVariants.{Before, Same, After}
-use Rattle.filing.specs.declared.Answer.{Answer}
-use Rattle.filing.specs.declared.Answer.TheVariants.{Filed, Refused}
-use Rattle.filing.specs.Filing.{Returned}
+use Rattle.std.specs.declared.cmp.Ordering.{Ordering}
+use Rattle.std.specs.declared.cmp.Ordering.TheVariants.{Less, Equal, Greater}
+use Rattle.filing.specs.Filing.{Answer, Filed, Refused, Returned}
 
 -- three numbers that no refusal has
-abbrev pub order_number : Order → ℕ
-order_number Before = 100
-order_number Same = 101
-order_number After = 102
+abbrev pub order_number : Ordering → ℕ
+order_number Less = 100
+order_number Equal = 101
+order_number Greater = 102
 
 -- a refusal keeps its own
 abbrev pub number : Answer → ℕ

@@ -3,7 +3,7 @@
 use Rattle.std.specs.Prelude.{◌≡◌, true, false, List, [], ◌∷◌, ℕ, ◌<◌, ◌≤◌, length}
 use Rattle.definition.specs.Call.{Asked, Lent, onto}
 use Rattle.definition.specs.Job.{bad_job, job_limit, job}
-use Rattle.mesher.specs.Promise.{KeptAccountWithin, KeptJoints, KeptArea}
+use Rattle.mesher.specs.Promise.{answered, KeptAccountWithin, KeptJoints, KeptArea}
 use Rattle.jobs.specs.declared.Mesh.{Mesh}
 use Rattle.jobs.specs.Jobs.{JobReturns}
 use Rattle.answer_numbers.specs.Jobs.{state_in}
@@ -17,12 +17,12 @@ job_numbers m = m.next.meshes ∷ m.next.allowance ∷ m.next.done ∷ m.next.le
 -- and the slices have its numbers.
 pub record Meshed (a : Asked) (l : Lent) (js old : List ℕ) (k : ℕ) (ks new : List ℕ) (exit : Lent) (m : Mesh) : Type 0 where
   pub returns : JobReturns (job (state_in js) a l) m exit
-  pub keeps : KeptAccountWithin (job_limit (state_in js) a) a l m.answer exit
-  pub joints : KeptJoints a l m.answer exit
-  pub area : KeptArea a l m.answer exit
-  pub number : k ≡ m.answer.refusal
+  pub keeps : KeptAccountWithin (job_limit (state_in js) a) a l (answered m.answer) exit
+  pub joints : KeptJoints a l (answered m.answer) exit
+  pub area : KeptArea a l (answered m.answer) exit
+  pub number : k ≡ (answered m.answer).refusal
   pub state : ks ≡ onto (job_numbers m) js
-  pub answer : new ≡ handed m.answer old
+  pub answer : new ≡ handed (answered m.answer) old
 
 -- Refused with the number n, and nothing is touched, the state neither.
 pub record Untouched (n : ℕ) (l : Lent) (js old : List ℕ) (k : ℕ) (ks new : List ℕ) (exit : Lent) : Type 0 where

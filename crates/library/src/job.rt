@@ -9,9 +9,10 @@ use allowances::bad_job;
 use answer_numbers::jobs::{JOB, state_in, write_job};
 use answer_numbers::{ANSWER, write_answer};
 use jobs::run_mesh;
-use refusals::Stated;
+use refusals::{Refusal, Stated};
 use rules::Quality;
 
+// Kept (1): C takes the answer as a number.
 // The number of the refusal is returned, 0 where the run finished.
 // A state that 16 refuses and an answer without room leave every slice as it was.
 // Otherwise the state to hand on and the attempts charged come to the front of the job's slice,
@@ -41,14 +42,14 @@ fn meshed(
         (lent_of points.new triangles.now joints.now quads.new triangles_out.new components.new work.new float_work.new trace.new) }
 {
     if job.len() < JOB {
-        return 4;
+        return Refusal::TooShort.into();
     }
     let state = state_in(job);
     if bad_job(state) {
-        return 16;
+        return Refusal::BadJob.into();
     }
     if answer.len() < ANSWER {
-        return 4;
+        return Refusal::TooShort.into();
     }
     let m = run_mesh(
         points,
@@ -63,15 +64,14 @@ fn meshed(
         state,
         stated,
     );
-    let a = m.answer;
-    let next = m.next;
-    write_job(job, next, m.charged);
-    let k = a.refusal;
-    if k != 0 {
-        return k;
+    write_job(job, m.next, m.charged);
+    match m.answer {
+        Ok(a) => {
+            write_answer(answer, a);
+            0
+        }
+        Err(k) => k.into(),
     }
-    write_answer(answer, a);
-    0
 }
 
 // The next mesh of a job, as sedgepick_run_front_with, with no more attempts than the job leaves it.

@@ -23,6 +23,7 @@ use mesher::run_front;
 use refusals::{Room, Stated, standard};
 use rules::Quality;
 
+// Kept (1): C takes the answer as a number.
 // The number of the refusal is returned, 0 where the run finished.
 // Then its numbers come to the front of the answer; a refusal leaves the answer as it was.
 fn answered(
@@ -56,7 +57,7 @@ fn answered(
         };
         return short_answer(points, triangles, joints, stated, room);
     }
-    let a = run_front(
+    match run_front(
         points,
         triangles,
         joints,
@@ -67,13 +68,13 @@ fn answered(
         float_work,
         trace,
         stated,
-    );
-    let k = a.refusal;
-    if k != 0 {
-        return k;
+    ) {
+        Ok(a) => {
+            write_answer(answer, a);
+            0
+        }
+        Err(k) => k.into(),
     }
-    write_answer(answer, a);
-    0
 }
 
 // run_front, with the standard quality set, without joints, trace and grid.

@@ -1,31 +1,37 @@
 // The filing order of two meshes, its answer as one number.
 ghost use Rattle.std.specs.Prelude.{◌≡◌};
 ghost use Rattle.filing.specs.Filing.{call};
-ghost use Rattle.filing.specs.Promise.{mesh};
+ghost use Rattle.filing.specs.Promise.{answered, mesh};
 ghost use Rattle.library.specs.Filed.{order_number, number, FiledAs};
 
-use filing::{Answer, Order, filing_order};
+use filing::filing_order;
+use refusals::Refusal;
+use std::cmp::Ordering;
 
+// Kept (1): it is made here for C alone.
+// Kept (2): alike by chance, other functions map other kinds to other numbers.
+// Kept (4): std's `Ordering` has other numbers, and a From for it would need a type of this crate.
 // The order as a number that no refusal has.
-fn order_number(o: Order) -> usize
+fn order_number(o: Ordering) -> usize
     ensures { result ≡ order_number o }
 {
     match o {
-        Order::Before => 100,
-        Order::Same => 101,
-        Order::After => 102,
+        Ordering::Less => 100,
+        Ordering::Equal => 101,
+        Ordering::Greater => 102,
     }
 }
 
-fn number(a: Answer) -> usize
-    ensures { result ≡ number a }
+fn number(answer: Result<Ordering, Refusal>) -> usize
+    ensures { result ≡ number (answered answer) }
 {
-    match a {
-        Answer::Filed(o) => order_number(o),
-        Answer::Refused(k) => k,
+    match answer {
+        Ok(order) => order_number(order),
+        Err(refusal) => refusal.into(),
     }
 }
 
+// Kept (1): C takes the answer as a number.
 // filing_order.
 // The number of the refusal is returned; or 100, 101 or 102 where the first mesh stands before the second,
 // is the same, or stands after it.

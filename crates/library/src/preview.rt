@@ -61,6 +61,7 @@ fn previewed(
     put_shown(answer, shown)
 }
 
+// Kept (1): C takes the answer as a number.
 // What the edge between u and v would give, by the inputs of sedgepick_run_front_with.
 // The number of the refusal is returned, 0 where something is shown.
 // Both work slices are zero then, and no other slice but the answer is touched.

@@ -9,6 +9,7 @@ use refusals::Room;
 use retrace::Told;
 use retrace::replays::replay;
 
+// Kept (1): C takes the answer as a number.
 // The mesh of the first `words` words of a trace over the given points and triangles.
 // The number of the refusal is returned, 0 where the whole trace was replayed.
 // Then the lengths of the four lists come to the front of the answer; a refusal leaves the answer as it was.

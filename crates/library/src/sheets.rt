@@ -4,6 +4,7 @@ ghost use Rattle.sheet.specs.Promise.{listed};
 
 use sheet::lent::put_sheet;
 
+// Kept (1): C takes the answer as a number.
 // The sheet of a list of quads: its rows in `out`, its numbers in the answer.
 // The number of the refusal is returned, 0 where there is none.
 #[unsafe(no_mangle)]
@@ -19,5 +20,8 @@ pub extern "C" fn sedgepick_sheet(
         (listed given count points.now quads.now out.old)
         answer.old result answer.new out.new }
 {
-    put_sheet(points, quads, out, given, count, answer)
+    match put_sheet(points, quads, out, given, count, answer) {
+        Ok(()) => 0,
+        Err(refusal) => refusal.into(),
+    }
 }

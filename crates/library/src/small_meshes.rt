@@ -9,5 +9,8 @@ use small::lent::put_small_mesh;
 pub extern "C" fn sedgepick_small_mesh(points: u32, place: usize, list: &mut [u32]) -> usize
     ensures { Put points place list.old result list.new }
 {
-    put_small_mesh(points, place, list)
+    match put_small_mesh(points, place, list) {
+        Ok(()) => 0,
+        Err(refusal) => refusal.into(),
+    }
 }

@@ -6,6 +6,7 @@ use accept_numbers::{VERDICT, put_verdict, short_verdict};
 use accept_refusals::Stated;
 use verdicts::accept;
 
+// Kept (1): C takes the answer as a number.
 // The number of the refusal is returned, 0 where there is a verdict.
 // Then its numbers come to the front of the answer; a refusal leaves the answer as it was.
 fn judged(

@@ -1,7 +1,7 @@
 -- Edges that a triangle on the stack need not walk: noted in its mark, and passed over.
 use mathlib.Core.Path.{◌≡◌, refl, ap, sym, ◌∙◌, subst}
 use mathlib.Core.Logic.{◌≢◌}
-use mathlib.Core.Bool.{Bool, true, false, ◌||◌, ◌&&◌, or-true, false≢true}
+use mathlib.Core.Bool.{Bool, true, false, ◌||◌, or-true, false≢true}
 use mathlib.Core.List.{List, [], ◌∷◌, foldl}
 use Prim.Native.Nat.{ℕ, ◌+◌, ◌*◌, ◌/◌, ◌%◌, ◌≤◌, ◌<◌}
 use native.Mathlib.Omega.{arith}
@@ -11,7 +11,7 @@ use borrow.Author.Tests.{eq-eqb, ne_eqb}
 use Rattle.rings.proofs.Lists.{Same, same, differ, decide}
 use Rattle.definition.specs.Lists.{any, filter}
 use Rattle.definition.specs.Plane.{Edge}
-use Rattle.definition.specs.Cells.{Tri, tri, Live, Mesh, live_tri, new_live, in_slot, key, owns, owners, tri_has}
+use Rattle.definition.specs.Cells.{Tri, tri, Live, Mesh, new_live, in_slot, key, owns, owners, tri_has}
 use Rattle.definition.specs.Candidates.{on_top, shared_by_tris}
 use Rattle.laws.specs.Lists.{stored_kept, filter_yes, filter_no}
 use Rattle.laws.specs.Frames.{on, off}
@@ -19,7 +19,7 @@ use Rattle.laws.specs.Cells.{key_swap}
 use Rattle.cells.specs.Layout.{list_at, stack_at}
 use Rattle.cells.specs.Rep.{Has, here, there, TriIn, slots}
 use Rattle.cells.proofs.Edges.{tri_side}
-use Rattle.cells.proofs.Slots.{rep_held, tri_held, owner_live, slots_length}
+use Rattle.cells.proofs.Slots.{rep_held, owner_live}
 use Rattle.live_regions.specs.Stack.{rev, listed, Mark, Behind, Passed, Told, Adds, Scratch, Hold, PushTo, CanPush, CanPass, Pair, CanNote, EdgeTo}
 use Rattle.live_regions.proofs.Lists.{visited_out, behind_pushed}
 use Rattle.live_regions.proofs.Scratches.{scratch_refl, scratch_mark, scratch_rep, ring_set, noted_kept, known_set}

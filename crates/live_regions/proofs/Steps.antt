@@ -7,6 +7,7 @@ use mathlib.Core.Option.{none, some}
 use Prim.Native.Nat.{ℕ, zero, suc, ◌+◌, ◌≤◌, ◌<◌}
 use native.Mathlib.Omega.{arith}
 use lib.Dec.{eqb}
+use Rattle.std.proofs.Common.{Some, None, ◌⊎◌, inl, inr}
 use lib.ListN.{length, get_or, length-append}
 use borrow.Author.Tests.{ne_eqb}
 use lib.Ieee.{Float}
@@ -28,7 +29,7 @@ use Rattle.cells.proofs.Frames.{rep_under}
 use Rattle.cells.proofs.Members.{Lookup, absent, present, lookup}
 use Rattle.plane.specs.Points.{Within, node_of}
 use Rattle.live_regions.specs.Walls.{wall_mark}
-use Rattle.live_regions.specs.Stack.{listed, top_or, Scratch, Hold, Met, PushTo, CanPushAll, TakeTo, CanList, StepTo, StepFrom, LiveTo}
+use Rattle.live_regions.specs.Stack.{listed, top_of, Scratch, Hold, Met, PushTo, CanPushAll, TakeTo, CanList, StepTo, StepFrom, LiveTo}
 use Rattle.live_regions.specs.Visit.{out_after, stack_after}
 use Rattle.live_regions.proofs.Lists.{listed_out, listed_first, visited_out, on_top_other}
 use Rattle.live_regions.proofs.Scratches.{scratch_trans, scratch_under}
@@ -208,8 +209,8 @@ pub region_flat : (m : Mesh) (seed : ℕ) (o : Node) (r : Float) → live_region
 unfolding live_region
 region_flat m seed o r = from_flat m.used m o r [] [] (seed_stack (cell_of m seed))
 
--- after k visits j is on top; `total` is what all visits give
-pub record Living (w₀ w : List ℕ) (s p n k j : ℕ) (m : Mesh) (o : Node) (r : Float) (total : List Live) : Type 0 where
+-- after k visits; `total` is what all visits give
+pub record Living (w₀ w : List ℕ) (s p n k : ℕ) (m : Mesh) (o : Node) (r : Float) (total : List Live) : Type 0 where
   pub fuel : ℕ
   pub out : List Live
   pub seen : List Live
@@ -218,14 +219,12 @@ pub record Living (w₀ w : List ℕ) (s p n k j : ℕ) (m : Mesh) (o : Node) (r
   pub scratch : Scratch w₀ w s p
   pub len : n ≡ length out
   pub count : k ≡ length seen
-  pub top : j ≡ top_or s st
   pub enough : fuel + k ≡ m.used
   pub same : total ≡ live_region_from fuel m o r out seen st
 
-pub living_start : (w₀ w : List ℕ) (s p j seed : ℕ) (m : Mesh) (o : Node) (r : Float) → PushTo w₀ w s p m [] [] (seed_stack (cell_of m seed)) → j ≡ top_or s (seed_stack (cell_of m seed))
-    → Living w₀ w s p 0 0 j m o r (live_region m seed o r)
+pub living_start : (w₀ w : List ℕ) (s p seed : ℕ) (m : Mesh) (o : Node) (r : Float) → PushTo w₀ w s p m [] [] (seed_stack (cell_of m seed)) → Living w₀ w s p 0 0 m o r (live_region m seed o r)
 unfolding live_region
-living_start w₀ w s p j seed m o r h t =
+living_start w₀ w s p seed m o r h =
     record {
       fuel = m.used;
       out = [];
@@ -235,7 +234,6 @@ living_start w₀ w s p j seed m o r h t =
       scratch = h.scratch;
       len = refl;
       count = refl;
-      top = t;
       enough = omega arith;
       same = refl;
     }
@@ -252,51 +250,58 @@ pub record Pop (w : List ℕ) (s p n k j : ℕ) (m : Mesh) (o : Node) (r : Float
   pub enough : fuel + (k + 1) ≡ m.used
   pub same : total ≡ live_region_from fuel m o r (out_after (in_reach m o r y.cell) out y) (y ∷ seen) (stack_after (in_reach m o r y.cell) m seen st y)
 
-module _ (w₀ w : List ℕ) (s p n k j : ℕ) (m : Mesh) (o : Node) (r : Float) (total : List Live) where
-  pop_at : (fuel : ℕ) (out seen st : List Live) → Hold w s p m out seen st → n ≡ length out → k ≡ length seen → j ≡ top_or s st → fuel + k ≡ m.used
-      → total ≡ live_region_from fuel m o r out seen st → j < s → Pop w s p n k j m o r total
-  pop_at fuel out seen [] h l c t e f q = absurd (omega arith)
-  pop_at zero out seen (y ∷ st) h l c t e f q =
-      let z : StepFrom w s p n j m out seen st y = record { top = record { hold = h; slot = t; inside = q }; len = l } in
-      absurd (omega (arith, seen_few w s p n j m out seen st y z))
-  pop_at (suc u) out seen (y ∷ st) h l c t e f q =
+module _ (w₀ w : List ℕ) (s p n k : ℕ) (m : Mesh) (o : Node) (r : Float) (total : List Live) where
+  -- the slot on top is one of the mesh
+  top_at : (j : ℕ) (out seen : List Live) (y : Live) (st : List Live) → Hold w s p m out seen (y ∷ st) → n ≡ length out → Some j ≡ top_of (y ∷ st) → StepFrom w s p n j m out seen st y
+  top_at j out seen y st h l t =
+      let e : j ≡ y.slot = cc in
+      record { top = record { hold = h; slot = e; inside = omega (arith, (rep_held w s p m h.rep h.stack.0).inside, h.rep.used) }; len = l }
+
+  pop_at : (j fuel : ℕ) (out seen st : List Live) → Hold w s p m out seen st → n ≡ length out → k ≡ length seen → Some j ≡ top_of st → fuel + k ≡ m.used
+      → total ≡ live_region_from fuel m o r out seen st → Pop w s p n k j m o r total
+  pop_at j fuel out seen [] h l c t e f = cc
+  pop_at j zero out seen (y ∷ st) h l c t e f =
+      absurd (omega (arith, seen_few w s p n j m out seen st y (top_at j out seen y st h l t)))
+  pop_at j (suc u) out seen (y ∷ st) h l c t e f =
       record {
         fuel = u;
         out = out;
         seen = seen;
         st = st;
         y = y;
-        from = record { top = record { hold = h; slot = t; inside = q }; len = l };
+        from = top_at j out seen y st h l t;
         count = c;
         enough = omega arith;
         same = f ∙ one_visit u m o r out seen st y;
       }
 
-  end_at : (fuel : ℕ) (out seen st : List Live) → Hold w s p m out seen st → Scratch w₀ w s p → n ≡ length out → j ≡ top_or s st
-      → total ≡ live_region_from fuel m o r out seen st → s ≤ j → LiveTo w₀ w s p n m total
+  end_at : (fuel : ℕ) (out seen st : List Live) → Hold w s p m out seen st → Scratch w₀ w s p → n ≡ length out → (None ≡ top_of st) ⊎ (fuel ≡ 0)
+      → total ≡ live_region_from fuel m o r out seen st → LiveTo w₀ w s p n m total
   unfolding live_region_from
-  end_at zero out seen st h u l t f q =
+  end_at zero out seen st h u l t f =
       subst (λ (z : List Live). LiveTo w₀ w s p n m z) (sym f) (record { len = l; few = omega (arith, l, few_out w s p m out seen st h); stored = h.stored; inner = h.inner; noted = h.noted; scratch = u })
-  end_at (suc v) out seen [] h u l t f q =
+  end_at (suc v) out seen [] h u l t f =
       subst (λ (z : List Live). LiveTo w₀ w s p n m z) (sym f) (record { len = l; few = omega (arith, l, few_out w s p m out seen [] h); stored = h.stored; inner = h.inner; noted = h.noted; scratch = u })
-  end_at (suc v) out seen (y ∷ st) h u l t f q = absurd (omega (arith, (rep_held w s p m h.rep h.stack.0).inside, h.rep.used, t))
+  end_at (suc v) out seen (y ∷ st) h u l (inl t) f = cc
+  end_at (suc v) out seen (y ∷ st) h u l (inr t) f = cc
 
-  module _ (g : Living w₀ w s p n k j m o r total) where
-    pub living_end : s ≤ j → LiveTo w₀ w s p n m total
-    living_end q = end_at g.fuel g.out g.seen g.st g.hold g.scratch g.len g.top g.same q
+  module _ (g : Living w₀ w s p n k m o r total) where
+    -- nothing is on the stack
+    pub living_end : None ≡ top_of g.st → LiveTo w₀ w s p n m total
+    living_end q = end_at g.fuel g.out g.seen g.st g.hold g.scratch g.len (inl q) g.same
 
-    module _ (q : j < s) where
+    -- every slot was visited
+    pub living_all : s ≤ k → LiveTo w₀ w s p n m total
+    living_all q = end_at g.fuel g.out g.seen g.st g.hold g.scratch g.len (inr (omega (arith, g.enough, g.hold.rep.used))) g.same
+
+    module _ (j : ℕ) (q : Some j ≡ top_of g.st) where
       pub living_pop : Pop w s p n k j m o r total
-      living_pop = pop_at g.fuel g.out g.seen g.st g.hold g.len g.count g.top g.enough g.same q
+      living_pop = pop_at j g.fuel g.out g.seen g.st g.hold g.len g.count q g.enough g.same
 
-      pub living_few : k < s
-      living_few = omega (arith, living_pop.enough, g.hold.rep.used)
-
-      pub living_on : (w' : List ℕ) (n' j' : ℕ)
+      pub living_on : (w' : List ℕ) (n' : ℕ)
           → StepTo w w' s p n' m (out_after (in_reach m o r living_pop.y.cell) living_pop.out living_pop.y) (living_pop.y ∷ living_pop.seen)
-          (stack_after (in_reach m o r living_pop.y.cell) m living_pop.seen living_pop.st living_pop.y)
-          → j' ≡ top_or s (stack_after (in_reach m o r living_pop.y.cell) m living_pop.seen living_pop.st living_pop.y) → Living w₀ w' s p n' (k + 1) j' m o r total
-      living_on w' n' j' f t =
+          (stack_after (in_reach m o r living_pop.y.cell) m living_pop.seen living_pop.st living_pop.y) → Living w₀ w' s p n' (k + 1) m o r total
+      living_on w' n' f =
           let o' = living_pop in
           record {
             fuel = o'.fuel;
@@ -307,7 +312,6 @@ module _ (w₀ w : List ℕ) (s p n k j : ℕ) (m : Mesh) (o : Node) (r : Float)
             scratch = scratch_trans w₀ w w' s p g.scratch f.to.scratch;
             len = f.len;
             count = omega (arith, o'.count);
-            top = t;
             enough = o'.enough;
             same = o'.same;
           }

@@ -3,9 +3,10 @@ use mathlib.Core.Path.{◌≡◌, refl, ap, sym, ◌∙◌, subst}
 use mathlib.Core.Logic.{◌≢◌}
 use mathlib.Core.Bool.{true, false, ◌||◌}
 use mathlib.Core.List.{List, [], ◌∷◌, ◌++◌}
-use Prim.Native.Nat.{ℕ, zero, ◌+◌, ◌*◌, ◌≤◌, ◌<◌}
+use Prim.Native.Nat.{ℕ, ◌+◌, ◌*◌, ◌≤◌, ◌<◌}
 use native.Mathlib.Omega.{arith}
 use lib.Dec.{eqb}
+use Rattle.std.proofs.Common.{Some, None}
 use lib.ListN.{length, get_or, set, length-set, length-append}
 use borrow.Author.Tests.{eq-eqb, ne_eqb}
 use Rattle.rings.specs.Rings.{Out, Ring, without, UnlinkedFrom, CanUnlink}
@@ -18,7 +19,7 @@ use Rattle.cells.specs.Layout.{list_at, stack_at, all_end}
 use Rattle.cells.specs.Rep.{Rep, TriIn, slots}
 use Rattle.cells.proofs.Corners.{out_right, slots_append}
 use Rattle.cells.proofs.Slots.{rep_held, slots_length}
-use Rattle.live_regions.specs.Stack.{rev, listed, Mark, top_or, Scratch, Hold, PushTo, OnTop, TakeTo, CanList, Unmarked}
+use Rattle.live_regions.specs.Stack.{rev, listed, Mark, top_or, top_of, Scratch, Hold, PushTo, OnTop, TakeTo, CanList, Unmarked}
 use Rattle.live_regions.proofs.Lists.{out_unrev, distinct_last, without_last, listed_out, inner_snoc, fresh_more, visited_out, visited_more, visited_snoc, told_more}
 use Rattle.live_regions.proofs.Scratches.{scratch_trans, scratch_mark, scratch_list, scratch_above, scratch_ring, scratch_rep, ring_set, can_unlink_in, ring_last, noted_kept, noted_snoc, known_more, known_set}
 use Rattle.live_regions.proofs.Pushes.{few_out}
@@ -29,6 +30,15 @@ use Rattle.live_regions.proofs.Steps.{tri_top}
 pub top_is : (w : List ℕ) (s p : ℕ) (m : Mesh) (out seen st : List Live) → Hold w s p m out seen st → get_or w (58 * s + 8 * p + (s + 1) + s) 0 ≡ top_or s st
 top_is w s p m out seen [] h = h.ring.linked.1
 top_is w s p m out seen (x ∷ st) h = ring_last w (stack_at s p) (s + 1) s (rev (slots st)) x.slot h.ring
+
+-- the number there is that of a slot where the stack has a top, and only there
+pub top_some : (w : List ℕ) (s p i : ℕ) (m : Mesh) (out seen st : List Live) → Hold w s p m out seen st → i ≡ get_or w (58 * s + 8 * p + (s + 1) + s) 0 → i < s → Some i ≡ top_of st
+top_some w s p i m out seen [] h e q = absurd (omega (arith, top_is w s p m out seen [] h))
+top_some w s p i m out seen (x ∷ st) h e q = ap (λ (k : ℕ). Some k) (e ∙ top_is w s p m out seen (x ∷ st) h)
+
+pub top_none : (w : List ℕ) (s p i : ℕ) (m : Mesh) (out seen st : List Live) → Hold w s p m out seen st → i ≡ get_or w (58 * s + 8 * p + (s + 1) + s) 0 → s ≤ i → None ≡ top_of st
+top_none w s p i m out seen [] h e q = refl
+top_none w s p i m out seen (x ∷ st) h e q = absurd (omega (arith, top_is w s p m out seen (x ∷ st) h, (rep_held w s p m h.rep h.stack.0).inside, h.rep.used))
 
 module _ (w : List ℕ) (s p i : ℕ) (m : Mesh) (out seen st : List Live) (x : Live) (h : OnTop w s p i m out seen st x) where
   pub top_can : CanUnlink w (stack_at s p) (s + 1) i

@@ -1,9 +1,8 @@
 -- Two triangles by the tally of the owners, and the mark that tells walls.
 use mathlib.Core.Path.{◌≡◌, refl, ap, sym, ◌∙◌}
-use mathlib.Core.Logic.{◌≢◌}
 use mathlib.Core.Bool.{Bool, true, false, ◌&&◌}
 use mathlib.Core.List.{List, [], ◌∷◌}
-use Prim.Native.Nat.{ℕ, zero, suc, ◌+◌, ◌≤◌, ◌<◌}
+use Prim.Native.Nat.{ℕ, ◌+◌, ◌≤◌, ◌<◌}
 use native.Mathlib.Omega.{arith}
 use lib.Dec.{eqb}
 use lib.ListN.{length}
@@ -59,12 +58,6 @@ two_tally (x ∷ y ∷ z ∷ l) = rw (ne_eqb (length (x ∷ y ∷ z ∷ l)) 2 (�
 pub shared_tally : (m : Mesh) (e : Edge) → shared_by_tris m e ≡ eqb (tally 0 (owners m e)) 2
 unfolding shared_by_tris tri_owners tris_two
 shared_tally m e = two_tally (owners m e)
-
--- one more, by what was found
-pub tally_third : (k : ℕ) → k ≢ 0 → k ≢ 1 → 3 ≡ tally_with true k
-tally_third zero n o = absurd (n refl)
-tally_third (suc zero) n o = absurd (o refl)
-tally_third (suc (suc k)) n o = refl
 
 pub counted_few : (b : Bool) (k : ℕ) → counted b k ≤ k
 counted_few true k = omega arith

@@ -5,7 +5,6 @@ use Rattle.std.specs.Float.Ieee.{fits}
 use Rattle.definition.specs.Floats.{◌⊕◌, ◌⊗◌, ◌≺◌}
 use Rattle.definition.specs.Root.{sqrt}
 use Rattle.definition.specs.Plane.{Vec}
-use Rattle.live_regions.specs.declared.reach.Squares.{Squares}
 
 -- the square of a vector's length, whose root is the length
 abbrev pub square : Vec → Float
@@ -18,8 +17,3 @@ WithinReach r x = (z : Float) → fits binary64 z ≡ true → (z ≺ x) ≡ tru
 -- what is beyond x has a root beyond r
 abbrev pub BeyondReach : Float → Float → Type 0
 BeyondReach r x = (z : Float) → fits binary64 z ≡ true → (x ≺ z) ≡ true → (r ≺ sqrt z) ≡ true
-
--- the two squares tell so
-pub record Tell (r : Float) (t : Squares) : Type 0 where
-  pub near : WithinReach r t.near
-  pub far : BeyondReach r t.far

@@ -1,6 +1,6 @@
 -- The live region in hand: a mark for each slot, the list of the cells in reach,
 -- and the stack as a ring of s + 1 codes with the sentinel s.
-use Rattle.std.specs.Prelude.{◌≡◌, Bool, true, false, ◌||◌, ℕ, ◌+◌, ◌/◌, ◌%◌, ◌^◌, ◌<◌, ◌≤◌, eqb, length, get_or, Float}
+use Rattle.std.specs.Prelude.{◌≡◌, Bool, true, false, ◌||◌, ℕ, ◌+◌, ◌/◌, ◌%◌, ◌^◌, ◌<◌, ◌≤◌, eqb, length, get_or, Float, Option, Some, None}
 use mathlib.Core.List.{List, [], ◌∷◌, ◌++◌, foldl}
 use Rattle.rings.specs.Rings.{Out, Distinct, Below, Ring}
 use Rattle.definition.specs.Lists.{any}
@@ -71,6 +71,11 @@ Fresh seen (x ∷ l) = (listed x.slot seen ≡ false) × Fresh seen l
 abbrev pub top_or : ℕ → List Live → ℕ
 top_or n [] = n
 top_or n (x ∷ st) = x.slot
+
+-- the slot on top, if there is one
+abbrev pub top_of : List Live → Option ℕ
+top_of [] = None
+top_of (x ∷ st) = Some x.slot
 
 -- nothing changed but marks, list and stack
 pub record Scratch (w w' : List ℕ) (s p : ℕ) : Type 0 where

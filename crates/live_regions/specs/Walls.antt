@@ -1,6 +1,8 @@
 -- The walls of a triangle: its edges that two triangles do not share.
 use Rattle.std.specs.Prelude.{Bool, true, false, List, [], ◌∷◌, ℕ, zero, suc, ◌+◌, ◌*◌}
 use Rattle.definition.specs.Plane.{Edge}
+use Rattle.live_regions.specs.declared.stack.Tally.{Tally}
+use Rattle.live_regions.specs.declared.stack.Tally.TheVariants.{None, One, Two, Other}
 use Rattle.definition.specs.Cells.{Live, Mesh, edges, live_tri}
 use Rattle.definition.specs.Candidates.{shared_by_tris}
 
@@ -27,6 +29,13 @@ tally_with true zero = 1
 tally_with true (suc zero) = 2
 tally_with true (suc (suc k)) = 3
 tally_with false k = 3
+
+-- a tally as such a number
+abbrev pub number_of : Tally → ℕ
+number_of None = 0
+number_of One = 1
+number_of Two = 2
+number_of Other = 3
 
 -- the tally k with all of a list
 abbrev pub tally : ℕ → List Live → ℕ

@@ -1,9 +1,14 @@
 // What the square of a distance tells of a reach, so that the root need not be taken.
-ghost use Rattle.std.specs.Prelude.{◌≡◌};
+ghost use Rattle.std.specs.Prelude.{◌≡◌, not};
+ghost use Rattle.std.proofs.Props.{props};
+ghost use Rattle.definition.specs.Floats.{◌≺◌};
+ghost use Rattle.definition.specs.Plane.{flat, dist};
+ghost use Rattle.plane.specs.Points.{node};
 ghost use Rattle.plane.specs.Vectors.{vec};
-ghost use Rattle.live_regions.specs.Squares.{square, WithinReach, BeyondReach, Tell};
+ghost use Rattle.live_regions.specs.Squares.{square, WithinReach, BeyondReach};
 
-use plane::vectors::{Vec, norm};
+use plane::points::Spot;
+use plane::vectors::{Vec, between, norm};
 
 // A distance is tried as beyond the reach at this many times the reach.
 const FARTHER: f64 = 1.001;
@@ -11,11 +16,16 @@ const FARTHER: f64 = 1.001;
 // A distance is tried as not beyond the reach at this many times the reach.
 const NEARER: f64 = 0.999;
 
-// A distance is not beyond the reach where its square is below `near`, and is where its square is beyond `far`.
+// What is not farther than r from the point `at`.
+// A distance is not beyond r where its square is below `near`, and is where its square is beyond `far`.
 #[derive(Clone, Copy)]
-pub struct Squares {
+pub struct Reach {
+    pub at: Spot,
+    pub r: f64,
     pub near: f64,
     pub far: f64,
+    ghost near_within: { WithinReach r near } by { Prim.hlevel props },
+    ghost far_beyond: { BeyondReach r far } by { Prim.hlevel props },
 }
 
 // The square of a vector's length, whose root is the length.
@@ -26,6 +36,7 @@ pub fn square(d: Vec) -> f64
 }
 
 // A number below which no square is that of a distance beyond r; minus infinity where none is found.
+// Kept (1): minus infinity is such a number, below which nothing is, so one test serves; an Option is a second test.
 fn near_square(r: f64) -> f64
     ensures { WithinReach r result }
 {
@@ -40,6 +51,7 @@ fn near_square(r: f64) -> f64
 }
 
 // A number beyond which each square is that of a distance beyond r; infinity where none is found.
+// Kept (1): infinity is such a number, beyond which nothing is, so one test serves; an Option is a second test.
 pub fn far_square(r: f64) -> f64
     ensures { BeyondReach r result }
 {
@@ -53,12 +65,30 @@ pub fn far_square(r: f64) -> f64
     1.0 / 0.0
 }
 
-// What the squares of distances tell of the reach r.
-pub fn telling(r: f64) -> Squares
-    ensures { Tell r result }
-{
-    Squares {
-        near: near_square(r),
-        far: far_square(r),
+impl Reach {
+    pub fn new(at: Spot, r: f64) -> Reach
+        ensures { (result.at ≡ at) × (result.r ≡ r) }
+    {
+        Reach {
+            at,
+            r,
+            near: near_square(r),
+            far: far_square(r),
+        }
+    }
+
+    // The point o is not farther; the root is taken only where the squares do not tell.
+    pub fn has(self, o: Spot) -> bool
+        ensures { result ≡ not (self.r ≺ dist (node o) (node self.at)) }
+    {
+        let d = between(self.at, o);
+        let z = square(d);
+        if z < self.near {
+            return true;
+        }
+        if z > self.far {
+            return false;
+        }
+        !(norm(d) > self.r)
     }
 }

@@ -1,4 +1,4 @@
--- Words filled, and edges linked to the lists of their ends.
+-- Edges linked to the lists of their ends.
 use Rattle.std.specs.Prelude.{◌≡◌, ◌≢◌, ◌||◌, ◌+◌, ◌-◌, ◌*◌, ◌<◌, ◌≤◌}
 use Rattle.laws.specs.Kit.{refl, sym, ◌∙◌, ap, subst, Bool, true, false, ℕ, suc, arith, eqb, eq-eqb, ne_eqb, List, length, get_or, set, length-set}
 use native.Mathlib.Numerals.{add-one}
@@ -15,24 +15,6 @@ use Rattle.loops.specs.Trace.{seek}
 use Rattle.loops.specs.Link.{Filled, CanLink, linked, Linking, LinkTo, ListTo}
 use Rattle.loops.proofs.Places.{front_kept}
 use Rattle.loops.proofs.Unused.{seek_hit, seek_miss, seek_end}
-
--- ---- filled words
-
-pub fill_start : (w : List ℕ) (a x : ℕ) → Filled w w a 0 x
-fill_start w a x = record { len = refl; inside = λ i h. absurd (omega (arith, h)); low = λ i h. refl; high = λ i h. refl }
-
-pub fill_more : (w₀ w : List ℕ) (a i x : ℕ) → a + i < length w₀ → Filled w₀ w a i x → Filled w₀ (set w (a + i) x) a (i + 1) x
-fill_more w₀ w a i x h f =
-    record {
-      len = simp length-set f.len;
-      inside = λ j k. go j k (decide j i);
-      low = λ j k. off w (a + i) x j (omega arith) ∙ f.low j k;
-      high = λ j k. off w (a + i) x j (omega arith) ∙ f.high j (omega arith);
-    }
-  where
-    go : (j : ℕ) → j < i + 1 → Same j i → get_or (set w (a + i) x) (a + j) 0 ≡ x
-    go j k (same e) = ap (λ (y : ℕ). get_or (set w (a + i) x) (a + y) 0) e ∙ on w (a + i) x (omega (arith, f.len))
-    go j k (differ e) = off w (a + i) x (a + j) (λ z. e (omega (arith, z))) ∙ f.inside j (omega arith)
 
 -- ---- one edge linked
 

@@ -1,7 +1,6 @@
 -- Loop after loop: those that are kept stand first, and the next comes behind them.
 use Rattle.std.specs.Prelude.{◌≡◌, ◌+◌, ◌*◌, ◌<◌, ◌≤◌, ◌∷◌, ◌++◌}
 use Rattle.laws.specs.Kit.{refl, sym, ◌∙◌, ap, subst, inl, inr, true, false, ℕ, zero, suc, arith, dec_lt, List, [], append_assoc, length, get_or, length-append, Float}
-use Rattle.rings.proofs.Lists.{Same, same, differ, decide}
 use Rattle.definition.specs.Lists.{filter, concat, flat_map}
 use Rattle.definition.specs.Plane.{Node, Edge}
 use Rattle.definition.specs.Cells.{Mesh}
@@ -18,7 +17,7 @@ use Rattle.edges.specs.Kept.{edge_same, loops_kept, loops_last}
 use Rattle.loops.specs.Link.{Clear, ListTo}
 use Rattle.loops.specs.Sift.{some_open, Blocked, open_loops, CanSift, SiftedTo}
 use Rattle.loops.specs.Keep.{CanKeep, KeepTo}
-use Rattle.loops.specs.Trace.{fresh, unused, Ready, CanTrace, walk_of, TraceTo, CanNext, NextTo}
+use Rattle.loops.specs.Trace.{fresh, unused, Ready, CanTrace, walk_of, TraceTo}
 use Rattle.loops.proofs.Unused.{unused_hit, unused_none, unused_past, unused_all, behind}
 use Rattle.loops.proofs.Paths.{walk_edges, loops_none, loops_more, loops_edges}
 
@@ -48,7 +47,7 @@ pub record Standing (w : List ℕ) (f : List Float) (s p k b j : ℕ) (ps : List
   pub places : (i : ℕ) → i < b → get_or w (order_at s p + i) 0 < k
   pub sums : Measured f s p j ps ls
 
--- those still to come behind them are all; i is the first edge in no loop
+-- those still to come behind them are all; the edges before i are in loops
 pub record Looping (w₀ w : List ℕ) (f₀ f : List Float) (s p n k b j i : ℕ) (ps : List Node) (es bl : List Edge) : Type 0 where
   pub ls : List (List Edge)
   pub fuel : ℕ
@@ -58,16 +57,15 @@ pub record Looping (w₀ w : List ℕ) (f₀ f : List Float) (s p n k b j i : �
   pub fine : Edges n (unused w s p es 0 k)
   pub within : i ≤ k
   pub past : (x : ℕ) → x < i → fresh w s p x ≡ false
-  pub free : i < k → fresh w s p i ≡ true
   pub same : open_loops bl es ≡ ls ++ filter (some_open bl) (loops_of fuel (unused w s p es 0 k))
   pub enough : length (unused w s p es 0 k) ≤ fuel
   pub len : length w ≡ length w₀
   pub reals : length f ≡ length f₀
   pub below : (x : ℕ) → x < front_links_at s p → get_or w x 0 ≡ get_or w₀ x 0
 
-pub looping_start : {w : List ℕ} {f : List Float} {s p n k i : ℕ} {es : List Edge} (ps : List Node) (bl : List Edge) → Clear w s p n k es → NextTo w s p k 0 i → Looping w w f f s p n k 0 0 i ps es bl
+pub looping_start : {w : List ℕ} {f : List Float} {s p n k : ℕ} {es : List Edge} (ps : List Node) (bl : List Edge) → Clear w s p n k es → Looping w w f f s p n k 0 0 0 ps es bl
 unfolding concat flat_map
-looping_start {w} {f} {s} {p} {n} {k} {i} {es} ps bl t x =
+looping_start {w} {f} {s} {p} {n} {k} {es} ps bl t =
     let r = t.ready in
     let d : unused w s p es 0 k ≡ es = ap (unused w s p es 0) (sym r.front.at.len) ∙ unused_all w s p es [] es refl (λ y h. t.flags y (omega (arith, h, r.front.at.len))) in
     record {
@@ -77,9 +75,8 @@ looping_start {w} {f} {s} {p} {n} {k} {i} {es} ps bl t x =
       ready = r;
       room = omega (arith, ap length d, r.front.at.len);
       fine = subst (Edges n) (sym d) r.front.edges;
-      within = x.within;
-      past = λ y h. x.passed y (omega arith) h;
-      free = x.free;
+      within = omega arith;
+      past = λ y h. absurd (omega arith);
       same = ap (λ (l : List Edge). filter (some_open bl) (loops_of (length es) l)) (sym d);
       enough = omega (arith, ap length d);
       len = refl;
@@ -124,16 +121,35 @@ module _ {w₀ w : List ℕ} {f₀ f : List Float} {s p n k b j i : ℕ} {ps : L
         below = g.below;
       }
 
-  module _ (h : i < k) where
+  -- one more is in a loop
+  pub looping_past : i < k → fresh w s p i ≡ false → Looping w₀ w f₀ f s p n k b j (i + 1) ps es bl
+  looping_past h e =
+      record {
+        ls = g.ls;
+        fuel = g.fuel;
+        loops = g.loops;
+        ready = g.ready;
+        room = g.room;
+        fine = g.fine;
+        within = omega arith;
+        past = λ x a. elim (dec_lt x i) [ yes q ↦ g.past x q | no q ↦ let z : x ≡ i = omega arith in ap (fresh w s p) z ∙ e ];
+        same = g.same;
+        enough = g.enough;
+        len = g.len;
+        reals = g.reals;
+        below = g.below;
+      }
+
+  module _ (h : i < k) (v : fresh w s p i ≡ true) where
     left_is : unused w s p es 0 k ≡ edge_of es i ∷ unused w s p es (suc i) (behind k i h).l
     left_is =
         let m = (behind k i h).l in
         let z : 0 + i ≡ i = omega arith in
         ap (unused w s p es 0) (sym (behind k i h).sum) ∙ unused_past w s p es 0 i (suc m) (λ x c d. g.past x (omega (arith, d)))
-        ∙ ap (λ (x : ℕ). unused w s p es x (suc m)) z ∙ unused_hit w s p es i m (g.free h)
+        ∙ ap (λ (x : ℕ). unused w s p es x (suc m)) z ∙ unused_hit w s p es i m v
 
     pub looping_trace : CanTrace w s p n k b j i es
-    looping_trace = record { ready = g.ready; room = g.room; few = g.loops.few; inside = h; free = g.free h; rest = unused w s p es (suc i) (behind k i h).l; first = left_is }
+    looping_trace = record { ready = g.ready; room = g.room; few = g.loops.few; inside = h; free = v; rest = unused w s p es (suc i) (behind k i h).l; first = left_is }
 
     abbrev tr : Walk
     tr = walk_of (edge_of es i) looping_trace.rest
@@ -142,9 +158,6 @@ module _ {w₀ w : List ℕ} {f₀ f : List Float} {s p n k b j i : ℕ} {ps : L
     split = walk_edges n [] (edge_of es i) looping_trace.rest (subst (Edges n) looping_trace.first g.fine)
 
     module _ {w' : List ℕ} {r : ℕ} (t : TraceTo w w' s p n k b r j i es tr) where
-      pub looping_next : CanNext w' s p k (i + 1)
-      looping_next = record { room = t.placed.ready.front.room; few = few; within = omega arith }
-
       -- the loops before stay
       old_edge : (x : ℕ) → x < b → edge_on w' s p x ≡ edge_on w s p x
       old_edge x y = edge_same w w' s p x (t.aside.order x y) (λ z u v. t.aside.below z (omega (arith, v))) (omega (arith, g.loops.places x y, few))
@@ -242,15 +255,12 @@ module _ {w₀ w : List ℕ} {f₀ f : List Float} {s p n k b j i : ℕ} {ps : L
         | inr e ↦ let z = y.dropped e in subst (λ (x : ℕ). After f' b' x) (sym z.0) (subst (λ (x : ℕ). After f' x j) (sym z.1) (subst (λ (x : List Float). After x b j) (sym z.2) (after_dropped e)))
       ]
 
-      module _ {f' : List Float} {b' j' i' : ℕ} (len : length f' ≡ length f) (y : KeepTo f f' s p b r j b' j' ps bl tr.path g.ls) (x : NextTo w' s p k (i + 1) i') where
-        before : (z : ℕ) → z < i' → fresh w' s p z ≡ false
+      module _ {f' : List Float} {b' j' : ℕ} (len : length f' ≡ length f) (y : KeepTo f f' s p b r j b' j' ps bl tr.path g.ls) where
+        before : (z : ℕ) → z < i + 1 → fresh w' s p z ≡ false
         before z a = elim (dec_lt z i) [
           | yes q ↦ t.aside.used z (omega (arith, h, few, q)) (g.past z q)
-          | no q ↦ elim (dec_lt i z) [ yes u ↦ x.passed z (omega arith) a | no u ↦ here (omega arith) ]
+          | no q ↦ let e : z ≡ i = omega arith in ap (fresh w' s p) e ∙ t.gone
         ]
-          where
-            here : z ≡ i → fresh w' s p z ≡ false
-            here e = ap (fresh w' s p) e ∙ t.gone
 
         same_now : (u : ℕ) → g.fuel ≡ suc u → (a : After f' b' j') → open_loops bl es ≡ a.ls ++ filter (some_open bl) (loops_of u (unused w' s p es 0 k))
         same_now u e a =
@@ -259,10 +269,10 @@ module _ {w₀ w : List ℕ} {f₀ f : List Float} {s p n k b j i : ℕ} {ps : L
             ∙ ap (λ (l : List (List Edge)). g.ls ++ filter (some_open bl) l) (loops_more u (edge_of es i) looping_trace.rest ∙ ap (λ (l : List Edge). tr.path ∷ loops_of u l) (sym t.left))
             ∙ a.same (loops_of u (unused w' s p es 0 k))
 
-        pub looping_on : Looping w₀ w' f₀ f' s p n k b' j' i' ps es bl
+        pub looping_on : Looping w₀ w' f₀ f' s p n k b' j' (i + 1) ps es bl
         looping_on = go g.fuel refl (after len y)
           where
-            go : (u : ℕ) → g.fuel ≡ u → After f' b' j' → Looping w₀ w' f₀ f' s p n k b' j' i' ps es bl
+            go : (u : ℕ) → g.fuel ≡ u → After f' b' j' → Looping w₀ w' f₀ f' s p n k b' j' (i + 1) ps es bl
             go zero e a = absurd (omega (arith, g.enough, ap length looping_trace.first, e))
             go (suc u) e a =
                 record {
@@ -272,9 +282,8 @@ module _ {w₀ w : List ℕ} {f₀ f : List Float} {s p n k b j i : ℕ} {ps : L
                   ready = t.placed.ready;
                   room = omega (arith, t.placed.room, a.top);
                   fine = subst (Edges n) (sym t.left) (edges_right n tr.path tr.left split);
-                  within = x.within;
+                  within = omega arith;
                   past = before;
-                  free = x.free;
                   same = same_now u e a;
                   enough = omega (arith, t.fewer, g.enough, e);
                   len = t.aside.len ∙ g.len;
@@ -296,21 +305,3 @@ listed_sift {w} {w₀} {s = s} {p} {bl = bl} a c =
 -- from the slice before
 pub looping_to : {w w₀ w' : List ℕ} {f f' : List Float} {s p n k r b : ℕ} {ps : List Node} {es bl : List Edge} → ListTo w w₀ s p n k es → SiftedTo w₀ w' f f' s p n r b ps es bl → SiftedTo w w' f f' s p n r b ps es bl
 looping_to a b = record { loops = b.loops; sums = b.sums; len = b.len ∙ a.len; reals = b.reals; below = λ i h. b.below i h ∙ a.below i h }
-
--- ---- the next edge in no loop
-
--- the edges from i on, below x, are in loops
-pub record Passing (w : List ℕ) (s p k i x : ℕ) : Type 0 where
-  pub within : x ≤ k
-  pub from : i ≤ x
-  pub passed : (y : ℕ) → i ≤ y → y < x → fresh w s p y ≡ false
-
-pub passing_start : (w : List ℕ) (s p k i : ℕ) → i ≤ k → Passing w s p k i i
-passing_start w s p k i h = record { within = h; from = omega arith; passed = λ y a b. absurd (omega (arith, a, b)) }
-
-pub passing_on : (w : List ℕ) (s p k i x : ℕ) → Passing w s p k i x → x < k → fresh w s p x ≡ false → Passing w s p k i (x + 1)
-passing_on w s p k i x g h f = record { within = omega arith; from = omega (arith, g.from); passed = λ y a b. go y a b (decide y x) }
-  where
-    go : (y : ℕ) → i ≤ y → y < x + 1 → Same y x → fresh w s p y ≡ false
-    go y a b (same q) = ap (fresh w s p) q ∙ f
-    go y a b (differ q) = g.passed y a (omega arith)

@@ -1,5 +1,5 @@
 -- The edges in no loop, and the first edge at a node.
-use Rattle.std.specs.Prelude.{◌≡◌, ◌≢◌, ◌+◌, ◌-◌, ◌<◌, ◌≤◌, ◌∷◌, ◌++◌}
+use Rattle.std.specs.Prelude.{None, Some, ◌≡◌, ◌≢◌, ◌+◌, ◌-◌, ◌<◌, ◌≤◌, ◌∷◌, ◌++◌}
 use Rattle.laws.specs.Kit.{refl, sym, ◌∙◌, ap, subst, Bool, true, false, false≢true, ℕ, zero, suc, arith, List, [], append_assoc, length, length-append}
 use native.Mathlib.Numerals.{add-one}
 use lib.Seq.{get_or-append_seam}
@@ -11,7 +11,7 @@ use Rattle.definition.specs.Loops.{without_edge}
 use Rattle.laws.specs.Cells.{same_self}
 use Rattle.edges.specs.Stored.{Edges}
 use Rattle.edges.specs.Parts.{edge_of, edges_apart}
-use Rattle.loops.specs.Trace.{fresh, unused, seek, Ready, AtNode, Found}
+use Rattle.loops.specs.Trace.{fresh, unused, seek, Ready, AtNode, IsLeft, Found}
 use Rattle.loops.proofs.Lists.{drop_it, keep_it, without_nil, find_hit, find_miss, find_none}
 
 -- ---- one edge
@@ -183,13 +183,11 @@ pub behind : (k c : ℕ) → c < k → Behind k c
 behind k c h = record { l = k - suc c; sum = omega arith }
 
 module _ {w : List ℕ} {s p k v c : ℕ} {es : List Edge} (g : Seeking w s p k v c es) where
-  pub seeking_end : k ≤ c → Found w s p k v c es
+  pub seeking_end : k ≤ c → Found w s p k v None es
   seeking_end h =
       let e : g.more ≡ 0 = omega (arith, g.sum) in
       record {
-        within = omega (arith, g.sum);
-        hit = λ z. absurd (omega (arith, z));
-        free = λ z. absurd (omega (arith, z));
+        hit = λ y z. absurd (cc);
         miss = λ z. g.same ∙ ap (λ (j : ℕ). find (λ e. touches e v) (unused w s p es c j)) e ∙ ap (find (λ e. touches e v)) (unused_none w s p es c) ∙ find_none (λ e. touches e v);
       }
 
@@ -201,16 +199,16 @@ module _ {w : List ℕ} {s p k v c : ℕ} {es : List Edge} (g : Seeking w s p k 
     pub seeking_at : {n : ℕ} → Ready w s p n k es → AtNode w s p n k c (behind k c h).l v es
     seeking_at r = record { ready = r; sum = (behind k c h).sum; end = g.end h }
 
-    pub seeking_found : fresh w s p c ≡ true → Found w s p k v c es
+    pub seeking_found : fresh w s p c ≡ true → Found w s p k v (Some c) es
     seeking_found f =
-        record {
-          within = omega arith;
-          hit = λ z. g.same ∙ ap (λ (j : ℕ). find (λ e. touches e v) (unused w s p es c j)) behind_more
+        let here : IsLeft w s p k v c es = record {
+          inside = h;
+          hit = g.same ∙ ap (λ (j : ℕ). find (λ e. touches e v) (unused w s p es c j)) behind_more
               ∙ ap (find (λ e. touches e v)) (unused_hit w s p es c (behind k c h).l f)
               ∙ find_hit (λ e. touches e v) (edge_of es c) (unused w s p es (suc c) (behind k c h).l) (g.end h);
-          free = λ z. f;
-          miss = λ z. absurd (omega (arith, z));
-        }
+          free = f;
+        } in
+        record { hit = λ y z. let q : c ≡ y = cc in subst (λ (u : ℕ). IsLeft w s p k v u es) q here; miss = λ z. absurd (cc) }
 
     module _ {r : ℕ} (q : r ≡ seek es v (suc c) (behind k c h).l) where
       pub seeking_past : c < r

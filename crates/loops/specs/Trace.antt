@@ -1,12 +1,11 @@
 -- The loops in the making: the front's edges at each node, those that are in no loop yet, and those that are placed.
-use Rattle.std.specs.Prelude.{◌≡◌, ◌+◌, ◌*◌, ◌<◌, ◌≤◌, ◌∷◌, ◌++◌}
+use Rattle.std.specs.Prelude.{None, Some, Option as Answer, ◌≡◌, ◌+◌, ◌*◌, ◌<◌, ◌≤◌, ◌∷◌, ◌++◌}
 use Rattle.laws.specs.Kit.{Bool, true, false, cond, none, some, ℕ, zero, suc, eqb, List, [], length, get_or}
 use Rattle.definition.specs.Lists.{find}
 use Rattle.definition.specs.Plane.{Edge}
 use Rattle.definition.specs.Cells.{touches}
 use Rattle.definition.specs.Loops.{Walk, walk, far_end, without_edge}
 use Rattle.cells.specs.Layout.{front_links_at, front_used_at, order_at, starts_at, heads_at}
-use Rattle.cells.specs.Rep.{Room}
 use Rattle.edges.specs.Stored.{edges_on}
 use Rattle.edges.specs.Parts.{edge_of}
 use Rattle.loops.specs.Loop.{CanLoop}
@@ -46,12 +45,16 @@ pub record AtNode (w : List ℕ) (s p n k c l v : ℕ) (es : List Edge) : Type 0
   pub sum : c + suc l ≡ k
   pub end : touches (edge_of es c) v ≡ true
 
--- r is the first edge at v that is in no loop; k: there is none
-pub record Found (w : List ℕ) (s p k v r : ℕ) (es : List Edge) : Type 0 where
-  pub within : r ≤ k
-  pub hit : r < k → find (λ e. touches e v) (unused w s p es 0 k) ≡ some (edge_of es r)
-  pub free : r < k → fresh w s p r ≡ true
-  pub miss : k ≤ r → find (λ e. touches e v) (unused w s p es 0 k) ≡ none
+-- c is the first edge at v that is in no loop
+pub record IsLeft (w : List ℕ) (s p k v c : ℕ) (es : List Edge) : Type 0 where
+  pub inside : c < k
+  pub hit : find (λ e. touches e v) (unused w s p es 0 k) ≡ some (edge_of es c)
+  pub free : fresh w s p c ≡ true
+
+-- r is the first edge at v that is in no loop, where there is one
+pub record Found (w : List ℕ) (s p k v : ℕ) (r : Answer ℕ) (es : List Edge) : Type 0 where
+  pub hit : (c : ℕ) → r ≡ Some c → IsLeft w s p k v c es
+  pub miss : r ≡ None → find (λ e. touches e v) (unused w s p es 0 k) ≡ none
 
 -- the other end of the edge c, seen from v
 pub record FarTo (n c v r : ℕ) (es : List Edge) : Type 0 where
@@ -130,18 +133,3 @@ pub record TraceTo (w w' : List ℕ) (s p n k b r j i : ℕ) (es : List Edge) (t
   pub aside : Aside w w' s p b j
   pub gone : fresh w' s p i ≡ false
   pub more : b < r
-
--- ---- the next edge in no loop
-
--- r is the first edge in no loop, from number i on; k: there is none
-pub record NextTo (w : List ℕ) (s p k i r : ℕ) : Type 0 where
-  pub within : r ≤ k
-  pub from : i ≤ r
-  pub passed : (x : ℕ) → i ≤ x → x < r → fresh w s p x ≡ false
-  pub free : r < k → fresh w s p r ≡ true
-
--- the flags of the edges from number i on can be read
-pub record CanNext (w : List ℕ) (s p k i : ℕ) : Type 0 where
-  pub room : Room w s p
-  pub few : k ≤ 3 * s
-  pub within : i ≤ k

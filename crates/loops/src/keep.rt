@@ -11,7 +11,7 @@ ghost use Rattle.loops.specs.Sift.{some_open, Blocked};
 ghost use Rattle.loops.specs.Keep.{OpenLoop, CanMeasure, CanKeep, KeepTo};
 
 use blocked_edges::is_blocked;
-use cells::layout::{RECORDS, refused_at};
+use cells::layout::{Layout, RECORDS};
 use edges::{first_on, length_on, second_on};
 
 // How many loops and edges there are so far.
@@ -22,71 +22,67 @@ pub struct Sifted {
 }
 
 // The edge at place i is not blocked.
-fn is_open_at(w: &[u32], s: usize, p: usize, i: usize) -> bool
-    requires { (bl : List Edge) × Place w.now s p i × IsEdge p (edge_on w.now s p i) × Blocked w.now s p bl }
-    ensures { (bl : List Edge) → Blocked w.now s p bl → result ≡ not (has_edge_in bl (edge_on w.now s p i)) }
+fn is_open_at(w: &[u32], lay: Layout, i: usize) -> bool
+    requires { (bl : List Edge) × Place w.now lay.slots lay.points i × IsEdge lay.points (edge_on w.now lay.slots lay.points i) × Blocked w.now lay.slots lay.points bl }
+    ensures { (bl : List Edge) → Blocked w.now lay.slots lay.points bl → result ≡ not (has_edge_in bl (edge_on w.now lay.slots lay.points i)) }
 {
-    let u = first_on(w, s, p, i);
-    let v = second_on(w, s, p, i);
-    let b = refused_at(s, p);
-    !is_blocked(w, b, RECORDS * s, p, u, v)
+    let u = first_on(w, lay, i);
+    let v = second_on(w, lay, i);
+    let b = lay.refused_at();
+    !is_blocked(w, b, RECORDS * lay.slots, lay.points, u, v)
 }
 
 // Some edge at the places from b to e is not blocked.
-fn any_open(w: &[u32], s: usize, p: usize, b: usize, e: usize) -> bool
-    requires { (n : ℕ) × (bl : List Edge) × (l : List Edge) × OpenLoop w.now s p b e n bl l }
-    ensures { (n : ℕ) (bl l : List Edge) → OpenLoop w.now s p b e n bl l → result ≡ some_open bl l }
+fn any_open(w: &[u32], lay: Layout, b: usize, e: usize) -> bool
+    requires { (n : ℕ) × (bl : List Edge) × (l : List Edge) × OpenLoop w.now lay.slots lay.points b e n bl l }
+    ensures { (n : ℕ) (bl l : List Edge) → OpenLoop w.now lay.slots lay.points b e n bl l → result ≡ some_open bl l }
 {
-    let mut i = b;
-    while i < e {
-        if is_open_at(w, s, p, i) {
+    for i in b..e {
+        if is_open_at(w, lay, i) {
             return true;
         }
-        i += 1;
     }
     false
 }
 
 // The perimeter of the loop at the places from b to e.
-fn perimeter(w: &[u32], q: &[f64], s: usize, p: usize, b: usize, e: usize) -> f64
-    requires { (m : Mesh) × (l : List Edge) × Room w.now s p × Pts q.now p m × OnPlaces w.now s p b e (length m.points) l }
-    ensures { (m : Mesh) (l : List Edge) → Pts q.now p m → OnPlaces w.now s p b e (length m.points) l → result ≡ loop_perimeter m.points l }
+fn perimeter(w: &[u32], q: &[f64], lay: Layout, b: usize, e: usize) -> f64
+    requires { (m : Mesh) × (l : List Edge) × Room w.now lay.slots lay.points × Pts q.now lay.points m × OnPlaces w.now lay.slots lay.points b e (length m.points) l }
+    ensures { (m : Mesh) (l : List Edge) → Pts q.now lay.points m → OnPlaces w.now lay.slots lay.points b e (length m.points) l → result ≡ loop_perimeter m.points l }
 {
     let mut sum = 0.0;
-    let mut i = b;
-    while i < e {
-        sum = sum + length_on(w, q, s, p, i);
-        i += 1;
+    for i in b..e {
+        sum += length_on(w, q, lay, i);
     }
     sum
 }
 
 // The perimeter of loop j, at the places from b to e, is stored.
 // That of the first loop is stored with the second, since one loop has no order.
-fn measure(w: &[u32], q: &[f64], f: &mut [f64], s: usize, p: usize, b: usize, e: usize, j: usize)
-    requires { (m : Mesh) × (l : List Edge) × (ls : List (List Edge)) × CanMeasure w.now q.now f.old s p b e j m l ls }
-    ensures { (m : Mesh) (l : List Edge) (ls : List (List Edge)) → CanMeasure w.now q.now f.old s p b e j m l ls → Measured f.new s p (j + 1) m.points (ls ++ l ∷ []) }
+fn measure(w: &[u32], q: &[f64], f: &mut [f64], lay: Layout, b: usize, e: usize, j: usize)
+    requires { (m : Mesh) × (l : List Edge) × (ls : List (List Edge)) × CanMeasure w.now q.now f.old lay.slots lay.points b e j m l ls }
+    ensures { (m : Mesh) (l : List Edge) (ls : List (List Edge)) → CanMeasure w.now q.now f.old lay.slots lay.points b e j m l ls → Measured f.new lay.slots lay.points (j + 1) m.points (ls ++ l ∷ []) }
 {
     if j == 0 {
         return;
     }
     if j == 1 {
-        f[0] = perimeter(w, q, s, p, 0, b);
-        f[1] = perimeter(w, q, s, p, b, e);
+        f[0] = perimeter(w, q, lay, 0, b);
+        f[1] = perimeter(w, q, lay, b, e);
         return;
     }
-    f[j] = perimeter(w, q, s, p, b, e);
+    f[j] = perimeter(w, q, lay, b, e);
 }
 
 // The loop from the places behind those of x up to place e is kept where some edge of it is not blocked.
-pub fn keep(w: &[u32], q: &[f64], f: &mut [f64], s: usize, p: usize, e: usize, x: Sifted) -> Sifted
-    requires { (m : Mesh) × (bl : List Edge) × (l : List Edge) × (ls : List (List Edge)) × CanKeep w.now q.now f.old s p x.edges e x.loops m bl l ls }
-    ensures { (m : Mesh) (bl l : List Edge) (ls : List (List Edge)) → CanKeep w.now q.now f.old s p x.edges e x.loops m bl l ls → KeepTo f.old f.new s p x.edges e x.loops result.edges result.loops m.points bl l ls }
+pub fn keep(w: &[u32], q: &[f64], f: &mut [f64], lay: Layout, e: usize, x: Sifted) -> Sifted
+    requires { (m : Mesh) × (bl : List Edge) × (l : List Edge) × (ls : List (List Edge)) × CanKeep w.now q.now f.old lay.slots lay.points x.edges e x.loops m bl l ls }
+    ensures { (m : Mesh) (bl l : List Edge) (ls : List (List Edge)) → CanKeep w.now q.now f.old lay.slots lay.points x.edges e x.loops m bl l ls → KeepTo f.old f.new lay.slots lay.points x.edges e x.loops result.edges result.loops m.points bl l ls }
 {
     let b = x.edges;
     let j = x.loops;
-    if any_open(w, s, p, b, e) {
-        measure(w, q, f, s, p, b, e, j);
+    if any_open(w, lay, b, e) {
+        measure(w, q, f, lay, b, e, j);
         return Sifted {
             loops: j + 1,
             edges: e,

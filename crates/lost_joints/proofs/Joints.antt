@@ -15,8 +15,7 @@ use Rattle.balance.specs.Codes.{edge}
 use Rattle.balance.specs.Places.{Small}
 use Rattle.balance.specs.Promise.{first_fours}
 use Rattle.accept.specs.Accept.{failing}
-use Rattle.lost_joints.specs.declared.Lost.{Lost}
-use Rattle.lost_joints.specs.declared.Lost.TheVariants.{Nothing, Joint}
+use Rattle.std.specs.Prelude.{Option, None, Some}
 use Rattle.lost_joints.specs.Filed.{has_key, cell_edges, Filed}
 use Rattle.lost_joints.specs.Promise.{stands_in, Names, survives, option, Answers}
 
@@ -39,10 +38,10 @@ module _ {A : Type 0} (p : A → Bool) (f : ℕ → A) where
       let z : suc a + r ≡ a + suc r = omega arith in
       rw (h a (omega arith) (omega arith)) (first_fails (suc a) n r (omega arith) (λ i x y. h i (omega arith) (omega arith)) (ap (λ x. p (f x)) z ∙ e) ∙ ap some z)
 
-  pub named : (n : ℕ) (r : Lost) → Names (λ i. p (f i)) n r → failing p 0 (table f (below n)) ≡ option r
+  pub named : (n : ℕ) (r : Option ℕ) → Names (λ i. p (f i)) n r → failing p 0 (table f (below n)) ≡ option r
   unfolding below
-  named n Nothing h = none_fails 0 n (λ i l m. h i (omega arith))
-  named n (Joint r) h = first_fails 0 n r h.0 (λ i l m. h.2 i (omega arith)) (ap (λ x. p (f x)) (let z : 0 + r ≡ r = omega arith in z) ∙ h.1) ∙ ap some (let z : 0 + r ≡ r = omega arith in z)
+  named n None h = none_fails 0 n (λ i l m. h i (omega arith))
+  named n (Some r) h = first_fails 0 n r h.0 (λ i l m. h.2 i (omega arith)) (ap (λ x. p (f x)) (let z : 0 + r ≡ r = omega arith in z) ∙ h.1) ∙ ap some (let z : 0 + r ≡ r = omega arith in z)
 
 -- ---- one joint
 
@@ -64,9 +63,9 @@ joint_in joints i n small l =
     let b = small (2 * i + 1) (omega arith) in
     (omega arith, omega arith)
 
-same_names : (p q : ℕ → Bool) (n : ℕ) (r : Lost) → ((i : ℕ) → i < n → p i ≡ q i) → Names p n r → Names q n r
-same_names p q n Nothing e h = λ i l. sym (e i l) ∙ h i l
-same_names p q n (Joint r) e h = (h.0, sym (e r h.0) ∙ h.1, λ i l. sym (e i (let k = h.0 in omega arith)) ∙ h.2 i l)
+same_names : (p q : ℕ → Bool) (n : ℕ) (r : Option ℕ) → ((i : ℕ) → i < n → p i ≡ q i) → Names p n r → Names q n r
+same_names p q n None e h = λ i l. sym (e i l) ∙ h i l
+same_names p q n (Some r) e h = (h.0, sym (e r h.0) ∙ h.1, λ i l. sym (e i (let k = h.0 in omega arith)) ∙ h.2 i l)
 
 -- a triangle list without quads
 no_quads : (xs : List ℕ) (ys : List ℕ) (t : ℕ) → cell_edges xs 0 ys t ≡ flat_map tri_edges (first_tris t ys)
@@ -84,5 +83,5 @@ module _ (given : List ℕ) (n : ℕ) (quads : List ℕ) (q : ℕ) (left : List 
       (one.finds e.0 e.1 b.0 b.1 ∙ ap (λ es. has_edge_in es e) (no_quads given given n))
       (two.finds e.0 e.1 b.0 b.1)
 
-  pub answers : (r : Lost) → Names (λ i. stands_in (key_at w) g (key_at v) m (joint_at joints i)) k r → Answers given n quads q left t joints k r
+  pub answers : (r : Option ℕ) → Names (λ i. stands_in (key_at w) g (key_at v) m (joint_at joints i)) k r → Answers given n quads q left t joints k r
   answers r h = named (survives given n quads q left t) (joint_at joints) k r (same_names _ (λ i. survives given n quads q left t (joint_at joints i)) k r each h)

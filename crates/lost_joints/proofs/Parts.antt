@@ -10,7 +10,7 @@ use Rattle.definition.specs.Plane.{Edge}
 use Rattle.definition.specs.Call.{joint_at}
 use Rattle.sorting.specs.Places.{key_at}
 use Rattle.balance.specs.Places.{Small}
-use Rattle.lost_joints.specs.declared.Lost.{Lost}
+use Rattle.std.specs.Prelude.{Option}
 use Rattle.lost_joints.specs.Filed.{Filed}
 use Rattle.lost_joints.specs.Promise.{stands_in, Searchable, Names}
 
@@ -46,7 +46,7 @@ module _ (w first new : List ℕ) (at : ℕ) (h : at ≤ length w) (l : length f
     omega (arith, ap length front, first_long, length-take at whole),
   )
 
-  pub in_parts : (g m : ℕ) (joints : List ℕ) (n : ℕ) (r : Lost)
+  pub in_parts : (g m : ℕ) (joints : List ℕ) (n : ℕ) (r : Option ℕ)
       → Names (λ i. stands_in (key_at (take at whole)) g (key_at (drop at whole)) m (joint_at joints i)) n r
       → Names (λ i. stands_in (key_at first) g (key_at new) m (joint_at joints i)) n r
   in_parts g m joints n r = subst₂ (λ a b. Names (λ i. stands_in (key_at a) g (key_at b) m (joint_at joints i)) n r) front back

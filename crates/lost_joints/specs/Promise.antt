@@ -1,6 +1,6 @@
 -- What `lost_joint` promises.
-use Rattle.std.specs.Prelude.{◌≡◌, Bool, true, false, not, ◌||◌, List, ℕ, ◌+◌, ◌*◌, ◌≤◌, ◌<◌, length}
-use Rattle.std.proofs.Math.Option.{Option, none, some}
+use Rattle.std.specs.Prelude.{◌≡◌, Bool, true, false, not, ◌||◌, List, ℕ, ◌+◌, ◌*◌, ◌≤◌, ◌<◌, length, Option, None, Some}
+use Rattle.std.proofs.Math.Option as definition
 use Rattle.definition.specs.Lists.{flat_map, table, below}
 use Rattle.definition.specs.Plane.{Edge}
 use Rattle.definition.specs.Cells.{tri_edges, has_edge_in}
@@ -11,8 +11,6 @@ use Rattle.balance.specs.Promise.{four_at, first_fours}
 use Rattle.balance.specs.Runs.{Ordered}
 use Rattle.accept.specs.Accept.{failing, stands}
 use Rattle.accept.specs.Call.{Handed, judged, corners_at}
-use Rattle.lost_joints.specs.declared.Lost.{Lost}
-use Rattle.lost_joints.specs.declared.Lost.TheVariants.{Nothing, Joint}
 use Rattle.lost_joints.specs.Filed.{has_key, cell_edges}
 
 -- ---- by numbers
@@ -29,9 +27,9 @@ pub record Searchable (given : List ℕ) (g : ℕ) (result : List ℕ) (m : ℕ)
   pub nodes : Small joints (2 * n)
 
 -- the first i below n that fails the test
-abbrev pub Names : (ℕ → Bool) → ℕ → Lost → Type 0
-Names p n Nothing = (i : ℕ) → i < n → p i ≡ true
-Names p n (Joint r) = (r < n) × (p r ≡ false) × ((i : ℕ) → i < r → p i ≡ true)
+abbrev pub Names : (ℕ → Bool) → ℕ → Option ℕ → Type 0
+Names p n None = (i : ℕ) → i < n → p i ≡ true
+Names p n (Some r) = (r < n) × (p r ≡ false) × ((i : ℕ) → i < r → p i ≡ true)
 
 -- ---- by cells
 
@@ -51,16 +49,17 @@ pub record Readable (given : List ℕ) (n : ℕ) (quads : List ℕ) (q : ℕ) (l
   pub joints_nodes : Small joints (2 * k)
   pub work : 4 * (3 * n + 4 * q + 3 * t) ≤ length w
 
-abbrev pub option : Lost → Option ℕ
-option Nothing = none
-option (Joint i) = some i
+-- the code's answer in the definition's words
+abbrev pub option : {A : Type 0} → Option A → definition.Option A
+option None = definition.none
+option (Some x) = definition.some x
 
 -- the first of k joints that does not survive
-abbrev pub Answers : List ℕ → ℕ → List ℕ → ℕ → List ℕ → ℕ → List ℕ → ℕ → Lost → Type 0
+abbrev pub Answers : List ℕ → ℕ → List ℕ → ℕ → List ℕ → ℕ → List ℕ → ℕ → Option ℕ → Type 0
 Answers given n quads q left t joints k r = failing (survives given n quads q left t) 0 (table (joint_at joints) (below k)) ≡ option r
 
 -- It is the joint that the verdict names, of what an acceptance is handed.
-pub lost_is : (h : Handed) (r : Lost)
+pub lost_is : (h : Handed) (r : Option ℕ)
     → Answers h.triangle_slice h.count h.quad_slice h.quads h.left_slice h.left h.joint_slice h.joints r
     → failing (stands (judged h)) 0 (judged h).joints ≡ option r
 unfolding survives cell_edges stands judged first_fours four_at corners_at

@@ -7,7 +7,7 @@ ghost use Rattle.lost_joints.specs.Filed.{has_key, cell_edges, Fileable, Filed, 
 
 use balance::places::put_sides;
 use sorting::{key_at, sort_digits};
-use words::{greater, lesser, wide};
+use words::wide;
 
 // Times that the numbers, of 41 binary digits, are dealt out and back.
 const TIMES: usize = 3;
@@ -27,22 +27,14 @@ pub fn file_edges(quads: &[u32], q: usize, left: &[u32], t: usize, w: &mut [u32]
     sort_digits(w, n, TIMES);
 }
 
+// Kept (1): a place among n ascending ones, as `partition_point` has it: n is where a number above all would stand.
 // The first of n ascending places whose number is k or more; n where there is none.
 fn seek(w: &[u32], n: usize, k: usize) -> usize
     requires { Ordered w.now n }
     ensures { Sought (key_at w.now) n k result }
 {
-    let mut low = 0;
-    let mut high = n;
-    while low < high {
-        let m = low + (high - low) / 2;
-        if key_at(w, m) < k {
-            low = m + 1;
-        } else {
-            high = m;
-        }
-    }
-    low
+    let (places, _) = w[..2 * n].as_chunks::<2>();
+    places.partition_point(|p| key_at(p, 0) < k)
 }
 
 // Whether the edge between a and b is among those of n places.
@@ -50,12 +42,9 @@ pub fn has_edge(w: &[u32], n: usize, a: u32, b: u32) -> bool
     requires { Ordered w.now n × (a < 1048576) × (b < 1048576) }
     ensures { result ≡ has_key (key_at w.now) n (edge (min a b) (max a b)) }
 {
-    let u = lesser(wide(a), wide(b));
-    let v = greater(wide(a), wide(b));
+    let u = wide(a).min(wide(b));
+    let v = wide(a).max(wide(b));
     let k = 2 * (u * NODES + v);
     let i = seek(w, n, k);
-    if i < n {
-        return key_at(w, i) < k + 2;
-    }
-    false
+    i < n && key_at(w, i) < k + 2
 }

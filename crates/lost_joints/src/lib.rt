@@ -11,44 +11,39 @@ ghost use Rattle.lost_joints.specs.Promise.{stands_in, Searchable, Names, Readab
 
 use crate::filed::{file_edges, has_edge};
 
-// No joint is lost, or the first one that is.
-#[derive(Clone, Copy)]
-pub enum Lost {
-    Nothing,
-    Joint(usize),
-}
-
 // The edge between a and b is not among the given ones, or is among the result's.
 fn stands(given: &[u32], g: usize, res: &[u32], m: usize, a: u32, b: u32) -> bool
     requires { Ordered given.now g × Ordered res.now m × (a < 1048576) × (b < 1048576) }
     ensures { result ≡ stands_in (key_at given.now) g (key_at res.now) m (min a b, max a b) }
 {
-    if has_edge(given, g, a, b) {
-        return has_edge(res, m, a, b);
-    }
-    true
+    !has_edge(given, g, a, b) || has_edge(res, m, a, b)
 }
 
-// The first of n joints that does not stand.
-fn first_lost(given: &[u32], g: usize, res: &[u32], m: usize, joints: &[u32], n: usize) -> Lost
+// The first of n joints that does not stand; None where all do.
+fn first_lost(
+    given: &[u32],
+    g: usize,
+    res: &[u32],
+    m: usize,
+    joints: &[u32],
+    n: usize,
+) -> Option<usize>
     requires { Searchable given.now g res.now m joints.now n }
     ensures { Names (λ i. stands_in (key_at given.now) g (key_at res.now) m (joint_at joints.now i)) n result }
 {
-    let mut i = 0;
-    while i < n {
+    for i in 0..n {
         let a = joints[2 * i];
         let b = joints[2 * i + 1];
         if !stands(given, g, res, m, a, b) {
-            return Lost::Joint(i);
+            return Some(i);
         }
-        i += 1;
     }
-    Lost::Nothing
+    None
 }
 
 // The first of n joints that does not stand, where the given edges are filed before word `at`,
 // and the result's from there on.
-fn lost_in(w: &[u32], at: usize, g: usize, m: usize, joints: &[u32], n: usize) -> Lost
+fn lost_in(w: &[u32], at: usize, g: usize, m: usize, joints: &[u32], n: usize) -> Option<usize>
     requires { Searchable (take at w.now) g (drop at w.now) m joints.now n × (at ≤ length w.now) }
     ensures { Names (λ i. stands_in (key_at (take at w.now)) g (key_at (drop at w.now)) m (joint_at joints.now i)) n result }
 {
@@ -67,7 +62,7 @@ fn search_lost(
     joints: &[u32],
     n: usize,
     w: &mut [u32],
-) -> Lost
+) -> Option<usize>
     requires { Readable given.now count quads.now quad_count left.now left_count joints.now n w.old }
     ensures { Answers given.now count quads.now quad_count left.now left_count joints.now n result }
 {
@@ -80,6 +75,7 @@ fn search_lost(
 }
 
 // The first of n joints that is an edge of one of the first `count` given triangles, and of no cell of the result.
+// None is the answer where none is lost.
 // The work slice w has four words for each side.
 pub fn lost_joint(
     given: &[u32],
@@ -91,12 +87,12 @@ pub fn lost_joint(
     joints: &[u32],
     n: usize,
     w: &mut [u32],
-) -> Lost
+) -> Option<usize>
     requires { Readable given.now count quads.now quad_count left.now left_count joints.now n w.old }
     ensures { Answers given.now count quads.now quad_count left.now left_count joints.now n result }
 {
     if n == 0 {
-        return Lost::Nothing;
+        return None;
     }
     search_lost(
         given, count, quads, quad_count, left, left_count, joints, n, w,

@@ -11,6 +11,7 @@ use lib.ListN.{length, get_or, set, length-set, length-append, get_or-append}
 use lib.Seq.{get_or-set_same, get_or-set_other, get_or-drop, ext_get_or}
 use lib.Ieee.{Float, nan}
 use borrow.Author.Tests.{eq-eqb, ne_eqb}
+use Rattle.std.specs.Prelude.{Result, Err}
 use Rattle.definition.specs.Lists.{find, table, below}
 use Rattle.definition.specs.Floats.{0·0}
 use Rattle.definition.specs.Numbers.{max_attempts}
@@ -57,12 +58,14 @@ use Rattle.outcomes.specs.declared.Tried.{Tried}
 use Rattle.traces.specs.Log.{Logged}
 use Rattle.traces.proofs.Logs.{log_start}
 use Rattle.try_quad.specs.Tries.{CanAttempt, TriedTo}
+use Rattle.refusals.specs.declared.named.Refusal as named
+use Rattle.refusals.specs.Numbers as numbers
 use Rattle.refusals.specs.Tests.{by_thirds}
 use Rattle.refusals.specs.Refusals.{number_of, first_refusal, passed, none_holds}
 use Rattle.mesher.specs.Promise.{lent_of}
 use Rattle.mesher.specs.declared.preview.Shown.{Shown}
-use Rattle.mesher.specs.declared.preview.Shown.TheVariants as shows
 use Rattle.mesher.specs.Previews.{shown_of, born_of, cost_of, Previews}
+use Rattle.mesher.specs.Parts.{sized}
 use Rattle.mesher.specs.Showing.{shown_by, cost_by, Holds, Back, first_of, usual_rules, CanShow, CanTry}
 use Rattle.mesher.proofs.Starts.{can_build, is_new, can_run}
 
@@ -160,15 +163,15 @@ module _ (g : ℕ) (q q' : List Float) (w' : List ℕ) (rules : Rules) (c : Coun
       }
 
   stayed_by : (x : Attempt) → AttemptTo w' q q' rules c x t → PointsMore ps x → Inserts 2 x → Stayed q q' g t.counters.points
-  stayed_by (placed n m k) h w two = left_stayed n m h.2 w two
+  stayed_by (placed n m k) h w two = left_stayed n m h.1 w two
   stayed_by (refused why n m) h w two = left_stayed n m h.1 w two
   stayed_by (ended wt n m) h w two = left_stayed n m h.1 w two
 
 -- ---- what is shown
 
 module _ (t : Tried) (u v : ℕ) where
-  quad_is : (k : Quad) → Grew k t → k.edge ≡ (u, v) → k.round ≡ 1
-      → born_of (record { n0 = t.n0; n1 = t.n1; n2 = t.n2; n3 = t.n3; u = u; v = v; round = 1; replaced = t.replaced }) ≡ k
+  quad_is : (k : Quad) (h : Grew k t) → k.edge ≡ (u, v) → k.round ≡ 1
+      → born_of (record { n0 = h.placed.n0; n1 = h.placed.n1; n2 = h.placed.n2; n3 = h.placed.n3; u = u; v = v; round = 1; replaced = h.placed.replaced }) ≡ k
   unfolding born new_quad
   quad_is k h e r =
       let p = h.quad in
@@ -204,9 +207,9 @@ module _ (t : Tried) (u v : ℕ) where
       → shown_of (shown_by t.end t u v) ≡ shown x
   unfolding shown
   shown_is w' q q' rules c (placed n m k) h e r =
-      let a = quad_is k h.1 e r in
-      let b = cost_is n h.2.spent in
-      ap (λ z. shown_of (shown_by z t u v)) h.0 ∙ (λ i. defined.shown_quad (a i) (b i))
+      let a = quad_is k h.0 e r in
+      let b = cost_is n h.1.spent in
+      ap (λ z. shown_of (shown_by z t u v)) h.0.end ∙ (λ i. defined.shown_quad (a i) (b i))
   shown_is w' q q' rules c (refused why n m) h e r = refused_shown why n h.0 h.1.spent
   shown_is w' q q' rules c (ended wt n m) h e r = ended_shown wt h.0
 
@@ -258,14 +261,14 @@ module _ (a : Asked) (l : Lent) (z : first_refusal a l ≡ 0) where
     round_of (refused why n m) w = tt
     round_of (ended wt n m) w = tt
 
-    module _ (q q' : List Float) (w' : List ℕ) (c : Counters) (t : Tried) (h : AttemptTo w' q q' (usual_rules a) c (try_quad (settings a) (first_of a l) (u, v)) t) where
+    module _ (q q' : List Float) (w' : List ℕ) (c : Counters) (t : Tried) (h : AttemptTo w' q q' (usual_rules a (sized a l z)) c (try_quad (settings a) (first_of a l) (u, v)) t) where
       pub try_shown : shown_of (shown_by t.end t u v) ≡ shown (try_quad (settings a) (first_of a l) (u, v))
-      try_shown = shown_is t u v w' q q' (usual_rules a) c tried h (attempt_grown (settings a) (first_of a l) (u, v) up) (round_of tried kept)
+      try_shown = shown_is t u v w' q q' (usual_rules a (sized a l z)) c tried h (attempt_grown (settings a) (first_of a l) (u, v) up) (round_of tried kept)
 
       pub try_stayed : l.points ≡ q → Stayed q q' a.given t.counters.points
       unfolding given_points
       try_stayed e =
-          stayed_by a.given q q' w' (usual_rules a) c t (given_points a l) (ap (first_points a.given) e) (points_number a l (none_holds a l z)) tried h (more_of tried kept)
+          stayed_by a.given q q' w' (usual_rules a (sized a l z)) c t (given_points a l) (ap (first_points a.given) e) (points_number a l (none_holds a l z)) tried h (more_of tried kept)
           (at_most_two (settings a) (first_of a l) (u, v))
 
     -- ---- the front
@@ -333,14 +336,14 @@ module _ (q : List Float) (js w : List ℕ) (a : Asked) (l : Lent) (u v : ℕ) (
   unfolding given_locks given_joints new_mesh
   try_locks j k = locks_of j _ (subst (λ (y : List ℕ). Kept j (table (joint_at y) (below a.joints))) (sym h.joints) k)
 
-  pub try_can : (rules : Rules) → rules ≡ usual_rules a → (c : Counters) → (c.live ≡ a.count) × (c.used ≡ a.count) × (c.points ≡ a.given) × (c.attempts ≡ 0)
+  pub try_can : (rules : Rules) → rules ≡ usual_rules a (sized a l h.passed) → (c : Counters) → (c.live ≡ a.count) × (c.used ≡ a.count) × (c.points ≡ a.given) × (c.attempts ≡ 0)
       → CanAttempt w q rules c u v (first_of a l)
   unfolding start settings settings_within settings_of
   try_can rules e c n =
       let p = passed a l h.passed in
       let run = can_run (max_attempts a.count) 0 a l h.passed (omega arith) [] refl w c h.rep n in
       subst (λ (y : Rules). CanAttempt w q y c u v (first_of a l)) (sym e)
-      (subst (λ (y : List Float). CanAttempt w y (usual_rules a) c u v (first_of a l)) h.points
+      (subst (λ (y : List Float). CanAttempt w y (usual_rules a (sized a l h.passed)) c u v (first_of a l)) h.points
       (record { ready = run.ready; up = h.up; known = omega (arith, n.2, h.known); pairs = p.pairs }))
 
   -- nothing happened to the mesh, and no quad was placed
@@ -352,8 +355,8 @@ module _ (q : List Float) (js w : List ℕ) (a : Asked) (l : Lent) (u v : ℕ) (
   unfolding start this_round quad_cells live_quad
   try_round = ap suc (sym (start_rounds (settings a) (given_locks a l) (given_tris a l) (given_points a l)).number)
 
-  pub try_to : (rules : Rules) → rules ≡ usual_rules a → (c : Counters) (w' : List ℕ) (q' : List Float) (tr' : List ℕ) (t : Tried)
-      → TriedTo w w' q q' [] tr' rules c (try_quad (settings_of rules) (first_of a l) (u, v)) t → (c : Counters) × AttemptTo w' q q' (usual_rules a) c (try_quad (settings a) (first_of a l) (u, v)) t
+  pub try_to : (rules : Rules) → rules ≡ usual_rules a (sized a l h.passed) → (c : Counters) (w' : List ℕ) (q' : List Float) (tr' : List ℕ) (t : Tried)
+      → TriedTo w w' q q' [] tr' rules c (try_quad (settings_of rules) (first_of a l) (u, v)) t → (c : Counters) × AttemptTo w' q q' (usual_rules a (sized a l h.passed)) c (try_quad (settings a) (first_of a l) (u, v)) t
   unfolding settings settings_within settings_of
   try_to rules e c w' q' tr' t k = (c, subst (λ (y : Rules). AttemptTo w' q q' y c (try_quad (settings_of y) (first_of a l) (u, v)) t) e k.is)
 
@@ -367,9 +370,9 @@ preview_refused a l u v h = elim (known (find (λ c. c.1) (conditions a l))) [
 ]
 
 -- a refusal touches nothing
-pub refused_previews : (a : Asked) (l : Lent) (u v k : ℕ) → k ≡ first_refusal a l → k ≢ 0 → Previews (preview a l u v) (shows.Refusal k) l
-refused_previews a l u v k e h =
-    subst (λ (x : Previewed). Previews x (shows.Refusal k) l) (sym (preview_refused a l u v (λ z. h (e ∙ z)))) (record { shown = ap defined.shown_refusal e; lent = refl })
+pub refused_previews : (a : Asked) (l : Lent) (u v : ℕ) (k : named.Refusal) → numbers.number k ≡ first_refusal a l → Previews (preview a l u v) (Err k) l
+refused_previews a l u v k e =
+    subst (λ (x : Previewed). Previews x (Err k) l) (sym (preview_refused a l u v (λ z. omega (arith, e, z, numbers.number_positive k)))) (record { shown = ap defined.shown_refusal e; lent = refl })
 
 preview_shows : (a : Asked) (l : Lent) (u v : ℕ) → first_refusal a l ≡ 0 → preview a l u v ≡ record { shown = show_edge (settings a) (first_of a l) (key u v); lent = cleared l }
 unfolding preview
@@ -377,7 +380,7 @@ preview_shows a l u v z = rw (none_holds a l z, preview) refl
 
 module _ (q : List Float) (ts js qs o cs w : List ℕ) (f : List Float) where
   -- the points are as they were, and both work slices are zero
-  pub shown_previews : (a : Asked) (u v : ℕ) → first_refusal a (lent_of q ts js qs o cs w f []) ≡ 0 → (r : Shown) (q' : List Float) (w₁ w' : List ℕ) (f' : List Float)
+  pub shown_previews : (a : Asked) (u v : ℕ) → first_refusal a (lent_of q ts js qs o cs w f []) ≡ 0 → (r : Result Shown named.Refusal) (q' : List Float) (w₁ w' : List ℕ) (f' : List Float)
       → (q' ≡ q) × (shown_of r ≡ show_edge (settings a) (first_of a (lent_of q ts js qs o cs w f [])) (key u v)) → length w₁ ≡ length w → w' ≡ all_of 0 w₁ → f' ≡ all_of 0·0 f
       → Previews (preview a (lent_of q ts js qs o cs w f []) u v) r (lent_of q' ts js qs o cs w' f' [])
   unfolding cleared

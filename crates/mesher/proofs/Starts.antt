@@ -14,8 +14,12 @@ use Rattle.definition.specs.Call.{Asked, Lent, joint_at, first_points, given_poi
 use Rattle.laws.specs.Lists.{all_from}
 use Rattle.rules.specs.declared.Rules.{Rules}
 use Rattle.rules.specs.Settings.{settings_of}
-use Rattle.account.proofs.Finished.{sized, given_proper, given_within, points_number, tris_number}
+use Rattle.account.proofs.Finished.{given_proper, given_within, points_number, tris_number}
 use Rattle.joints.specs.Table.{Kept, Locks, locks_of}
+use mathlib.Core.HLevel.{is_prop→PathP}
+use Rattle.std.proofs.Math.Bridge.{le_prop}
+use Rattle.cells.specs.declared.layout.Layout.{Layout}
+use Rattle.cells.specs.Layout.{Sizes}
 use Rattle.cells.specs.Rep.{Rep, Pts}
 use Rattle.cells.specs.declared.counters.Counters.{Counters}
 use Rattle.meshes.specs.Build.{Given, IsNew, Builds, CanBuild}
@@ -24,7 +28,7 @@ use Rattle.outcomes.specs.Ready.{Small}
 use Rattle.settling.specs.declared.standing.Run.{Run}
 use Rattle.rounds.specs.Loop.{CanRun, LeftRun, RunTo}
 use Rattle.meshes.proofs.Valid.{shape_at}
-use Rattle.mesher.specs.Parts.{bucket_of, rules_of, progress_of, CanMesh}
+use Rattle.mesher.specs.Parts.{bucket_of, layout_of, sized, rules_with, rules_of, progress_of, CanMesh}
 
 -- ---- the mesh of the given triangles
 
@@ -33,13 +37,25 @@ unfolding filter in_slots live_tri is_tri new_live
 live_new n [] = refl
 live_new n (t ∷ ts) = ap suc (live_new (suc n) ts)
 
+-- ---- the layout
+
+sizes_once : {s p : ℕ} (x y : Sizes s p) → x ≡ y
+sizes_once x y = λ i. record { slots = le_prop x.slots y.slots i; points = le_prop x.points y.points i }
+
+same_layout : (a : Asked) (x : Layout) (z : Sizes a.slots a.capacity) → x.slots ≡ a.slots → x.points ≡ a.capacity → x ≡ layout_of a z
+same_layout a x z e f = λ i. record { slots = e i; points = f i; sizes = is_prop→PathP (λ j. Sizes (e j) (f j)) (λ j. sizes_once) x.sizes z i }
+
+-- the rules over a layout of the call's slots and points are those of the call
+pub same_rules : (most room : ℕ) (a : Asked) (x : Layout) (z : Sizes a.slots a.capacity) → x.slots ≡ a.slots → x.points ≡ a.capacity → rules_with most room a x (bucket_of a.size) ≡ rules_of most room a z
+same_rules most room a x z e f = ap (λ y. rules_with most room a y (bucket_of a.size)) (same_layout a x z e f)
+
 module _ (most room : ℕ) (a : Asked) (l : Lent) (h : first_refusal a l ≡ 0) where
   pub given_shapes : Given l.triangles a.count a.given
   given_shapes i k =
       let p = passed a l h in
       shape_at l.triangles a.given i (p.apart i k).d01 (p.apart i k).d02 (p.apart i k).d12 (p.known (3 * i) (omega arith)) (p.known (3 * i + 1) (omega arith)) (p.known (3 * i + 2) (omega arith))
 
-  pub small : Small (rules_of most room a)
+  pub small : Small (rules_of most room a (sized a l h))
   small = let p = passed a l h in record { slots = p.limited.slots; points = p.limited.capacity; pairs = p.pairs }
 
   -- what building it asks
@@ -56,7 +72,7 @@ module _ (most room : ℕ) (a : Asked) (l : Lent) (h : first_refusal a l ≡ 0) 
 
   -- the mesh that the run starts from
   abbrev pub first_mesh : Mesh
-  first_mesh = (start (settings_of (rules_of most room a)) (given_locks a l) (given_tris a l) (given_points a l)).mesh
+  first_mesh = (start (settings_of (rules_of most room a (sized a l h))) (given_locks a l) (given_tris a l) (given_points a l)).mesh
 
   pub is_new : IsNew first_mesh l.triangles a.count a.given
   unfolding start new_mesh given_tris
@@ -85,7 +101,7 @@ module _ (most room : ℕ) (a : Asked) (l : Lent) (h : first_refusal a l ≡ 0) 
   -- what `front_loop` asks
   pub can_run : most ≤ max_attempts a.count → (t : List ℕ) → room ≡ length t → (w' : List ℕ) (c : Counters) → Rep w' a.slots a.capacity first_mesh
       → (c.live ≡ a.count) × (c.used ≡ a.count) × (c.points ≡ a.given) × (c.attempts ≡ 0)
-      → CanRun w' l.points l.float_work l.quads t (rules_of most room a) c (given_locks a l) (given_tris a l) (given_points a l)
+      → CanRun w' l.points l.float_work l.quads t (rules_of most room a (sized a l h)) c (given_locks a l) (given_tris a l) (given_points a l)
   unfolding bad_size
   can_run usual t long w' c r n =
       let p = passed a l h in
@@ -149,7 +165,7 @@ module _ (q : List Float) (ts js qs w : List ℕ) (f : List Float) (tr : List �
   unfolding given_locks given_joints
   mesh_locks j k = locks_of j _ (subst (λ (z : List ℕ). Kept j (table (joint_at z) (below a.joints))) (sym h.joints) k)
 
-  module _ (rules : Rules) (e : rules ≡ rules_of most (length tr) a) where
+  module _ (rules : Rules) (e : rules ≡ rules_of most (length tr) a (sized a l h.passed)) where
     pub mesh_run : (w' : List ℕ) (c : Counters) → Builds w w' a.slots a.capacity ts a.count a.given
         → (c.live ≡ a.count) × (c.used ≡ a.count) × (c.points ≡ a.given) × (c.attempts ≡ 0)
         → CanRun w' q f qs tr rules c (given_locks a l) (given_tris a l) (given_points a l)
@@ -160,10 +176,10 @@ module _ (q : List Float) (ts js qs w : List ℕ) (f : List Float) (tr : List �
         let new : IsNew (first_mesh most room a l h.passed) ts a.count a.given =
         subst (λ (z : List ℕ). IsNew (first_mesh most room a l h.passed) z a.count a.given) h.triangles (is_new most room a l h.passed) in
         subst (λ (z : Rules). can q f qs tr z) (sym e)
-        (subst (λ (z : List ℕ). can q f qs z (rules_of most (length z) a)) h.trace
-        (subst (λ (z : List ℕ). can q f z l.trace (rules_of most room a)) h.quads
-        (subst (λ (z : List Float). can q z l.quads l.trace (rules_of most room a)) h.floats
-        (subst (λ (z : List Float). can z l.float_work l.quads l.trace (rules_of most room a)) h.points
+        (subst (λ (z : List ℕ). can q f qs z (rules_of most (length z) a (sized a l h.passed))) h.trace
+        (subst (λ (z : List ℕ). can q f z l.trace (rules_of most room a (sized a l h.passed))) h.quads
+        (subst (λ (z : List Float). can q z l.quads l.trace (rules_of most room a (sized a l h.passed))) h.floats
+        (subst (λ (z : List Float). can z l.float_work l.quads l.trace (rules_of most room a (sized a l h.passed))) h.points
         (can_run most room a l h.passed h.usual l.trace refl w' c (k.rep (first_mesh most room a l h.passed) new) n)))))
 
     -- the memory in which the mesh was built is as long as that lent
@@ -171,11 +187,11 @@ module _ (q : List Float) (ts js qs w : List ℕ) (f : List Float) (tr : List �
         → RunTo w₁ w' q q' f f' qs quads' tr tr' rules
         (front_loop (rules.attempts + 2) (settings_of rules) (length (given_tris a l))
         (start (settings_of rules) (given_locks a l) (given_tris a l) (given_points a l))) r
-        → RunTo w w' q q' f f' qs quads' tr tr' (rules_of most (length tr) a) (progress_of most a l) r
+        → RunTo w w' q q' f f' qs quads' tr tr' (rules_of most (length tr) a (sized a l h.passed)) (progress_of most a l) r
     unfolding settings_within settings_of rounds_of
     mesh_ran w₁ w' q' f' quads' tr' r d k =
-        run_from w₁ w w' q q' f f' qs quads' tr tr' (rules_of most (length tr) a) (progress_of most a l) r d
-        (subst (λ (z : List ℕ). RunTo w₁ w' q q' f f' qs quads' tr tr' (rules_of most (length tr) a)
+        run_from w₁ w w' q q' f f' qs quads' tr tr' (rules_of most (length tr) a (sized a l h.passed)) (progress_of most a l) r d
+        (subst (λ (z : List ℕ). RunTo w₁ w' q q' f f' qs quads' tr tr' (rules_of most (length tr) a (sized a l h.passed))
         (rounds_of (settings_within most (length z) a) (given_locks a l) (given_tris a l) (given_points a l)) r) (sym h.trace)
         (subst (λ (z : Rules). RunTo w₁ w' q q' f f' qs quads' tr tr' z
         (front_loop (z.attempts + 2) (settings_of z) (length (given_tris a l)) (start (settings_of z) (given_locks a l) (given_tris a l) (given_points a l))) r) e k))

@@ -1,9 +1,10 @@
 -- The parts of a call: the refusals, the run over its mesh, and the lists of a finished run.
-use Rattle.std.specs.Prelude.{◌≡◌, cond, List, ℕ, ◌+◌, ◌*◌, ◌≤◌, eqb, length, Float}
+use Rattle.std.specs.Prelude.{◌≡◌, refl, Ok, Err, cond, List, ℕ, ◌+◌, ◌*◌, ◌≤◌, eqb, length, Float}
+use native.Mathlib.Omega.{arith}
 use Rattle.definition.specs.Lists.{flat_map}
 use Rattle.definition.specs.Floats.{◌≺◌, 1·0}
 use Rattle.definition.specs.Numbers.{max_attempts, tiny_size}
-use Rattle.definition.specs.Counts.{no_counts}
+use Rattle.definition.specs.Counts.{no_counts, tally}
 use Rattle.definition.specs.Cells.{Mesh, tri_nodes, triangles}
 use Rattle.definition.specs.Components.{component_sizes}
 use Rattle.definition.specs.Front.{Progress, outcome}
@@ -11,40 +12,52 @@ use Rattle.definition.specs.Call.{Asked, Lent, given_points, given_tris, given_l
 use Rattle.definition.specs.Job.{rounds_of, charge}
 use Rattle.rules.specs.declared.Rules.{Rules}
 use Rattle.rules.specs.Settings.{quality_in}
+use Rattle.cells.specs.declared.layout.Layout.{Layout}
+use Rattle.cells.specs.Layout.{Sizes}
 use Rattle.cells.specs.Rep.{Rep}
-use Rattle.refusals.specs.Refusals.{first_refusal}
-use Rattle.mesher.specs.declared.Answer.{Answer}
+use Rattle.refusals.specs.declared.named.Refusal.{Refusal}
+use Rattle.refusals.specs.Numbers.{number, refusal_of}
+use Rattle.refusals.specs.Refusals.{first_refusal, passed}
+use Rattle.rounds.specs.Loop.{Finish}
 use Rattle.settling.specs.declared.standing.Standing.{Standing}
-use Rattle.settling.specs.declared.standing.Finish.{Finish}
-use Rattle.settling.specs.declared.standing.Finish.TheVariants as finishes
 use Rattle.settling.specs.Standings.{counts_of}
-use Rattle.mesher.specs.Promise.{counts_in, lengths_in, Returns}
+use Rattle.mesher.specs.Promise.{Reply, answered, counts_in, lengths_in, Returns}
 use Rattle.mesher.specs.declared.run.Ran.{Ran}
 
 -- a refusal's answer: its number, and nothing counted or listed
-pub record Refused (k : ℕ) (r : Answer) : Type 0 where
+pub record Refused (k : ℕ) (r : Reply) : Type 0 where
   pub number : r.refusal ≡ k
   pub counts : counts_in r ≡ no_counts
   pub lengths : lengths_in r ≡ record { quads = 0; triangles = 0; points = 0; components = 0; words = 0 }
 
+pub refused : (k : Refusal) → Refused (number k) (answered (Err k))
+unfolding no_counts tally
+refused k = record { number = refl; counts = refl; lengths = refl }
+
 -- the number of a run's end: 0 where it finished
 abbrev pub finish_number : Finish → ℕ
-finish_number finishes.Done = 0
-finish_number finishes.NoPoint = 8
-finish_number finishes.NoSlots = 9
-finish_number finishes.NoTrace = 11
+finish_number (Ok done) = 0
+finish_number (Err s) = number (refusal_of s)
 
 -- the bucket's side: the size, or 1.0 without one
 abbrev pub bucket_of : Float → Float
 bucket_of size = cond (tiny_size ≺ size) size 1·0
 
--- what the run of a call goes by, with at most so many attempts, so many words of trace and this side of a bucket
-abbrev pub rules_with : ℕ → ℕ → Asked → Float → Rules
-rules_with most room a bucket = record { slots = a.slots; capacity = a.capacity; given = a.count; bucket = bucket; size = a.size; even = eqb a.stop 1; attempts = most; room = room; quality = quality_in a.quality }
+-- the layout of the work slice of a call whose offsets are no large numbers
+abbrev pub layout_of : (a : Asked) → Sizes a.slots a.capacity → Layout
+layout_of a z = record { slots = a.slots; points = a.capacity; sizes = z }
+
+-- those of a call that is not refused are none
+pub sized : (a : Asked) (l : Lent) → first_refusal a l ≡ 0 → Sizes a.slots a.capacity
+sized a l h = let p = (passed a l h).limited in record { slots = omega (arith, p.slots); points = omega (arith, p.capacity) }
+
+-- what the run of a call goes by, with at most so many attempts, so many words of trace, this layout and side of a bucket
+abbrev pub rules_with : ℕ → ℕ → Asked → Layout → Float → Rules
+rules_with most room a lay bucket = record { lay = lay; given = a.count; bucket = bucket; size = a.size; even = eqb a.stop 1; attempts = most; room = room; quality = quality_in a.quality }
 
 -- what the run of a call goes by, with at most so many attempts and so many words of trace
-abbrev pub rules_of : ℕ → ℕ → Asked → Rules
-rules_of most room a = rules_with most room a (bucket_of a.size)
+abbrev pub rules_of : ℕ → ℕ → (a : Asked) → Sizes a.slots a.capacity → Rules
+rules_of most room a z = rules_with most room a (layout_of a z) (bucket_of a.size)
 
 -- ---- the run
 
@@ -75,7 +88,7 @@ pub record CanFinish (w o k : List ℕ) (s p : ℕ) (g : Standing) (m : Mesh) : 
   pub components : s ≤ length k
 
 -- what writing the leftover triangles and the sizes of their components gives
-pub record FinishTo (o o' k k' : List ℕ) (g : Standing) (m : Mesh) (r : Answer) : Type 0 where
+pub record FinishTo (o o' k k' : List ℕ) (g : Standing) (m : Mesh) (r : Reply) : Type 0 where
   pub out : o' ≡ onto (flat_map tri_nodes (triangles m)) o
   pub components : k' ≡ onto (component_sizes (triangles m)) k
   pub number : r.refusal ≡ 0
@@ -90,5 +103,5 @@ pub record FinishTo (o o' k k' : List ℕ) (g : Standing) (m : Mesh) (r : Answer
 
 -- what came back is the definition's, with the attempts charged
 pub record RanTo (most : ℕ) (a : Asked) (l : Lent) (r : Ran) (exit : Lent) : Type 0 where
-  pub returns : Returns (after_run l (outcome (progress_of most a l))) r.answer exit
+  pub returns : Returns (after_run l (outcome (progress_of most a l))) (answered r.answer) exit
   pub charged : r.charged ≡ charge (progress_of most a l)

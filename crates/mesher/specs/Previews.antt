@@ -1,13 +1,15 @@
 -- What a preview promises: the definition's.
-use Rattle.std.specs.Prelude.{◌≡◌, ℕ}
+use Rattle.std.specs.Prelude.{◌≡◌, Result, Ok, Err}
 use Rattle.definition.specs.Counts.{Refusal}
 use Rattle.definition.specs.Counts as counts
 use Rattle.definition.specs.Cells.{Quad}
 use Rattle.definition.specs.Call.{Lent}
 use Rattle.definition.specs.Preview as defined
 use Rattle.definition.specs.Preview.{Previewed}
-use Rattle.mesher.specs.declared.preview.Kind.{Kind}
-use Rattle.mesher.specs.declared.preview.Kind.TheVariants as kinds
+use Rattle.refusals.specs.declared.named.Refusal as named
+use Rattle.refusals.specs.Numbers.{number}
+use Rattle.outcomes.specs.declared.Kind.{Kind}
+use Rattle.outcomes.specs.declared.Kind.TheVariants as kinds
 use Rattle.mesher.specs.declared.preview.Born.{Born}
 use Rattle.mesher.specs.declared.preview.Cost.{Cost}
 use Rattle.mesher.specs.declared.preview.Shown.{Shown}
@@ -30,13 +32,13 @@ abbrev pub cost_of : Cost → defined.Cost
 cost_of c = record { insertions = c.insertions; flips = c.flips }
 
 -- what is shown
-abbrev pub shown_of : Shown → defined.Shown
-shown_of (shows.OffFront c) = defined.off_front (cost_of c)
-shown_of (shows.Quad q c) = defined.shown_quad (born_of q) (cost_of c)
-shown_of (shows.Refused k c) = defined.shown_kind (kind_of k) (cost_of c)
-shown_of (shows.Refusal k) = defined.shown_refusal k
+abbrev pub shown_of : Result Shown named.Refusal → defined.Shown
+shown_of (Ok (shows.OffFront c)) = defined.off_front (cost_of c)
+shown_of (Ok (shows.Quad q c)) = defined.shown_quad (born_of q) (cost_of c)
+shown_of (Ok (shows.Refused k c)) = defined.shown_kind (kind_of k) (cost_of c)
+shown_of (Err k) = defined.shown_refusal (number k)
 
 -- What the definition's preview shows is what came back, and the slices are as it leaves them.
-pub record Previews (x : Previewed) (r : Shown) (exit : Lent) : Type 0 where
+pub record Previews (x : Previewed) (r : Result Shown named.Refusal) (exit : Lent) : Type 0 where
   pub shown : shown_of r ≡ x.shown
   pub lent : x.lent ≡ exit

@@ -1,18 +1,20 @@
 -- The parts of a preview: the attempt on the mesh of the given triangles, and the points behind them kept and put back.
-use Rattle.std.specs.Prelude.{◌≡◌, List, ℕ, ◌+◌, ◌≤◌, ◌<◌, length, get_or, Float}
+use Rattle.std.specs.Prelude.{◌≡◌, List, ℕ, ◌+◌, ◌≤◌, ◌<◌, length, get_or, Float, Result, Ok, Err}
 use Rattle.std.specs.Float.{nan}
 use Rattle.definition.specs.Numbers.{max_attempts}
 use Rattle.definition.specs.Cells.{Mesh}
 use Rattle.definition.specs.Front.{new_mesh}
 use Rattle.definition.specs.Call.{Asked, Lent, given_points, given_tris, given_locks, settings}
 use Rattle.rules.specs.declared.Rules.{Rules}
+use Rattle.cells.specs.Layout.{Sizes}
 use Rattle.cells.specs.Rep.{Rep}
 use Rattle.outcomes.specs.declared.End.{End}
 use Rattle.outcomes.specs.declared.End.TheVariants as ends
 use Rattle.outcomes.specs.declared.Tried.{Tried}
+use Rattle.refusals.specs.declared.named.Refusal as named
+use Rattle.refusals.specs.Numbers.{refusal_of}
 use Rattle.refusals.specs.Refusals.{first_refusal}
 use Rattle.mesher.specs.Parts.{rules_of}
-use Rattle.mesher.specs.declared.preview.Kind.TheVariants as kinds
 use Rattle.mesher.specs.declared.preview.Cost.{Cost}
 use Rattle.mesher.specs.declared.preview.Shown.{Shown}
 use Rattle.mesher.specs.declared.preview.Shown.TheVariants as shows
@@ -24,8 +26,8 @@ abbrev pub first_of : Asked → Lent → Mesh
 first_of a l = new_mesh (settings a) (given_locks a l) (given_tris a l) (given_points a l)
 
 -- what a run goes by, with its usual limit and no trace
-abbrev pub usual_rules : Asked → Rules
-usual_rules a = rules_of (max_attempts a.count) 0 a
+abbrev pub usual_rules : (a : Asked) → Sizes a.slots a.capacity → Rules
+usual_rules a z = rules_of (max_attempts a.count) 0 a z
 
 -- a call that is not refused, and the slices that its preview reads and writes
 pub record CanShow (q : List Float) (ts js w : List ℕ) (a : Asked) (l : Lent) : Type 0 where
@@ -48,16 +50,10 @@ abbrev pub cost_by : Tried → Cost
 cost_by t = record { insertions = t.inserted; flips = t.flips }
 
 -- what an attempt on u-v shows, by its end
-abbrev pub shown_by : End → Tried → ℕ → ℕ → Shown
-shown_by ends.Placed t u v = shows.Quad (record { n0 = t.n0; n1 = t.n1; n2 = t.n2; n3 = t.n3; u = u; v = v; round = 1; replaced = t.replaced }) (cost_by t)
-shown_by ends.Placement t u v = shows.Refused kinds.Placement (cost_by t)
-shown_by ends.Shape t u v = shows.Refused kinds.InvalidQuad (cost_by t)
-shown_by ends.Recovery t u v = shows.Refused kinds.Recovery (cost_by t)
-shown_by ends.Region t u v = shows.Refused kinds.Region (cost_by t)
-shown_by ends.OddRegion t u v = shows.Refused kinds.OddRegion (cost_by t)
-shown_by ends.NoPoint t u v = shows.Refusal 8
-shown_by ends.NoSlots t u v = shows.Refusal 9
-shown_by ends.NoTrace t u v = shows.Refusal 11
+abbrev pub shown_by : End → Tried → ℕ → ℕ → Result Shown named.Refusal
+shown_by (ends.Placed z) t u v = Ok (shows.Quad (record { n0 = z.n0; n1 = z.n1; n2 = z.n2; n3 = z.n3; u = u; v = v; round = 1; replaced = z.replaced }) (cost_by t))
+shown_by (ends.Refused kind) t u v = Ok (shows.Refused kind (cost_by t))
+shown_by (ends.Short s) t u v = Err (refusal_of s)
 
 -- ---- the points
 

@@ -1,14 +1,6 @@
 // What a front edge would give, as crate `previews` finds it out.
 
-// What an attempt is refused under, by the names of the counts.
-#[derive(Clone, Copy)]
-pub enum Kind {
-    Placement,
-    InvalidQuad,
-    Recovery,
-    Region,
-    OddRegion,
-}
+pub use outcomes::Kind;
 
 // A quad with its birth: its nodes, the edge it grew from, its round and how many triangles it replaced.
 #[derive(Clone, Copy)]
@@ -30,11 +22,11 @@ pub struct Cost {
     pub flips: usize,
 }
 
-// Not on the front, at no cost; the quad; what the attempt is refused under; or a refusal's number.
+// Kept (1): three ends, each with its cost, are no Option or Result, and C tells them apart.
+// Not on the front, at no cost; the quad; or what the attempt is refused under.
 #[derive(Clone, Copy)]
 pub enum Shown {
     OffFront(Cost),
     Quad(Born, Cost),
     Refused(Kind, Cost),
-    Refusal(usize),
 }

@@ -1,69 +1,43 @@
 // The run of a call that is not refused before it.
-ghost use Rattle.std.specs.Prelude.{◌≡◌, ◌≤◌, length};
+ghost use Rattle.std.specs.Prelude.{◌≡◌, ◌≤◌, length, Ok};
 ghost use Rattle.definition.specs.Cells.{Mesh};
 ghost use Rattle.definition.specs.Numbers.{max_attempts};
 ghost use Rattle.definition.specs.Call.{Lent};
+ghost use Rattle.refusals.specs.Numbers.{number_or_0};
 ghost use Rattle.refusals.specs.Refusals.{first_refusal};
 ghost use Rattle.refusals.specs.Stated.{asked};
 ghost use Rattle.rounds.specs.Loop.{RunTo};
-ghost use Rattle.mesher.specs.Promise.{lent_of};
-ghost use Rattle.mesher.specs.Parts.{Refused, finish_number, rules_of, progress_of, CanMesh, CanFinish, FinishTo, RanTo};
+ghost use Rattle.mesher.specs.Promise.{answered, lent_of};
+ghost use Rattle.mesher.specs.Parts.{finish_number, sized, rules_of, progress_of, CanMesh, CanFinish, FinishTo, RanTo};
 
 use crate::Answer;
 use crate::setup::rules_of;
 use allowances::attempts_made;
-use cells::clear::{clear_floats, clear_words};
+use cells::clear::clear;
 use cells::counters::Counters;
+use cells::layout::Layout;
 use components::sizes::component_sizes;
 use joints::{TABLE, put_joints};
 use leftovers::write_triangles;
 use meshes::build::build;
-use refusals::Stated;
+use outcomes::Shortage;
+use refusals::{Refusal, Stated};
 use rounds::front::front_loop;
-use settling::standing::{Finish, Run, Standing};
+use settling::standing::{Run, Standing};
 
 // What a call that ran answers, and the attempts charged to it: those made,
 // or, where want of lent memory ended the run, those begun.
 #[derive(Clone, Copy)]
 pub struct Ran {
-    pub answer: Answer,
+    pub answer: Result<Answer, Refusal>,
     pub charged: usize,
 }
 
-// A refusal: its number, nothing counted, no lists.
-pub fn refused(number: usize) -> Answer
-    ensures { Refused number result }
+// How a run ended that want of lent memory broke off; Ok where it finished.
+fn ended(finish: Result<(), Shortage>) -> Result<(), Refusal>
+    ensures { number_or_0 result ≡ finish_number finish }
 {
-    Answer {
-        refusal: number,
-        front_empty: 0,
-        attempts: 0,
-        placement: 0,
-        invalid_quad: 0,
-        recovery: 0,
-        region: 0,
-        odd_region: 0,
-        mismatch_insertions: 0,
-        limit: 0,
-        quads: 0,
-        triangles: 0,
-        points: 0,
-        components: 0,
-        trials: 0,
-        words: 0,
-    }
-}
-
-// The number of a run's end: 0 where it finished.
-fn number_of(finish: Finish) -> usize
-    ensures { result ≡ finish_number finish }
-{
-    match finish {
-        Finish::Done => 0,
-        Finish::NoPoint => 8,
-        Finish::NoSlots => 9,
-        Finish::NoTrace => 11,
-    }
+    Ok(finish?)
 }
 
 // The mesh of the given triangles, the table of the joints,
@@ -80,42 +54,38 @@ fn mesh(
     attempts: usize,
 ) -> Run
     requires { (l : Lent) × CanMesh points.old triangles.now joints.now quads.old work.old float_work.old trace.old attempts (asked stated) l }
-    ensures { (l : Lent) → CanMesh points.old triangles.now joints.now quads.old work.old float_work.old trace.old attempts (asked stated) l → RunTo work.old work.new points.old points.new float_work.old float_work.new quads.old quads.new trace.old trace.new (rules_of attempts (length trace.old) (asked stated)) (progress_of attempts (asked stated) l) result }
+    ensures { (l : Lent) (k : CanMesh points.old triangles.now joints.now quads.old work.old float_work.old trace.old attempts (asked stated) l) → RunTo work.old work.new points.old points.new float_work.old float_work.new quads.old quads.new trace.old trace.new (rules_of attempts (length trace.old) (asked stated) (sized (asked stated) l k.passed)) (progress_of attempts (asked stated) l) result }
 {
-    build(
-        work,
-        triangles,
-        stated.slots,
-        stated.capacity,
-        stated.count,
-        stated.given,
-    );
+    let lay = Layout {
+        slots: stated.slots,
+        points: stated.capacity,
+    };
+    build(work, triangles, lay, stated.count, stated.given);
     let c = Counters::new(stated.count, stated.given);
-    let rules = rules_of(stated, attempts, trace.len());
+    let rules = rules_of(stated, lay, attempts, trace.len());
     let mut table = [0u32; TABLE];
     put_joints(&mut table, joints, stated.joints);
     front_loop(work, points, float_work, quads, trace, &table, rules, c)
 }
 
+// Kept (4): no struct is copied, for the answer is made of the counters, the tally and three lengths together.
 // The triangles that are left and the sizes of their components come to the front of their slices.
 // The answer is that of the finished run.
 fn finish(
     triangles_out: &mut [u32],
     components: &mut [u32],
     work: &mut [u32],
-    slots: usize,
-    capacity: usize,
+    lay: Layout,
     g: Standing,
 ) -> Answer
-    requires { (m : Mesh) × CanFinish work.old triangles_out.old components.old slots capacity g m }
-    ensures { (m : Mesh) → CanFinish work.old triangles_out.old components.old slots capacity g m → FinishTo triangles_out.old triangles_out.new components.old components.new g m result }
+    requires { (m : Mesh) × CanFinish work.old triangles_out.old components.old lay.slots lay.points g m }
+    ensures { (m : Mesh) → CanFinish work.old triangles_out.old components.old lay.slots lay.points g m → FinishTo triangles_out.old triangles_out.new components.old components.new g m (answered (Ok result)) }
 {
     let c = g.counters;
     let t = g.tally;
-    let left = write_triangles(work, triangles_out, slots, capacity, c.used);
-    let sizes = component_sizes(work, components, slots, capacity, c.used);
+    let left = write_triangles(work, triangles_out, lay, c.used);
+    let sizes = component_sizes(work, components, lay, c.used);
     Answer {
-        refusal: 0,
         front_empty: t.front_empty,
         attempts: c.attempts,
         placement: t.placement,
@@ -158,28 +128,26 @@ pub fn run(
     let end = mesh(
         points, triangles, joints, quads, work, float_work, trace, stated, attempts,
     );
-    let how = end.finish;
     let g = end.standing;
-    let number = number_of(how);
-    if number != 0 {
-        clear_words(work);
-        clear_floats(float_work);
+    if let Err(k) = ended(end.finish) {
+        clear(work, 0);
+        clear(float_work, 0.0);
         let begun = g.counters;
         return Ran {
-            answer: refused(number),
+            answer: Err(k),
             charged: begun.attempts,
         };
     }
-    let answer = finish(
-        triangles_out,
-        components,
-        work,
-        stated.slots,
-        stated.capacity,
-        g,
-    );
-    clear_words(work);
-    clear_floats(float_work);
+    let lay = Layout {
+        slots: stated.slots,
+        points: stated.capacity,
+    };
+    let answer = finish(triangles_out, components, work, lay, g);
+    clear(work, 0);
+    clear(float_work, 0.0);
     let charged = attempts_made(answer.attempts, answer.limit);
-    Ran { answer, charged }
+    Ran {
+        answer: Ok(answer),
+        charged,
+    }
 }

@@ -1,8 +1,9 @@
 // The parameters of a run, from the stated numbers.
 ghost use Rattle.std.specs.Prelude.{◌≡◌};
 ghost use Rattle.refusals.specs.Stated.{asked};
-ghost use Rattle.mesher.specs.Parts.{bucket_of, rules_of};
+ghost use Rattle.mesher.specs.Parts.{bucket_of, rules_with};
 
+use cells::layout::Layout;
 use refusals::Stated;
 use rules::Rules;
 
@@ -25,16 +26,16 @@ fn bucket_of(size: f64) -> f64
     NO_SIZE
 }
 
+// Kept (4): no struct is copied, for the rules are made of stated numbers and three others.
 // The parameters of a run with at most so many attempts, and so many words of trace.
-pub fn rules_of(stated: Stated, attempts: usize, room: usize) -> Rules
-    ensures { result ≡ rules_of attempts room (asked stated) }
+pub fn rules_of(stated: Stated, lay: Layout, attempts: usize, room: usize) -> Rules
+    ensures { result ≡ rules_with attempts room (asked stated) lay (bucket_of stated.size) }
 {
     let bucket = bucket_of(stated.size);
     let even = stated.stop == EVEN;
     let quality = stated.quality;
     Rules {
-        slots: stated.slots,
-        capacity: stated.capacity,
+        lay,
         given: stated.count,
         bucket,
         size: stated.size,

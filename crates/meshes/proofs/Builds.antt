@@ -1,6 +1,6 @@
 -- The mesh of the given triangles: empty rings, then triangle after triangle.
 use Rattle.std.specs.Prelude.{◌≡◌, ◌+◌, ◌*◌, ◌<◌, ◌≤◌, ◌∷◌, ◌++◌}
-use Rattle.laws.specs.Kit.{refl, sym, ◌∙◌, ap, Bool, false, ℕ, zero, suc, arith, List, [], length, get_or, Float}
+use Rattle.laws.specs.Kit.{refl, sym, ◌∙◌, ap, Bool, false, ℕ, suc, arith, List, [], length, get_or, Float}
 use native.Mathlib.Numerals.{add-one}
 use Rattle.rings.specs.Rings.{OpenedFrom}
 use Rattle.rings.proofs.Families.{opened}
@@ -15,7 +15,7 @@ use Rattle.laws.specs.Lists.{table_length, numbers_length, numbers_snoc}
 use Rattle.laws.specs.Cells.{points_length}
 use Rattle.laws.specs.Frames.{Keeps, Only, Zeros, keeps_trans, keeps_more}
 use Rattle.cells.specs.Layout.{rings_at, codes, notes_at, even_at, mesh_end}
-use Rattle.cells.specs.Rep.{slots, corners, Room, Rep}
+use Rattle.cells.specs.Rep.{corners, Room, Rep}
 use Rattle.meshes.specs.Changes.{CanPush, Turns, tri_of_nodes}
 use Rattle.meshes.specs.Build.{IsNew, CanBuild, Empties}
 use Rattle.cells.proofs.Points.{table_snoc}

@@ -1,10 +1,10 @@
 -- The cells in lent slices: what the refusals have tested of them,
 -- and the definition's tests by the points of the slice.
 -- Assumes nothing.
-use Rattle.std.specs.Prelude.{◌≡◌, true, false, ◌⊎◌, List, ℕ, ◌+◌, ◌*◌, ◌^◌, ◌≤◌, ◌<◌, length, get_or, Float}
+use Rattle.std.specs.Prelude.{◌≡◌, true, false, ◌⊎◌, List, ℕ, ◌+◌, ◌*◌, ◌^◌, ◌≤◌, ◌<◌, length, get_or, Float, Option}
 use Rattle.std.proofs.Common.{subst, arith}
 use Prim.{tt}
-use Rattle.definition.specs.Floats.{◌≺◌, ◌≼◌, 0·5, 0·99, 1·0}
+use Rattle.definition.specs.Floats.{◌≼◌, 0·5, 0·99}
 use Rattle.definition.specs.Lists.{table, below}
 use Rattle.definition.specs.Metrics.{Corner, corners}
 use Rattle.definition.specs.Cells.{Quad, new_quad}
@@ -37,22 +37,17 @@ pub record Limit (t : Float) : Type 0 where
   pub least : (0·5 ≼ t) ≡ true
   pub most : (t ≼ 0·99) ≡ true
 
--- a limit that the exact test takes
-pub record BelowOne (t : Float) : Type 0 where
-  pub least : (0·5 ≼ t) ≡ true
-  pub below : (t ≺ 1·0) ≡ true
-
 -- ---- what is promised, whatever the number m of points that the nodes are below
 
 -- the quads of a slice
 abbrev pub quads_in : ℕ → List ℕ → List Quad
 quads_in n qs = table (corners_at qs) (below n)
 
-abbrev pub FirstFolded : List Float → List ℕ → ℕ → ℕ → Type 0
+abbrev pub FirstFolded : List Float → List ℕ → ℕ → Option ℕ → Type 0
 FirstFolded ps qs n r =
     (m : ℕ) → Tested 4 m n ps qs → (j : Judged) → j.points ≡ first_points m ps → Finds n (failing (is_convex j) 0 (quads_in n qs)) r
 
-abbrev pub FirstSharp : List Float → List ℕ → ℕ → Float → ℕ → Type 0
+abbrev pub FirstSharp : List Float → List ℕ → ℕ → Float → Option ℕ → Type 0
 FirstSharp ps qs n t r =
     (m : ℕ) → Tested 4 m n ps qs → (j : Judged) → j.points ≡ first_points m ps → j.cosine ≡ t → Finds n (failing (is_wide j) 0 (quads_in n qs)) r
 

@@ -1,6 +1,6 @@
 -- The leftover triangles in lent slices, and the definition's test of thin ones by the points of the slice.
 -- Assumes nothing.
-use Rattle.std.specs.Prelude.{◌≡◌, refl, true, false, List, [], ◌∷◌, ℕ, ◌+◌, ◌*◌, ◌<◌, Float}
+use Rattle.std.specs.Prelude.{◌≡◌, true, false, List, [], ◌∷◌, ℕ, ◌+◌, ◌*◌, ◌<◌, Float, Option, None}
 use Rattle.std.proofs.Common.{subst, arith}
 use Prim.{tt}
 use Rattle.definition.specs.Floats.{◌≺◌, 1·0}
@@ -22,7 +22,7 @@ use Rattle.offenders.specs.declared.lent_cells.Three.{Three}
 
 -- ---- what is promised, whatever the number m of points that the nodes are below
 
-abbrev pub FirstThin : List Float → List ℕ → ℕ → Float → ℕ → Type 0
+abbrev pub FirstThin : List Float → List ℕ → ℕ → Float → Option ℕ → Type 0
 FirstThin ps ts n t r =
     (m : ℕ) → Tested 3 m n ps ts → (j : Judged) → j.points ≡ first_points m ps → j.thin ≡ t → Finds n (failing (is_blunt j) 0 (first_tris n ts)) r
 
@@ -90,7 +90,7 @@ module _ (m n : ℕ) (ps : List Float) (ts : List ℕ) (h : Tested 3 m n ps ts) 
       (λ asked. (λ a. (blunt_decides j).complete (tri_at ts i) (λ _. rw corners_same a), λ a. rw corners_same at ((blunt_decides j).sound (tri_at ts i) a asked)))
 
 -- a limit that is not below 1 asks nothing
-pub none_thin : (ps : List Float) (ts : List ℕ) (n : ℕ) (t : Float) → (t ≺ 1·0) ≡ false → FirstThin ps ts n t n
+pub none_thin : (ps : List Float) (ts : List ℕ) (n : ℕ) (t : Float) → (t ≺ 1·0) ≡ false → FirstThin ps ts n t None
 unfolding first_tris
 none_thin ps ts n t e m h j p f =
-    found_none (is_blunt j) (tri_at ts) n n (λ v l. (blunt_decides j).complete (tri_at ts v) (λ a. never _ (subst (λ t. (t ≺ 1·0) ≡ true) f a) e)) refl
+    found_none (is_blunt j) (tri_at ts) n n (λ v l. (blunt_decides j).complete (tri_at ts v) (λ a. never _ (subst (λ t. (t ≺ 1·0) ≡ true) f a) e)) (omega arith)

@@ -7,6 +7,7 @@ ghost use Rattle.offenders.specs.Search.{Finds};
 
 use words::bits_of;
 
+// Kept (4): the definition's `same_bits` goes by bits, where `==` of doubles has 0.0 equal -0.0 and no NaN equal itself.
 // Number k has the same bits in both slices.
 fn same_bits(given: &[f64], points: &[f64], k: usize) -> bool
     requires { (k < length given.now) × (k < length points.now) }
@@ -15,6 +16,7 @@ fn same_bits(given: &[f64], points: &[f64], k: usize) -> bool
     bits_of(given[k]) == bits_of(points[k])
 }
 
+// Kept (4): the definition's `same_point` goes by bits, which no derived equality of points does.
 // Point i is the same in both slices.
 fn same_point(given: &[f64], points: &[f64], i: usize) -> bool
     requires { (3 * i + 2 < length given.now) × (3 * i + 2 < length points.now) }
@@ -29,20 +31,19 @@ fn same_point(given: &[f64], points: &[f64], i: usize) -> bool
     same_bits(given, points, 3 * i + 2)
 }
 
-// The first of n given points that is not the point of its number among m points; n where all are.
-pub fn first_moved(given: &[f64], n: usize, points: &[f64], m: usize) -> usize
+// Kept (6): C's callers lend longer slices, and the clause's `first_points` has the number beside the list.
+// The first of n given points that is not the point of its number among m points; None where all are.
+pub fn first_moved(given: &[f64], n: usize, points: &[f64], m: usize) -> Option<usize>
     requires { (3 * n ≤ length given.now) × (3 * m ≤ length points.now) }
     ensures { Finds n (moved 0 (first_points n given.now) (first_points m points.now)) result }
 {
-    let mut i = 0;
-    while i < n {
+    for i in 0..n {
         if i >= m {
-            return i;
+            return Some(i);
         }
         if !same_point(given, points, i) {
-            return i;
+            return Some(i);
         }
-        i += 1;
     }
-    i
+    None
 }

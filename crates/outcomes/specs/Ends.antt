@@ -7,6 +7,11 @@ use Rattle.definition.specs.Attempt.{Attempt, placed, refused, ended}
 use Rattle.rules.specs.declared.Rules.{Rules}
 use Rattle.cells.specs.declared.counters.Counters.{Counters}
 use Rattle.outcomes.specs.Ready.{Ready, Behind}
+use Rattle.outcomes.specs.declared.Shortage.{Shortage}
+use Rattle.outcomes.specs.declared.Shortage.TheVariants.{NoPoint, NoSlots, NoTrace}
+use Rattle.outcomes.specs.declared.Kind.{Kind}
+use Rattle.outcomes.specs.declared.Kind.TheVariants as kinds
+use Rattle.outcomes.specs.declared.Placed.{Placed}
 use Rattle.outcomes.specs.declared.End.{End}
 use Rattle.outcomes.specs.declared.End.TheVariants as ends
 use Rattle.outcomes.specs.declared.Tried.{Tried}
@@ -28,28 +33,38 @@ pub record Plain (e : End) (c : Counters) (t n k f : ℕ) (r : Tried) : Type 0 w
   pub trials : r.trials ≡ k
   pub flips : r.flips ≡ f
 
+-- the kind that stands for a refusal
+abbrev pub kind_of : Refusal → Kind
+kind_of Placement = kinds.Placement
+kind_of Shape = kinds.InvalidQuad
+kind_of Recovery = kinds.Recovery
+kind_of Region = kinds.Region
+kind_of OddRegion = kinds.OddRegion
+
+-- the shortage that stands for a want of lent memory
+abbrev pub shortage_of : Want → Shortage
+shortage_of of_points = NoPoint
+shortage_of of_slots = NoSlots
+shortage_of of_trace = NoTrace
+
 -- the end that stands for a refusal
 unfoldable pub end_of : Refusal → End
-end_of Placement = ends.Placement
-end_of Shape = ends.Shape
-end_of Recovery = ends.Recovery
-end_of Region = ends.Region
-end_of OddRegion = ends.OddRegion
+end_of why = ends.Refused (kind_of why)
 
 -- the end that stands for a want of lent memory
 unfoldable pub end_for : Want → End
-end_for of_points = ends.NoPoint
-end_for of_slots = ends.NoSlots
-end_for of_trace = ends.NoTrace
+end_for wt = ends.Short (shortage_of wt)
 
 -- the quad that was placed, in that round
-abbrev pub quad_of : ℕ → Tried → Quad
-quad_of round r = born round r.replaced (new_quad r.n0 r.n1 r.n2 r.n3)
+abbrev pub quad_of : ℕ → Placed → Quad
+quad_of round z = born round z.replaced (new_quad z.n0 z.n1 z.n2 z.n3)
 
 -- the quad k was placed: its round is for the run to say
 pub record Grew (k : Quad) (r : Tried) : Type 0 where
-  pub quad : quad_of k.round r ≡ k
-  pub few : r.replaced ≤ 16384
+  pub placed : Placed
+  pub end : r.end ≡ ends.Placed placed
+  pub quad : quad_of k.round placed ≡ k
+  pub few : placed.replaced ≤ 16384
 
 -- what the attempt spent
 abbrev pub spent_of : Tried → Spent
@@ -64,7 +79,7 @@ pub record Left (w' : List ℕ) (q q' : List Float) (rules : Rules) (c : Counter
 
 -- the attempt's end, by cases
 abbrev pub AttemptTo : List ℕ → List Float → List Float → Rules → Counters → Attempt → Tried → Type 0
-AttemptTo w' q q' rules c (placed n m k) r = (r.end ≡ ends.Placed) × Grew k r × Left w' q q' rules c n m r
+AttemptTo w' q q' rules c (placed n m k) r = Grew k r × Left w' q q' rules c n m r
 AttemptTo w' q q' rules c (refused why n m) r = (r.end ≡ end_of why) × Left w' q q' rules c n m r
 AttemptTo w' q q' rules c (ended wt n m) r = (r.end ≡ end_for wt) × Left w' q q' rules c n m r
 

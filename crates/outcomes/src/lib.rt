@@ -6,24 +6,44 @@ ghost use Rattle.outcomes.specs.Ends.{Plain};
 
 use cells::counters::Counters;
 
-// How an attempt ends: a quad is placed; it is refused under one of five names;
-// or no point, too few slots, or too little of the trace is left and the run ends.
-#[derive(Clone, Copy)]
-pub enum End {
-    Placed,
-    Placement,
-    Shape,
-    Recovery,
-    Region,
-    OddRegion,
+// What is left too little of, so that a run ends: no point, too few slots, or too little of the trace.
+#[derive(Clone, Copy, PartialEq, Eq)]
+pub enum Shortage {
     NoPoint,
     NoSlots,
     NoTrace,
 }
 
+// What an attempt is refused under, by the names of the counts.
+#[derive(Clone, Copy, PartialEq, Eq)]
+pub enum Kind {
+    Placement,
+    InvalidQuad,
+    Recovery,
+    Region,
+    OddRegion,
+}
+
+// A quad that was placed: its nodes, around it from the front edge on, and how many triangles it replaced.
+#[derive(Clone, Copy)]
+pub struct Placed {
+    pub n0: usize,
+    pub n1: usize,
+    pub n2: usize,
+    pub n3: usize,
+    pub replaced: usize,
+}
+
+// How an attempt ends: a quad is placed; it is refused; or the run ends for want of lent memory.
+#[derive(Clone, Copy)]
+pub enum End {
+    Placed(Placed),
+    Refused(Kind),
+    Short(Shortage),
+}
+
 // The end of an attempt, the counters after it, the words used of the trace, the insertions that it made,
 // the pairs that it tried and the flips that it made.
-// Where a quad is placed, its nodes and how many triangles it replaced.
 #[derive(Clone, Copy)]
 pub struct Tried {
     pub end: End,
@@ -32,35 +52,20 @@ pub struct Tried {
     pub inserted: usize,
     pub trials: usize,
     pub flips: usize,
-    pub n0: usize,
-    pub n1: usize,
-    pub n2: usize,
-    pub n3: usize,
-    pub replaced: usize,
 }
 
-// An end without a quad.
-pub fn without_quad(
-    end: End,
-    counters: Counters,
-    at: usize,
-    inserted: usize,
-    trials: usize,
-    flips: usize,
-) -> Tried
-    ensures { Plain end counters at inserted trials flips result }
-{
-    Tried {
-        end,
-        counters,
-        at,
-        inserted,
-        trials,
-        flips,
-        n0: 0,
-        n1: 0,
-        n2: 0,
-        n3: 0,
-        replaced: 0,
+impl Tried {
+    // An attempt that ends before its first pair.
+    pub fn without_trial(end: End, counters: Counters, at: usize, inserted: usize) -> Tried
+        ensures { Plain end counters at inserted 0 0 result }
+    {
+        Tried {
+            end,
+            counters,
+            at,
+            inserted,
+            trials: 0,
+            flips: 0,
+        }
     }
 }

@@ -1,6 +1,6 @@
--- The metrics enum by its cases, the tests of area and corners, a quad's side lengths,
+-- The metrics by their cases, the tests of area and corners, a quad's side lengths,
 -- and their products at its corners.
-use Rattle.std.specs.Prelude.{◌≡◌, ◌||◌}
+use Rattle.std.specs.Prelude.{◌≡◌, ◌||◌, Option, Some, None}
 use Rattle.laws.specs.Kit.{Bool}
 use Rattle.definition.specs.Floats.{◌≼◌}
 use Rattle.definition.specs.Lists.{any}
@@ -10,13 +10,12 @@ use Rattle.definition.specs.Metrics as metrics
 use Rattle.definition.specs.Metrics.{absent, measured, corner_of, corners, not_convex, angle_of}
 use Rattle.plane.specs.declared.lengths.Lengths.{Lengths}
 use Rattle.plane.specs.declared.metrics.Metrics.{Metrics}
-use Rattle.plane.specs.declared.metrics.Metrics.TheVariants.{Absent, Measured}
 use Rattle.plane.specs.declared.metrics.Sides.{Sides}
 
 -- a quad's metrics: absent, or the scaled Jacobian and the largest cosine
-unfoldable pub metrics_of_enum : Metrics → metrics.Metrics
-metrics_of_enum Absent = absent
-metrics_of_enum (Measured sj k) = measured sj k
+unfoldable pub metrics_of_enum : Option Metrics → metrics.Metrics
+metrics_of_enum None = absent
+metrics_of_enum (Some t) = measured t.jacobian t.cosine
 
 -- the area or a corner is zero or negative
 unfoldable pub folded : Node → Node → Node → Node → Bool

@@ -2,6 +2,7 @@
 ghost use Rattle.std.specs.Prelude.{◌≡◌};
 ghost use Rattle.definition.specs.Floats.{abs, finite, lesser, greater};
 
+// Kept (4): of two equal numbers, or where one is a NaN, f64's `min` and `max` promise another one than this contract.
 // The smaller of two numbers; the first where they are equal or the second is a NaN.
 pub fn lesser(x: f64, y: f64) -> f64
     ensures { result ≡ lesser x y }
@@ -12,6 +13,7 @@ pub fn lesser(x: f64, y: f64) -> f64
     x
 }
 
+// Kept (4): as `lesser`, for f64's `max` promises another one of two equal numbers, or where one is a NaN.
 // The greater of two numbers; the first where they are equal or the second is a NaN.
 pub fn greater(x: f64, y: f64) -> f64
     ensures { result ≡ greater x y }

@@ -52,6 +52,7 @@ fn first_column(t: f64, a: Spot, b: Spot, c: Spot, d: Spot) -> Vec
     }
 }
 
+// Kept (2): its sums differ in more than a name, and one function that takes the sum is no plainer than two lines.
 // The second column of the Jacobian, at t across.
 fn second_column(t: f64, a: Spot, b: Spot, c: Spot, d: Spot) -> Vec
     ensures { (z : Float) → vec result ≡ column (weights (d1 (corner t z))) (node a) (node b) (node c) (node d) }

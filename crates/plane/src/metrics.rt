@@ -18,11 +18,11 @@ use crate::points::{Spot, at};
 use crate::sides::{any_of, cross_of, tiny};
 use crate::vectors::{between, dot};
 
-// Absent, or the least scaled Jacobian and the largest cosine of the corners.
+// The least scaled Jacobian and the largest cosine of a quad's corners.
 #[derive(Clone, Copy)]
-pub enum Metrics {
-    Absent,
-    Measured(f64, f64),
+pub struct Metrics {
+    pub jacobian: f64,
+    pub cosine: f64,
 }
 
 // At each corner of a quad a b c d the product of the lengths of its two sides.
@@ -129,41 +129,41 @@ fn largest_cosine(a: Spot, b: Spot, c: Spot, d: Spot, s: Sides) -> f64
 
 // The metrics of the quad a b c d, whose sides' lengths are handed in;
 // neither its area nor a corner is zero or negative.
-fn measured(a: Spot, b: Spot, c: Spot, d: Spot, l: Lengths) -> Metrics
+fn measured(a: Spot, b: Spot, c: Spot, d: Spot, l: Lengths) -> Option<Metrics>
     ensures { LengthsOf l (node a) (node b) (node c) (node d) → folded (node a) (node b) (node c) (node d) ≡ false → metrics_of_enum result ≡ quad_metrics (node a) (node b) (node c) (node d) }
 {
     let s = sides_of(l);
     if flat_side(s) {
-        return Metrics::Absent;
+        return None;
     }
-    Metrics::Measured(
-        min_scaled_jacobian(a, b, c, d, l),
-        largest_cosine(a, b, c, d, s),
-    )
+    Some(Metrics {
+        jacobian: min_scaled_jacobian(a, b, c, d, l),
+        cosine: largest_cosine(a, b, c, d, s),
+    })
 }
 
 // The metrics of the quad a b c d.
-pub fn quad_metrics_of(a: Spot, b: Spot, c: Spot, d: Spot) -> Metrics
+pub fn quad_metrics_of(a: Spot, b: Spot, c: Spot, d: Spot) -> Option<Metrics>
     ensures { metrics_of_enum result ≡ quad_metrics (node a) (node b) (node c) (node d) }
 {
     if folded(a, b, c, d) {
-        return Metrics::Absent;
+        return None;
     }
     measured(a, b, c, d, lengths_of(a, b, c, d))
 }
 
 // The metrics of the quad a b c d, the lengths of whose sides a b and d a are handed in.
-fn quad_metrics_from(a: Spot, b: Spot, c: Spot, d: Spot, ab: f64, da: f64) -> Metrics
+fn quad_metrics_from(a: Spot, b: Spot, c: Spot, d: Spot, ab: f64, da: f64) -> Option<Metrics>
     ensures { ab ≡ dist (node a) (node b) → da ≡ dist (node d) (node a) → metrics_of_enum result ≡ quad_metrics (node a) (node b) (node c) (node d) }
 {
     if folded(a, b, c, d) {
-        return Metrics::Absent;
+        return None;
     }
     measured(a, b, c, d, lengths_from(a, b, c, d, ab, da))
 }
 
-// The metrics of the quad of four nodes: absent where the area, a corner or a side is zero or negative.
-pub fn quad_metrics(q: &[f64], a: usize, b: usize, c: usize, d: usize) -> Metrics
+// The metrics of the quad of four nodes: none where the area, a corner or a side is zero or negative.
+pub fn quad_metrics(q: &[f64], a: usize, b: usize, c: usize, d: usize) -> Option<Metrics>
     requires { Within q.now a × Within q.now b × Within q.now c × Within q.now d }
     ensures { let p = point_at q.now in metrics_of_enum result ≡ quad_metrics (p a) (p b) (p c) (p d) }
 {
@@ -179,7 +179,7 @@ pub fn quad_metrics_by(
     d: usize,
     ab: f64,
     da: f64,
-) -> Metrics
+) -> Option<Metrics>
     requires { Within q.now a × Within q.now b × Within q.now c × Within q.now d }
     ensures { let p = point_at q.now in ab ≡ dist (p a) (p b) → da ≡ dist (p d) (p a) → metrics_of_enum result ≡ quad_metrics (p a) (p b) (p c) (p d) }
 {
@@ -204,21 +204,21 @@ fn good(sj: f64, k: f64, least: f64, most: f64) -> bool
 }
 
 // The quad passes: its scaled Jacobian is at least `least`, and its largest cosine at most `most`.
-pub fn passes(m: Metrics, least: f64, most: f64) -> bool
+pub fn passes(m: Option<Metrics>, least: f64, most: f64) -> bool
     ensures { (y : Quality) → y.least_jacobian ≡ least → y.largest_cosine ≡ most → result ≡ passes y (metrics_of_enum m) }
 {
     match m {
-        Metrics::Absent => false,
-        Metrics::Measured(sj, k) => good(sj, k, least, most),
+        None => false,
+        Some(t) => good(t.jacobian, t.cosine, least, most),
     }
 }
 
 // The lesser of the scaled Jacobian and the sine of the least angle.
-pub fn score(m: Metrics) -> f64
+pub fn score(m: Option<Metrics>) -> f64
     ensures { result ≡ score (metrics_of_enum m) }
 {
     match m {
-        Metrics::Absent => 0.0 / 0.0,
-        Metrics::Measured(sj, k) => lesser(sj, root::sqrt(1.0 - k * k)),
+        None => 0.0 / 0.0,
+        Some(t) => lesser(t.jacobian, root::sqrt(1.0 - t.cosine * t.cosine)),
     }
 }

@@ -49,6 +49,7 @@ pub fn tiny(d: f64) -> bool
     d <= TINY
 }
 
+// Kept (7): the three are what is tested, and none says which step to run.
 // All three are true.
 fn all_of(a: bool, b: bool, c: bool) -> bool
     ensures { result ≡ (a && b && c) }
@@ -61,6 +62,7 @@ fn all_of(a: bool, b: bool, c: bool) -> bool
     false
 }
 
+// Kept (7): the four are what is tested, and none says which step to run.
 // One of the four is true.
 pub fn any_of(a: bool, b: bool, c: bool, d: bool) -> bool
     ensures { result ≡ any (λ t. t) (a ∷ b ∷ c ∷ d ∷ []) }

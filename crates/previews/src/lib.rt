@@ -1,7 +1,7 @@
 // What a front edge would give: one attempt on the starting mesh, which is then undone.
 #![tactic(auto)]
 
-ghost use Rattle.std.specs.Prelude.{◌≡◌, [], ◌+◌, ◌≤◌, ◌<◌, length};
+ghost use Rattle.std.specs.Prelude.{◌≡◌, [], ◌+◌, ◌≤◌, ◌<◌, length, Ok};
 ghost use Rattle.definition.specs.Counts.{nothing_spent};
 ghost use Rattle.definition.specs.Cells.{key};
 ghost use Rattle.definition.specs.Call.{Lent, settings};
@@ -12,18 +12,20 @@ ghost use Rattle.outcomes.specs.Ends.{AttemptTo};
 ghost use Rattle.refusals.specs.Stated.{asked};
 ghost use Rattle.mesher.specs.Promise.{lent_of};
 ghost use Rattle.mesher.specs.Previews.{shown_of, Previews};
+ghost use Rattle.mesher.specs.Parts.{sized};
 ghost use Rattle.mesher.specs.Showing.{shown_by, Holds, Back, first_of, usual_rules, CanShow, CanTry};
 
 use allowances::{ATTEMPTS_EACH, ATTEMPTS_MORE};
-use cells::clear::{clear_floats, clear_words};
+use cells::clear::clear;
 use cells::counters::Counters;
 use cells::find::is_front;
+use cells::layout::Layout;
 use joints::{TABLE, put_joints};
-use mesher::preview::{Born, Cost, Kind, Shown};
+use mesher::preview::{Born, Cost, Shown};
 use mesher::setup::rules_of;
 use meshes::build::build;
 use outcomes::{End, Tried};
-use refusals::{Room, Stated, refusal};
+use refusals::{Refusal, Room, Stated, refusal};
 use traces::Log;
 use try_quad::tried::try_quad;
 
@@ -32,13 +34,11 @@ fn keep(points: &[f64], kept: &mut [f64], from: usize)
     requires { (from ≤ 12288) × (6 ≤ length kept.old) }
     ensures { Holds points.now kept.new from 6 }
 {
-    let mut i = 0;
-    while i < 6 {
+    for i in 0..6 {
         if from + i >= points.len() {
             return;
         }
         kept[i] = points[from + i];
-        i += 1;
     }
 }
 
@@ -47,44 +47,36 @@ fn put_back(points: &mut [f64], kept: &[f64], from: usize, n: usize)
     requires { (n ≤ length kept.now) × (from + n ≤ length points.old) × (from ≤ 12288) × (n ≤ 6) }
     ensures { Back points.old points.new kept.now from n }
 {
-    let mut i = 0;
-    while i < n {
+    for i in 0..n {
         points[from + i] = kept[i];
-        i += 1;
     }
 }
 
+// Kept (4): no struct is copied, for a quad gains its edge and its round here.
 // What an attempt on the edge u-v shows, by its end.
-fn shown_by(t: Tried, u: usize, v: usize) -> Shown
+fn shown_by(t: Tried, u: usize, v: usize) -> Result<Shown, Refusal>
     ensures { result ≡ shown_by t.end t u v }
 {
     let cost = Cost {
         insertions: t.inserted,
         flips: t.flips,
     };
-    let end = t.end;
-    match end {
-        End::Placed => Shown::Quad(
+    match t.end {
+        End::Placed(z) => Ok(Shown::Quad(
             Born {
-                n0: t.n0,
-                n1: t.n1,
-                n2: t.n2,
-                n3: t.n3,
+                n0: z.n0,
+                n1: z.n1,
+                n2: z.n2,
+                n3: z.n3,
                 u,
                 v,
                 round: 1,
-                replaced: t.replaced,
+                replaced: z.replaced,
             },
             cost,
-        ),
-        End::Placement => Shown::Refused(Kind::Placement, cost),
-        End::Shape => Shown::Refused(Kind::InvalidQuad, cost),
-        End::Recovery => Shown::Refused(Kind::Recovery, cost),
-        End::Region => Shown::Refused(Kind::Region, cost),
-        End::OddRegion => Shown::Refused(Kind::OddRegion, cost),
-        End::NoPoint => Shown::Refusal(8),
-        End::NoSlots => Shown::Refusal(9),
-        End::NoTrace => Shown::Refusal(11),
+        )),
+        End::Refused(kind) => Ok(Shown::Refused(kind, cost)),
+        End::Short(s) => Err(s.into()),
     }
 }
 
@@ -98,10 +90,14 @@ fn attempted(
     v: usize,
 ) -> Tried
     requires { (l : Lent) × CanTry points.old joints.now work.old (asked stated) l u v }
-    ensures { (l : Lent) → CanTry points.old joints.now work.old (asked stated) l u v → ((c : Counters) × AttemptTo work.new points.old points.new (usual_rules (asked stated)) c (try_quad (settings (asked stated)) (first_of (asked stated) l) (u, v)) result) }
+    ensures { (l : Lent) (k : CanTry points.old joints.now work.old (asked stated) l u v) → ((c : Counters) × AttemptTo work.new points.old points.new (usual_rules (asked stated) (sized (asked stated) l k.passed)) c (try_quad (settings (asked stated)) (first_of (asked stated) l) (u, v)) result) }
 {
     let usual = ATTEMPTS_EACH * stated.count + ATTEMPTS_MORE;
-    let rules = rules_of(stated, usual, 0);
+    let lay = Layout {
+        slots: stated.slots,
+        points: stated.capacity,
+    };
+    let rules = rules_of(stated, lay, usual, 0);
     let counters = Counters::new(stated.count, stated.given);
     let mut table = [0u32; TABLE];
     put_joints(&mut table, joints, stated.joints);
@@ -118,7 +114,7 @@ fn try_on(
     stated: Stated,
     u: usize,
     v: usize,
-) -> Shown
+) -> Result<Shown, Refusal>
     requires { (l : Lent) × CanTry points.old joints.now work.old (asked stated) l u v }
     ensures { (l : Lent) → CanTry points.old joints.now work.old (asked stated) l u v → (points.new ≡ points.old) × (shown_of result ≡ shown (try_quad (settings (asked stated)) (first_of (asked stated) l) (u, v))) }
 {
@@ -135,7 +131,7 @@ fn try_on(
 
 // Not on the front: nothing is inserted and nothing flipped.
 fn off_front() -> Shown
-    ensures { shown_of result ≡ off_front (cost nothing_spent) }
+    ensures { shown_of (Ok result) ≡ off_front (cost nothing_spent) }
 {
     let free = Cost {
         insertions: 0,
@@ -153,26 +149,23 @@ fn show_sorted(
     stated: Stated,
     u: usize,
     v: usize,
-) -> Shown
+) -> Result<Shown, Refusal>
     requires can_show { (l : Lent) × CanShow points.old triangles.now joints.now work.old (asked stated) l }
     requires u_lt_v { u < v }
     ensures { (l : Lent) → CanShow points.old triangles.now joints.now work.old (asked stated) l → (points.new ≡ points.old) × (shown_of result ≡ show_edge (settings (asked stated)) (first_of (asked stated) l) (u, v)) }
 {
     if v >= stated.given {
-        return off_front();
+        return Ok(off_front());
     }
-    build(
-        work,
-        triangles,
-        stated.slots,
-        stated.capacity,
-        stated.count,
-        stated.given,
-    );
-    if is_front(work, stated.slots, stated.capacity, u, v) {
+    let lay = Layout {
+        slots: stated.slots,
+        points: stated.capacity,
+    };
+    build(work, triangles, lay, stated.count, stated.given);
+    if is_front(work, lay, u, v) {
         return try_on(points, joints, work, stated, u, v);
     }
-    off_front()
+    Ok(off_front())
 }
 
 // What the edge between u and v shows.
@@ -184,7 +177,7 @@ fn show_edge(
     stated: Stated,
     u: usize,
     v: usize,
-) -> Shown
+) -> Result<Shown, Refusal>
     requires { (l : Lent) × CanShow points.old triangles.now joints.now work.old (asked stated) l }
     ensures { (l : Lent) → CanShow points.old triangles.now joints.now work.old (asked stated) l → (points.new ≡ points.old) × (shown_of result ≡ show_edge (settings (asked stated)) (first_of (asked stated) l) (key u v)) }
 {
@@ -194,7 +187,7 @@ fn show_edge(
     if v < u {
         return show_sorted(points, triangles, joints, work, stated, v, u);
     }
-    off_front()
+    Ok(off_front())
 }
 
 // What the edge between u and v would give, in either order of the two and whatever they are.
@@ -212,7 +205,7 @@ pub fn preview(
     stated: Stated,
     u: usize,
     v: usize,
-) -> Shown
+) -> Result<Shown, Refusal>
     ensures { Previews
         (preview
         (asked stated)
@@ -228,12 +221,9 @@ pub fn preview(
         work: work.len(),
         floats: float_work.len(),
     };
-    let k = refusal(points, triangles, joints, stated, room);
-    if k != 0 {
-        return Shown::Refusal(k as usize);
-    }
+    refusal(points, triangles, joints, stated, room)?;
     let r = show_edge(points, triangles, joints, work, stated, u, v);
-    clear_words(work);
-    clear_floats(float_work);
+    clear(work, 0);
+    clear(float_work, 0.0);
     r
 }

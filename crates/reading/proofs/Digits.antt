@@ -1,25 +1,18 @@
 -- Digits read at a position: a run of decimal ones, and sixteen hexadecimal ones one after the other.
-use Rattle.std.specs.Prelude.{◌≡◌, ◌&&◌, ◌+◌, ◌-◌, ◌*◌, ◌<◌, ◌≤◌, ◌∷◌}
+use Rattle.std.specs.Prelude.{◌≡◌, ◌+◌, ◌-◌, ◌*◌, ◌<◌, ◌≤◌, ◌∷◌}
 use Rattle.laws.specs.Kit.{refl, Bool, true, false, not, Option, none, some, ℕ, arith, leb, eq-eqb, ne_eqb, lt-leb, le-leb, [], foldl, length, get_or, drop}
 use native.Mathlib.Nat.{le_trans}
 use borrow.Author.Tests.{leb-true}
+use Rattle.laws.specs.Bools.{both}
 use Rattle.definition.specs.Lists.{empty}
-use Rattle.definition.specs.Text.{Bytes, Taken, is_digit, one_more, run, decimal, well_formed, one_digit}
-use Rattle.reading.specs.Found.{taken, limited}
+use Rattle.definition.specs.Text.{Bytes, Taken, is_digit, one_more, run, decimal, dec, well_formed, one_digit}
+use Rattle.reading.specs.Found.{taken, limited, up_to}
 use Rattle.reading.proofs.Bytes.{from, past}
-
-pub and_left : (a b : Bool) → a && b ≡ true → a ≡ true
-and_left true b e = refl
-and_left false b e = e
-
-pub and_right : (a b : Bool) → a && b ≡ true → b ≡ true
-and_right true b e = e
-and_right false b e = cc
 
 -- a digit's code
 pub digit_within : (c : ℕ) → is_digit c ≡ true → (48 ≤ c) × (c ≤ 57)
 unfolding is_digit
-digit_within c e = (leb-true 48 c (and_left (leb 48 c) (leb c 57) e), leb-true c 57 (and_right (leb 48 c) (leb c 57) e))
+digit_within c e = let k = both (leb 48 c) (leb c 57) e in (leb-true 48 c k.0, leb-true c 57 k.1)
 
 -- ---- decimal
 
@@ -67,38 +60,46 @@ pub limited_in : (m v : ℕ) (s : Bytes) → v ≤ m → some (record { value = 
 unfolding limited
 limited_in m v s h = rw (le-leb v m h)
 
+-- a decimal number goes by its digits, where these are well formed
+module _ (m : ℕ) (s : Bytes) where
+  pub up_to_in : true ≡ well_formed (run s).value → up_to m s ≡ limited m (decimal (run s))
+  unfolding up_to dec
+  up_to_in h = rw (← h)
+
+  pub up_to_out : false ≡ well_formed (run s).value → none ≡ up_to m s
+  unfolding up_to dec limited
+  up_to_out h = rw (← h)
+
 -- ---- at least one digit, and no zero before another
 
-module _ (s : Bytes) (p : ℕ) where
-  pub formed_end : length s ≤ p → false ≡ well_formed (run (drop p s)).value
-  unfolding run well_formed
-  formed_end h = rw (past s p h)
+pub formed_end : (s : Bytes) → s ≡ [] → false ≡ well_formed (run s).value
+unfolding run well_formed
+formed_end s e = rw e
 
-  module _ (h : p < length s) where
-    pub formed_other : is_digit (get_or s p 0) ≡ false → false ≡ well_formed (run (drop p s)).value
-    unfolding well_formed
-    formed_other e = rw (from s p h, run_other (get_or s p 0) (drop (p + 1) s) e)
+module _ (c : ℕ) (s : Bytes) where
+  pub formed_nonzero : (c ≡ 48 → ⊥) → is_digit c ≡ well_formed (run (c ∷ s)).value
+  unfolding well_formed one_more
+  formed_nonzero n = go (is_digit c) refl
+    where
+      go : (b : Bool) → is_digit c ≡ b → is_digit c ≡ well_formed (run (c ∷ s)).value
+      go true e = rw (run_digit c s e, ne_eqb c 48 n) e
+      go false e = rw (run_other c s e) e
 
-    module _ (e : is_digit (get_or s p 0) ≡ true) where
-      pub formed_nonzero : (get_or s p 0 ≡ 48 → ⊥) → true ≡ well_formed (run (drop p s)).value
-      unfolding well_formed one_more
-      formed_nonzero n = rw (from s p h, run_digit (get_or s p 0) (drop (p + 1) s) e, ne_eqb (get_or s p 0) 48 n)
+  zero_first : c ≡ 48 → well_formed (run (c ∷ s)).value ≡ empty (run s).value
+  unfolding well_formed one_more is_digit
+  zero_first z = rw (run_digit c s (rw z), eq-eqb c 48 z)
 
-      zero_first : get_or s p 0 ≡ 48 → well_formed (run (drop p s)).value ≡ empty (run (drop (p + 1) s)).value
-      unfolding well_formed one_more
-      zero_first z = rw (from s p h, run_digit (get_or s p 0) (drop (p + 1) s) e, eq-eqb (get_or s p 0) 48 z)
+  pub formed_zero : c ≡ 48 → s ≡ [] → true ≡ well_formed (run (c ∷ s)).value
+  unfolding run empty
+  formed_zero z e = rw (zero_first z, e)
 
-      pub formed_zero : get_or s p 0 ≡ 48 → length s ≤ p + 1 → true ≡ well_formed (run (drop p s)).value
-      unfolding run empty
-      formed_zero z k = rw (zero_first z, past s (p + 1) k)
-
-      pub formed_more : get_or s p 0 ≡ 48 → p + 1 < length s → not (is_digit (get_or s (p + 1) 0)) ≡ well_formed (run (drop p s)).value
-      unfolding empty one_more
-      formed_more z k = rw (zero_first z, from s (p + 1) k) (go (is_digit (get_or s (p + 1) 0)) refl)
-        where
-          go : (b : Bool) → is_digit (get_or s (p + 1) 0) ≡ b → not (is_digit (get_or s (p + 1) 0)) ≡ empty (run (get_or s (p + 1) 0 ∷ drop (p + 1 + 1) s)).value
-          go true f = rw (f, run_digit (get_or s (p + 1) 0) (drop (p + 1 + 1) s) f)
-          go false f = rw (f, run_other (get_or s (p + 1) 0) (drop (p + 1 + 1) s) f)
+  pub formed_more : (d : ℕ) (t : Bytes) → c ≡ 48 → s ≡ d ∷ t → not (is_digit d) ≡ well_formed (run (c ∷ s)).value
+  unfolding empty one_more
+  formed_more d t z k = rw (zero_first z, k) (go (is_digit d) refl)
+    where
+      go : (b : Bool) → is_digit d ≡ b → not (is_digit d) ≡ empty (run (d ∷ t)).value
+      go true f = rw (f, run_digit d t f)
+      go false f = rw (f, run_other d t f)
 
 -- ---- a turn: v is the number of the digits before p
 
@@ -107,23 +108,23 @@ module _ (s : Bytes) (v p : ℕ) where
   turn_more h e = rw (from s p h) (decimal_more v (get_or s p 0) (drop (p + 1) s) e)
 
 module _ (m : ℕ) (s : Bytes) (v p : ℕ) where
-  pub turn_other : p < length s → is_digit (get_or s p 0) ≡ false → v ≤ m → taken s v p ≡ limited m (decimal_on v (run (drop p s)))
+  pub turn_other : p < length s → is_digit (get_or s p 0) ≡ false → v ≤ m → taken v (drop p s) ≡ limited m (decimal_on v (run (drop p s)))
   turn_other h e l = rw (from s p h, decimal_done v (get_or s p 0) (drop (p + 1) s) e) (limited_in m v (get_or s p 0 ∷ drop (p + 1) s) l)
 
-  pub turn_end : length s ≤ p → v ≤ m → taken s v p ≡ limited m (decimal_on v (run (drop p s)))
+  pub turn_end : length s ≤ p → v ≤ m → taken v (drop p s) ≡ limited m (decimal_on v (run (drop p s)))
   turn_end h l = rw (past s p h, decimal_end v) (limited_in m v [] l)
 
 -- ---- one digit
 
-module _ (s : Bytes) (p : ℕ) where
-  pub one_end : length s ≤ p → none ≡ one_digit (drop p s)
-  unfolding one_digit
-  one_end h = rw (past s p h)
+pub one_end : (s : Bytes) → s ≡ [] → none ≡ one_digit s
+unfolding one_digit
+one_end s e = rw e
 
-  pub one_here : p < length s → is_digit (get_or s p 0) ≡ true → taken s (get_or s p 0 - 48) (p + 1) ≡ one_digit (drop p s)
+module _ (s : Bytes) (c : ℕ) (t : Bytes) (k : s ≡ c ∷ t) where
+  pub one_here : is_digit c ≡ true → taken (c - 48) t ≡ one_digit s
   unfolding one_digit
-  one_here h e = rw (from s p h, e)
+  one_here e = rw (k, e)
 
-  pub one_other : p < length s → is_digit (get_or s p 0) ≡ false → none ≡ one_digit (drop p s)
+  pub one_other : is_digit c ≡ false → none ≡ one_digit s
   unfolding one_digit
-  one_other h e = rw (from s p h, e)
+  one_other e = rw (k, e)

@@ -1,7 +1,7 @@
 -- The line of the input's numbers: four values, each with the byte after it.
 -- The counts' limit, which the definition tests after the line, is tested with each.
 use Rattle.std.specs.Prelude.{◌≡◌, ◌&&◌, ◌<◌, ◌≤◌, ◌∷◌}
-use Rattle.laws.specs.Kit.{refl, sym, ◌∙◌, subst, Bool, true, false, cond, Option, none, some, ℕ, leb, lt-leb, le-leb, leb-false, [], drop}
+use Rattle.laws.specs.Kit.{refl, sym, ◌∙◌, subst, Bool, true, false, cond, Option, none, some, ℕ, leb, lt-leb, le-leb, leb-false, []}
 use borrow.Author.Tests.{leb-true}
 use Rattle.definition.specs.Text.{Bytes, Taken, Reader, take_on, ◌>>=◌, ◌>>◌, give, ensure, exactly, bytes, lit, dec, hex, one_digit, most_listed}
 use Rattle.reading.specs.Found.{taken, limited, up_to, and_then}
@@ -56,9 +56,9 @@ within_at m b (some t) = go (leb t.value m) refl
     go true e = rw e (inside (exactly (b ∷ []) t.rest) (leb-true t.value m e))
     go false e = rw e tt
 
-pub within : (s : Bytes) (m b v p : ℕ) (x : Bytes) → taken s v p ≡ and_then b (up_to m) x → v ≤ m
+pub within : (m b v : ℕ) (p x : Bytes) → taken v p ≡ and_then b (up_to m) x → v ≤ m
 unfolding and_then ◌>>=◌ up_to
-within s m b v p x e = subst (Within m) (sym e) (within_at m b (dec x))
+within m b v p x e = subst (Within m) (sym e) (within_at m b (dec x))
 
 -- ---- what follows each value
 
@@ -120,47 +120,47 @@ last_in t p z r x h k = rw (le-leb t 64 h, le-leb p 64 k)
 
 -- ---- each way out of the reading
 
-module _ (s x : Bytes) where
+module _ (x : Bytes) where
   pub no_names : none ≡ exactly (bytes "triangles points size stop\n") x → none ≡ heading x
   unfolding take_on
   no_names e = rw (heading_is x, ← e)
 
-  module _ (a : ℕ) (e : taken s tt a ≡ exactly (bytes "triangles points size stop\n") x) where
-    start : heading x ≡ take_on points (and_then 32 (up_to 64) (drop a s))
+  module _ (a : Bytes) (e : taken tt a ≡ exactly (bytes "triangles points size stop\n") x) where
+    start : heading x ≡ take_on points (and_then 32 (up_to 64) a)
     unfolding take_on
-    start = rw (heading_is x, ← e) (triangles_on (drop a s))
+    start = rw (heading_is x, ← e) (triangles_on a)
 
-    pub no_triangles : none ≡ and_then 32 (up_to 64) (drop a s) → none ≡ heading x
+    pub no_triangles : none ≡ and_then 32 (up_to 64) a → none ≡ heading x
     unfolding take_on
     no_triangles f = rw (start, ← f)
 
-    module _ (t b : ℕ) (f : taken s t b ≡ and_then 32 (up_to 64) (drop a s)) where
-      start_t : heading x ≡ take_on (size t) (and_then 32 (up_to 64) (drop b s))
+    module _ (t : ℕ) (b : Bytes) (f : taken t b ≡ and_then 32 (up_to 64) a) where
+      start_t : heading x ≡ take_on (size t) (and_then 32 (up_to 64) b)
       unfolding take_on
-      start_t = rw (start, ← f) (points_on t (drop b s))
+      start_t = rw (start, ← f) (points_on t b)
 
-      pub no_points : none ≡ and_then 32 (up_to 64) (drop b s) → none ≡ heading x
+      pub no_points : none ≡ and_then 32 (up_to 64) b → none ≡ heading x
       unfolding take_on
       no_points g = rw (start_t, ← g)
 
-      module _ (p c : ℕ) (g : taken s p c ≡ and_then 32 (up_to 64) (drop b s)) where
-        start_p : heading x ≡ take_on (rule t p) (and_then 32 hex (drop c s))
+      module _ (p : ℕ) (c : Bytes) (g : taken p c ≡ and_then 32 (up_to 64) b) where
+        start_p : heading x ≡ take_on (rule t p) (and_then 32 hex c)
         unfolding take_on
-        start_p = rw (start_t, ← g) (size_on t p (drop c s))
+        start_p = rw (start_t, ← g) (size_on t p c)
 
-        pub no_size : none ≡ and_then 32 hex (drop c s) → none ≡ heading x
+        pub no_size : none ≡ and_then 32 hex c → none ≡ heading x
         unfolding take_on
         no_size h = rw (start_p, ← h)
 
-        module _ (z d : ℕ) (h : taken s z d ≡ and_then 32 hex (drop c s)) where
-          start_z : heading x ≡ take_on (last t p z) (and_then 10 one_digit (drop d s))
+        module _ (z : ℕ) (d : Bytes) (h : taken z d ≡ and_then 32 hex c) where
+          start_z : heading x ≡ take_on (last t p z) (and_then 10 one_digit d)
           unfolding take_on
-          start_z = rw (start_p, ← h) (rule_on t p z (drop d s))
+          start_z = rw (start_p, ← h) (rule_on t p z d)
 
-          pub no_rule : none ≡ and_then 10 one_digit (drop d s) → none ≡ heading x
+          pub no_rule : none ≡ and_then 10 one_digit d → none ≡ heading x
           unfolding take_on
           no_rule k = rw (start_z, ← k)
 
-          pub all_read : (r q : ℕ) → taken s r q ≡ and_then 10 one_digit (drop d s) → taken s (record { triangles = t; points = p; size = z; stop = r }) q ≡ heading x
+          pub all_read : (r : ℕ) (q : Bytes) → taken r q ≡ and_then 10 one_digit d → taken (record { triangles = t; points = p; size = z; stop = r }) q ≡ heading x
           unfolding take_on
-          all_read r q k = rw (start_z, ← k) (sym (last_in t p z r (drop q s) (within s 64 32 t b (drop a s) f) (within s 64 32 p c (drop b s) g)))
+          all_read r q k = rw (start_z, ← k) (sym (last_in t p z r q (within 64 32 t b a f) (within 64 32 p c b g)))

@@ -1,35 +1,37 @@
 -- Sixteen hexadecimal digits, one after the other.
 use Rattle.std.specs.Prelude.{◌≡◌, ◌&&◌, ◌+◌, ◌-◌, ◌*◌, ◌^◌, ◌<◌, ◌≤◌, ◌∷◌}
-use Rattle.laws.specs.Kit.{refl, ◌∙◌, ap, Bool, true, false, cond, Option, none, some, ℕ, zero, suc, arith, eqb, leb, lt-leb, le-leb, pow-add, pow_mono, [], foldl, length, get_or, take, drop}
+use Rattle.laws.specs.Kit.{refl, ◌∙◌, ap, Bool, true, false, cond, Option, none, some, ℕ, zero, suc, arith, eqb, leb, lt-leb, le-leb, pow-add, pow_mono, [], foldl, length, get_or, take, drop, ne_eqb}
 use native.Mathlib.Nat.{le_trans}
 use borrow.Author.Tests.{leb-true}
+use lib.Seq.{take_all}
 use lib.Dec.{eqb-suc-suc, eqb-zero-suc}
+use Rattle.laws.specs.Bools.{both}
 use Rattle.definition.specs.Lists.{all}
 use Rattle.definition.specs.Text.{Bytes, Taken, is_digit, is_hex, hex_digit, hex_value, hex}
 use Rattle.reading.specs.Found.{taken}
-use Rattle.reading.proofs.Bytes.{from, past}
-use Rattle.reading.proofs.Digits.{digit_within, and_right}
+use Rattle.reading.proofs.Bytes.{from}
+use Rattle.reading.proofs.Digits.{digit_within}
 
 -- ---- one digit
 
-pub of_digit : (c : ℕ) → is_digit c ≡ true → c - 48 ≡ cond (is_hex c) (hex_digit c) 16
+pub of_digit : (c : ℕ) → is_digit c ≡ true → (is_hex c ≡ true) × (c - 48 ≡ hex_digit c)
 unfolding is_hex hex_digit
-of_digit c h = rw h
+of_digit c h = (rw h, rw h)
 
-pub of_low : (c : ℕ) → is_digit c ≡ false → c < 97 → 16 ≡ cond (is_hex c) (hex_digit c) 16
+pub of_low : (c : ℕ) → is_digit c ≡ false → c < 97 → is_hex c ≡ false
 unfolding is_hex
 of_low c h l = rw (h, lt-leb 97 c l)
 
-pub of_high : (c : ℕ) → is_digit c ≡ false → 97 ≤ c → 102 < c → 16 ≡ cond (is_hex c) (hex_digit c) 16
+pub of_high : (c : ℕ) → is_digit c ≡ false → 97 ≤ c → 102 < c → is_hex c ≡ false
 unfolding is_hex
 of_high c h l u = rw (h, le-leb 97 c l, lt-leb c 102 u)
 
-pub of_letter : (c : ℕ) → is_digit c ≡ false → 97 ≤ c → c ≤ 102 → c - 97 + 10 ≡ cond (is_hex c) (hex_digit c) 16
+pub of_letter : (c : ℕ) → is_digit c ≡ false → 97 ≤ c → c ≤ 102 → (is_hex c ≡ true) × (c - 97 + 10 ≡ hex_digit c)
 unfolding is_hex hex_digit
-of_letter c h l u = rw (h, le-leb 97 c l, le-leb c 102 u) (omega arith)
+of_letter c h l u = (rw (h, le-leb 97 c l, le-leb c 102 u), rw h (omega arith))
 
 -- a digit's value is below 16
-below : (c : ℕ) → is_hex c ≡ true → hex_digit c < 16
+pub below : (c : ℕ) → is_hex c ≡ true → hex_digit c < 16
 unfolding is_hex hex_digit
 below c h = go (is_digit c) refl
   where
@@ -37,25 +39,8 @@ below c h = go (is_digit c) refl
     go true e = rw e (omega (arith, digit_within c e))
     go false e =
         let k : leb 97 c && leb c 102 ≡ true = rw e at h in
-        let l : c ≤ 102 = leb-true c 102 (and_right (leb 97 c) (leb c 102) k) in
+        let l : c ≤ 102 = leb-true c 102 (both (leb 97 c) (leb c 102) k).1 in
         rw e (omega arith)
-
-module _ (c d : ℕ) (e : d ≡ cond (is_hex c) (hex_digit c) 16) where
-  -- a value below 16 is a digit's
-  pub is_value : d ≤ 15 → (is_hex c ≡ true) × (d ≡ hex_digit c)
-  is_value h = go (is_hex c) refl
-    where
-      go : (b : Bool) → is_hex c ≡ b → (is_hex c ≡ true) × (d ≡ hex_digit c)
-      go true k = (k, rw k at e)
-      go false k = absurd (let f : d ≡ 16 = rw k at e in omega arith)
-
-  -- 16 is no digit's
-  pub no_value : 15 < d → is_hex c ≡ false
-  no_value h = go (is_hex c) refl
-    where
-      go : (b : Bool) → is_hex c ≡ b → is_hex c ≡ false
-      go false k = k
-      go true k = absurd (let f : d ≡ hex_digit c = rw k at e in omega (arith, below c k))
 
 -- ---- k digits, the first of them after the number v
 
@@ -90,29 +75,29 @@ pub hex_start : (s : Bytes) → hex s ≡ hexes 16 0 s
 unfolding hex hex_value
 hex_start s = one_by_one 16 0 s
 
--- ---- a turn: i digits are read, and the next stands at p
-module _ (s : Bytes) (v p i : ℕ) (h : i < 16) where
+-- fewer than sixteen bytes
+pub hex_short : (s : Bytes) → length s < 16 → none ≡ hex s
+unfolding hex
+hex_short s h =
+    let all_of : take 16 s ≡ s = take_all 16 s (omega arith) in
+    rw (all_of, ne_eqb (length s) 16 (λ e. absurd (omega arith)))
+
+-- ---- a turn: i digits are read
+module _ (s : Bytes) (v i : ℕ) (h : i < 16) (k : i < length s) where
   left : 16 - i ≡ suc (16 - (i + 1))
   left = omega arith
 
-  pub hexes_short : length s ≤ p → none ≡ hexes (16 - i) v (drop p s)
+  pub hexes_other : is_hex (get_or s i 0) ≡ false → none ≡ hexes (16 - i) v (drop i s)
   unfolding hexes
-  hexes_short k = rw (left, past s p k)
+  hexes_other e = rw (left, from s i k, e)
 
-  module _ (d : ℕ) (k : p < length s) (e : d ≡ cond (is_hex (get_or s p 0)) (hex_digit (get_or s p 0)) 16) where
-    pub hexes_other : 15 < d → none ≡ hexes (16 - i) v (drop p s)
-    unfolding hexes
-    hexes_other l = rw (left, from s p k, no_value (get_or s p 0) d e l)
+  pub hexes_more : (d : ℕ) → (is_hex (get_or s i 0) ≡ true) × (d ≡ hex_digit (get_or s i 0)) → hexes (16 - i) v (drop i s) ≡ hexes (16 - (i + 1)) (16 * v + d) (drop (i + 1) s)
+  unfolding hexes
+  hexes_more d f = rw (left, from s i k, f.0, f.1)
 
-    pub hexes_more : d ≤ 15 → hexes (16 - i) v (drop p s) ≡ hexes (16 - (i + 1)) (16 * v + d) (drop (p + 1) s)
-    unfolding hexes
-    hexes_more l =
-        let f : (is_hex (get_or s p 0) ≡ true) × (d ≡ hex_digit (get_or s p 0)) = is_value (get_or s p 0) d e l in
-        rw (left, from s p k, f.0, f.1)
-
-pub hexes_done : (s : Bytes) (v p i : ℕ) → 16 ≤ i → taken s v p ≡ hexes (16 - i) v (drop p s)
+pub hexes_done : (s : Bytes) (v i : ℕ) → i ≡ 16 → taken v (drop 16 s) ≡ hexes (16 - i) v (drop i s)
 unfolding hexes
-hexes_done s v p i h = let e : 16 - i ≡ 0 = omega arith in rw e
+hexes_done s v i h = rw h
 
 -- ---- the number fits: i digits are 4 i bits
 

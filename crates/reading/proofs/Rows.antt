@@ -1,10 +1,12 @@
 -- Rows of a list, and a list of rows read one after the other.
 use Rattle.std.specs.Prelude.{◌≡◌, ◌+◌, ◌-◌, ◌*◌, ◌<◌, ◌≤◌, ◌∷◌, ◌++◌}
-use Rattle.laws.specs.Kit.{refl, sym, ◌∙◌, ap, Option, none, some, ℕ, zero, suc, arith, List, [], append-nil, append_assoc, length, set, take, drop}
+use Rattle.laws.specs.Kit.{refl, sym, ◌∙◌, ap, Option, none, some, ℕ, zero, suc, arith, List, [], append-nil, append_assoc, length, map, take, drop}
 use native.Mathlib.Nat.{zero-add, add-zero, suc-add, mul-suc, mul-zero, sub-zero}
-use native.Mathlib.Numerals.{add-one, add-two}
 use lib.ListN.{length-drop, take-append-drop}
-use lib.Seq.{sets-eq, drop-set-lt, take-append-le, drop-append-le, length-take-le}
+use lib.Seq.{take_at, take-append-le, drop-append-le, length-take-le}
+use borrow.Rule.Slice.PartMut.{put_mid}
+use Rattle.std.proofs.lemmas.Slice.{drop-put_mid}
+use Rattle.std.proofs.lemmas.List.{map-append, length-map, take-map}
 use Rattle.definition.specs.Lists.{rows}
 use Rattle.definition.specs.Text.{Bytes, Taken, Reader, take_on, give, ◌>>=◌, times}
 use Rattle.laws.specs.Lists.{nothing}
@@ -31,25 +33,22 @@ rows_take w i xs h =
     ∙ sym (rows_append w i 0 (take (w * i) xs) (drop (w * i) xs) (length-take-le (w * i) xs h))
     ∙ rw (add-zero i, take-append-drop (w * i) xs)
 
--- three stores in a row
-stores : (xs : List ℕ) (k a b c : ℕ) → k + 3 ≤ length xs → set (set (set xs k a) (k + 1) b) (k + 2) c ≡ take k xs ++ ((a ∷ b ∷ c ∷ []) ++ drop (k + 3) xs)
-stores xs k a b c h = rw (add-one k, add-two k) (sets-eq (a ∷ b ∷ c ∷ []) xs k h ∙ append_assoc (take k xs) (a ∷ b ∷ c ∷ []) (drop (k + 3) xs))
+module _ {A : Type 0} (number : A → ℕ) (xs row : List A) (i k : ℕ) (three : k ≡ 3) (long : length row ≡ 3) where
+  -- a row more
+  pub rows_put : 3 * i + 3 ≤ length xs → rows 3 (i + 1) (map number (put_mid (3 * i) k xs row)) ≡ rows 3 i (map number xs) ++ (map number row ∷ [])
+  unfolding rows
+  rows_put h =
+      let f : 3 * i ≤ length xs = omega arith in
+      let past = map number (drop k (drop (3 * i) xs)) in
+      let l : length (map number row) ≡ 3 = length-map row number ∙ long in
+      let m : length (take (3 * i) (map number xs)) ≡ 3 * i = length-take-le (3 * i) (map number xs) (rw (length-map xs number) f) in
+      rw (map-append number (take (3 * i) xs) (row ++ drop k (drop (3 * i) xs)), map-append number row (drop k (drop (3 * i) xs)), ← (take-map number (3 * i) xs))
+      (rows_append 3 i 1 (take (3 * i) (map number xs)) (map number row ++ past) m
+      ∙ rw (rows_take 3 i (map number xs) (rw (length-map xs number) f), take_at (map number row) past 3 l))
 
--- a row more
-pub rows_store : (xs : List ℕ) (i a b c : ℕ) → 3 * i + 3 ≤ length xs → rows 3 (i + 1) (set (set (set xs (3 * i) a) (3 * i + 1) b) (3 * i + 2) c) ≡ rows 3 i xs ++ ((a ∷ b ∷ c ∷ []) ∷ [])
-unfolding rows
-rows_store xs i a b c h =
-    let k : 3 * i ≤ length xs = omega arith in
-    rw (stores xs (3 * i) a b c h)
-    (rows_append 3 i 1 (take (3 * i) xs) (a ∷ b ∷ c ∷ drop (3 * i + 3) xs) (length-take-le (3 * i) xs k)
-    ∙ rw (rows_take 3 i xs k))
-
--- what lies past the stores stays
-pub past_store : (xs : List ℕ) (i n a b c : ℕ) → i < n → drop (3 * n) (set (set (set xs (3 * i) a) (3 * i + 1) b) (3 * i + 2) c) ≡ drop (3 * n) xs
-past_store xs i n a b c h =
-    drop-set-lt (3 * n) (set (set xs (3 * i) a) (3 * i + 1) b) (3 * i + 2) c (omega arith)
-    ∙ drop-set-lt (3 * n) (set xs (3 * i) a) (3 * i + 1) b (omega arith)
-    ∙ drop-set-lt (3 * n) xs (3 * i) a (omega arith)
+  -- what lies past it stays
+  pub past_put : (n : ℕ) → i < n → 3 * i + 3 ≤ length xs → drop (3 * n) (put_mid (3 * i) k xs row) ≡ drop (3 * n) xs
+  past_put n h l = drop-put_mid (3 * i) k xs row (3 * n) (omega arith) (omega arith) (long ∙ sym three)
 
 -- ---- reading
 
@@ -73,22 +72,22 @@ unfolding prepend take_on give
 one_more rs row none = refl
 one_more rs row (some t) = rw (append_assoc rs (row ∷ []) t.value)
 
-module _ (rs : List (List ℕ)) (r : Reader (List ℕ)) (s : Bytes) (n i p : ℕ) (h : i < n) where
+module _ (rs : List (List ℕ)) (r : Reader (List ℕ)) (n i : ℕ) (p : Bytes) (h : i < n) where
   left : n - i ≡ suc (n - (i + 1))
   left = omega arith
 
-  pub rows_off : none ≡ r (drop p s) → none ≡ prepend rs (times (n - i) r (drop p s))
+  pub rows_off : none ≡ r p → none ≡ prepend rs (times (n - i) r p)
   unfolding times ◌>>=◌ take_on prepend
   rows_off e = rw (left, ← e)
 
-  pub rows_more : (row : List ℕ) (q : ℕ) → taken s row q ≡ r (drop p s) → prepend rs (times (n - i) r (drop p s)) ≡ prepend (rs ++ (row ∷ [])) (times (n - (i + 1)) r (drop q s))
+  pub rows_more : (row : List ℕ) (q : Bytes) → taken row q ≡ r p → prepend rs (times (n - i) r p) ≡ prepend (rs ++ (row ∷ [])) (times (n - (i + 1)) r q)
   unfolding times ◌>>=◌ take_on
-  rows_more row q e = rw (left, ← e) (one_more rs row (times (n - (i + 1)) r (drop q s)))
+  rows_more row q e = rw (left, ← e) (one_more rs row (times (n - (i + 1)) r q))
 
 -- reading ends when all rows are read
-pub rows_done : (xs : List ℕ) (r : Reader (List ℕ)) (s : Bytes) (n i p : ℕ) → i ≤ n → n ≤ i → taken s (rows 3 n xs) p ≡ prepend (rows 3 i xs) (times (n - i) r (drop p s))
+pub rows_done : (xs : List ℕ) (r : Reader (List ℕ)) (n i : ℕ) (p : Bytes) → i ≤ n → n ≤ i → taken (rows 3 n xs) p ≡ prepend (rows 3 i xs) (times (n - i) r p)
 unfolding times give prepend
-rows_done xs r s n i p h k =
+rows_done xs r n i p h k =
     let e : n - i ≡ 0 = omega arith in
     let f : n ≡ i = omega arith in
-    rw (e, append-nil (rows 3 i xs)) (ap (λ (m : ℕ). taken s (rows 3 m xs) p) f)
+    rw (e, append-nil (rows 3 i xs)) (ap (λ (m : ℕ). taken (rows 3 m xs) p) f)

@@ -1,6 +1,6 @@
 -- A line of three values: each with the byte after it.
 use Rattle.std.specs.Prelude.{◌≡◌, ◌∷◌}
-use Rattle.laws.specs.Kit.{refl, sym, Bool, true, false, cond, Option, none, some, ℕ, leb, List, [], drop}
+use Rattle.laws.specs.Kit.{refl, sym, subst, length, Bool, true, false, cond, Option, none, some, ℕ, leb, List, []}
 use mathlib.Core.Path.{fun_ext}
 use Rattle.definition.specs.Text.{Bytes, Taken, Reader, take_on, exactly, bytes, lit, give, ensure, ◌>>=◌, ◌>>◌, dec, node, most_node, three}
 use Rattle.reading.specs.Found.{taken, limited, up_to, and_then}
@@ -41,24 +41,42 @@ module _ (r : Reader ℕ) where
   unfolding third ◌>>=◌
   third_on a b x = sym (on 10 r (λ c. give (a ∷ b ∷ c ∷ [])) x)
 
-module _ (s : Bytes) (r : Reader ℕ) (x : Bytes) where
+module _ (r : Reader ℕ) (x : Bytes) where
   pub three_off : none ≡ and_then 32 r x → none ≡ three r x
   unfolding take_on
   three_off e = rw (three_on r x, ← e)
 
-  module _ (a p : ℕ) (e : taken s a p ≡ and_then 32 r x) where
-    pub three_one : none ≡ and_then 32 r (drop p s) → none ≡ three r x
+  module _ (a : ℕ) (p : Bytes) (e : taken a p ≡ and_then 32 r x) where
+    pub three_one : none ≡ and_then 32 r p → none ≡ three r x
     unfolding take_on
-    three_one f = rw (three_on r x, ← e, second_on r a (drop p s), ← f)
+    three_one f = rw (three_on r x, ← e, second_on r a p, ← f)
 
-    module _ (b q : ℕ) (f : taken s b q ≡ and_then 32 r (drop p s)) where
-      pub three_two : none ≡ and_then 10 r (drop q s) → none ≡ three r x
+    module _ (b : ℕ) (q : Bytes) (f : taken b q ≡ and_then 32 r p) where
+      pub three_two : none ≡ and_then 10 r q → none ≡ three r x
       unfolding take_on
-      three_two g = rw (three_on r x, ← e, second_on r a (drop p s), ← f, third_on r a b (drop q s), ← g)
+      three_two g = rw (three_on r x, ← e, second_on r a p, ← f, third_on r a b q, ← g)
 
-      pub three_all : (c t : ℕ) → taken s c t ≡ and_then 10 r (drop q s) → taken s (a ∷ b ∷ c ∷ []) t ≡ three r x
+      pub three_all : (c : ℕ) (t : Bytes) → taken c t ≡ and_then 10 r q → taken (a ∷ b ∷ c ∷ []) t ≡ three r x
       unfolding take_on give
-      three_all c t g = rw (three_on r x, ← e, second_on r a (drop p s), ← f, third_on r a b (drop q s), ← g)
+      three_all c t g = rw (three_on r x, ← e, second_on r a p, ← f, third_on r a b q, ← g)
+
+-- a line has three values
+Three : Option (Taken (List ℕ)) → Type 0
+Three none = Unit {0}
+Three (some t) = length t.value ≡ 3
+
+on_each : {A : Type 0} (f : A → Reader (List ℕ)) → ((a : A) (x : Bytes) → Three (f a x)) → (o : Option (Taken A)) → Three (take_on f o)
+unfolding take_on Three
+on_each f h none = tt
+on_each f h (some t) = h t.value t.rest
+
+three_is : (r : Reader ℕ) (x : Bytes) → Three (three r x)
+unfolding three ◌>>=◌ ◌>>◌ give Three
+three_is r x = on_each _ (λ a x. on_each _ (λ u x. on_each _ (λ b x. on_each _ (λ u x. on_each _ (λ c x. on_each _ (λ u x. refl) _) _) _) _) _) _
+
+pub row_long : (r : Reader ℕ) (x : Bytes) {row : List ℕ} {y : Bytes} → taken row y ≡ three r x → length row ≡ 3
+unfolding Three
+row_long r x e = subst Three (sym e) (three_is r x)
 
 -- a node number is a decimal number up to the largest
 node_at : (o : Option (Taken ℕ)) → take_on (λ v. ensure (leb v most_node) >> give v) o ≡ limited most_node o

@@ -1,21 +1,21 @@
 -- The whole input: the line of its numbers, its two lists, and its end.
-use Rattle.std.specs.Prelude.{◌≡◌, ◌<◌, ◌≤◌}
-use Rattle.laws.specs.Kit.{refl, sym, ◌∙◌, ap, Option, none, some, ℕ, lt-leb, le-leb, List, length, drop}
+use Rattle.std.specs.Prelude.{◌≡◌, ◌<◌, ◌≤◌, ◌∷◌, Option as Found, None}
+use Rattle.laws.specs.Kit.{refl, true, false, arith, subst, [], sym, ◌∙◌, ap, Option, none, some, ℕ, lt-leb, le-leb, List, length}
+use Rattle.laws.specs.Lists.{nothing}
 use Rattle.definition.specs.Lists.{empty}
 use Rattle.definition.specs.Text.{Bytes, Taken, Reader, take_on, ◌>>=◌, ◌>>◌, give, lit, exactly, hex, node, three, times, most_bytes, Input, input}
 use Rattle.reading.specs.Found.{taken, triangle_list, point_list}
-use Rattle.reading.specs.Whole.{to_the_end, whole, heading}
+use Rattle.reading.specs.Whole.{to_the_end, whole, heading, WholeRead}
 use Rattle.reading.specs.declared.found.Header.{Header}
-use Rattle.reading.proofs.Bytes.{from, past}
 
 -- ---- a line of names, then rows
 
-module _ {A : Type 0} (s names : Bytes) (r : Reader A) (x : Bytes) where
+module _ {A : Type 0} (names : Bytes) (r : Reader A) (x : Bytes) where
   pub names_off : none ≡ exactly names x → none ≡ (exactly names >> r) x
   unfolding ◌>>◌ take_on
   names_off e = rw (← e)
 
-  pub names_on : (p : ℕ) → taken s tt p ≡ exactly names x → r (drop p s) ≡ (exactly names >> r) x
+  pub names_on : (p : Bytes) → taken tt p ≡ exactly names x → r p ≡ (exactly names >> r) x
   unfolding ◌>>◌ take_on
   names_on p e = rw (← e)
 
@@ -66,6 +66,19 @@ input_is s =
 
 -- ---- each way out of the reading
 
+some_left : (x : Bytes) → 0 < length x → empty x ≡ false
+unfolding empty
+some_left [] h = absurd (omega arith)
+some_left (b ∷ x) h = refl
+
+none_left : (x : Bytes) → length x ≡ 0 → empty x ≡ true
+unfolding empty
+none_left x h = rw (nothing x h)
+
+-- the input is bad
+pub bad : {s tris₀ tris bits₀ bits : Bytes} {r : Found Header} → r ≡ None → none ≡ whole s → WholeRead s tris₀ tris bits₀ bits r
+bad {s} {tris₀} {tris} {bits₀} {bits} e f = subst (WholeRead s tris₀ tris bits₀ bits) (sym e) (record { reads = f; kept = tt })
+
 pub too_long : (s : Bytes) → 8192 < length s → none ≡ whole s
 unfolding whole most_bytes
 too_long s h = rw (lt-leb (length s) 8192 h)
@@ -79,21 +92,21 @@ module _ (s : Bytes) (short : length s ≤ 8192) where
   unfolding to_the_end take_on
   no_start e = rw (whole_is, ← e)
 
-  module _ (h : Header) (a : ℕ) (e : taken s h a ≡ heading s) where
-    pub no_triangles : none ≡ triangle_list h.triangles (drop a s) → none ≡ whole s
+  module _ (h : Header) (a : Bytes) (e : taken h a ≡ heading s) where
+    pub no_triangles : none ≡ triangle_list h.triangles a → none ≡ whole s
     unfolding to_the_end take_on lists ◌>>=◌
     no_triangles f = rw (whole_is, ← e, ← f)
 
-    module _ (ts : List (List ℕ)) (b : ℕ) (f : taken s ts b ≡ triangle_list h.triangles (drop a s)) where
-      pub no_points : none ≡ point_list h.points (drop b s) → none ≡ whole s
+    module _ (ts : List (List ℕ)) (b : Bytes) (f : taken ts b ≡ triangle_list h.triangles a) where
+      pub no_points : none ≡ point_list h.points b → none ≡ whole s
       unfolding to_the_end take_on lists second ◌>>=◌
       no_points g = rw (whole_is, ← e, ← f, ← g)
 
-      module _ (ps : List (List ℕ)) (c : ℕ) (g : taken s ps c ≡ point_list h.points (drop b s)) where
-        pub more : c < length s → none ≡ whole s
+      module _ (ps : List (List ℕ)) (c : Bytes) (g : taken ps c ≡ point_list h.points b) where
+        pub more : 0 < length c → none ≡ whole s
         unfolding to_the_end take_on lists second both give ◌>>=◌ empty
-        more l = rw (whole_is, ← e, ← f, ← g, from s c l)
+        more l = rw (whole_is, ← e, ← f, ← g, some_left c l)
 
-        pub all_read : length s ≤ c → some (record { size = h.size; stop = h.stop; triangles = ts; points = ps }) ≡ whole s
+        pub all_read : length c ≡ 0 → some (record { size = h.size; stop = h.stop; triangles = ts; points = ps }) ≡ whole s
         unfolding to_the_end take_on lists second both give ◌>>=◌ empty
-        all_read l = rw (whole_is, ← e, ← f, ← g, past s c l)
+        all_read l = rw (whole_is, ← e, ← f, ← g, none_left c l)

@@ -1,17 +1,12 @@
 -- The whole input, and the definition's reply in its terms.
-use Rattle.std.specs.Prelude.{◌≡◌, ◌&&◌, ◌*◌, ◌≤◌, ◌++◌}
+use Rattle.std.specs.Prelude.{◌≡◌, ◌&&◌, ◌*◌, ◌≤◌, ◌++◌, Option as Found, None, Some}
 use Rattle.laws.specs.Kit.{refl, sym, ◌∙◌, ap, Bool, true, false, cond, Option, none, some, ℕ, zero, suc, leb, List, length, take, drop}
 use Rattle.std.proofs.Common.{mul-zero, mul-suc, add_comm, take-add}
 use Rattle.definition.specs.Lists.{empty, rows, concat, flat_map}
 use Rattle.definition.specs.Call.{call}
 use Rattle.definition.specs.Text.{Bytes, Taken, Reader, ◌>>=◌, ◌>>◌, give, ensure, lit, dec, hex, one_digit, most_listed, most_bytes, Input, input, asked, lent_for, show_refusal, show_returned, answer_to, reply}
 use Rattle.laws.specs.Lists.{rows_length}
-use Rattle.reading.specs.Found.{taken}
 use Rattle.reading.specs.declared.found.Header.{Header}
-use Rattle.reading.specs.declared.found.Start.{Start}
-use Rattle.reading.specs.declared.found.Start.TheVariants.{Off, At}
-use Rattle.reading.specs.declared.found.Reading.{Reading}
-use Rattle.reading.specs.declared.found.Reading.TheVariants.{Bad, Read}
 
 -- ---- reading to the end
 
@@ -49,12 +44,7 @@ reply_is s = go (leb (length s) most_bytes)
 
 -- ---- what the code's answers stand for
 
--- the line of the input's numbers
-abbrev pub start_as : Bytes → Start → Option (Taken Header)
-start_as s Off = none
-start_as s (At h p) = taken s h p
-
--- the definition's reading of that line
+-- the definition's reading of the line of the input's numbers
 unfoldable pub heading : Reader Header
 heading = do
   lit "triangles points size stop\n"
@@ -69,24 +59,14 @@ heading = do
   ensure (leb tris most_listed && leb pts most_listed)
   give (record { triangles = tris; points = pts; size = sz; stop = rule })
 
--- its counts are the program's at most
-abbrev pub few_if : Start → Type 0
-few_if Off = Unit {0}
-few_if (At h p) = (h.triangles ≤ 64) × (h.points ≤ 64)
-
--- what reading that line gives
-pub record StartRead (s : Bytes) (r : Start) : Type 0 where
-  pub reads : start_as s r ≡ heading s
-  pub few : few_if r
-
 -- the input of a header and the two slices: their first rows of three
 unfoldable pub input_of : Header → List ℕ → List ℕ → Input
 input_of h tris bits = record { size = h.size; stop = h.stop; triangles = rows 3 h.triangles tris; points = rows 3 h.points bits }
 
 -- the whole input, with the slices as they are at exit
-abbrev pub read_as : List ℕ → List ℕ → Reading → Option Input
-read_as tris bits Bad = none
-read_as tris bits (Read h) = some (input_of h tris bits)
+abbrev pub read_as : List ℕ → List ℕ → Found Header → Option Input
+read_as tris bits None = none
+read_as tris bits (Some h) = some (input_of h tris bits)
 
 -- the counts are the program's at most, and what lies past the lists is as it was
 pub record Kept (h : Header) (tris₀ tris bits₀ bits : List ℕ) : Type 0 where
@@ -97,12 +77,12 @@ pub record Kept (h : Header) (tris₀ tris bits₀ bits : List ℕ) : Type 0 whe
 
 -- where the input is read, its counts are the program's at most, and what lies past the lists is as it was;
 -- where it is bad, nothing is said of the slices
-abbrev pub kept_if : Reading → List ℕ → List ℕ → List ℕ → List ℕ → Type 0
-kept_if Bad tris₀ tris bits₀ bits = Unit {0}
-kept_if (Read h) tris₀ tris bits₀ bits = Kept h tris₀ tris bits₀ bits
+abbrev pub kept_if : Found Header → List ℕ → List ℕ → List ℕ → List ℕ → Type 0
+kept_if None tris₀ tris bits₀ bits = Unit {0}
+kept_if (Some h) tris₀ tris bits₀ bits = Kept h tris₀ tris bits₀ bits
 
 -- what reading the input gives and leaves
-pub record WholeRead (s tris₀ tris bits₀ bits : List ℕ) (r : Reading) : Type 0 where
+pub record WholeRead (s tris₀ tris bits₀ bits : List ℕ) (r : Found Header) : Type 0 where
   pub reads : read_as tris bits r ≡ whole s
   pub kept : kept_if r tris₀ tris bits₀ bits
 

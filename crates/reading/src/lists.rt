@@ -1,106 +1,47 @@
-// The input's two lists, read line by line into lent slices.
-ghost use Rattle.std.specs.Prelude.{◌≡◌, ◌*◌, ◌≤◌, length, drop};
-ghost use Rattle.definition.specs.Text.{three, node, hex, times};
-ghost use Rattle.reading.specs.Found.{corners_as, place_as, triangle_list, point_list, RowsRead};
+// The input's lists, read line by line into lent slices.
+ghost use Rattle.std.specs.Prelude.{◌≡◌, ◌*◌, ◌≤◌, length, map, drop, MatchOption};
+ghost use Rattle.std.proofs.Math.Option.{none};
+ghost use Rattle.definition.specs.Lists.{rows};
+ghost use Rattle.definition.specs.Text.{three, times};
+ghost use Rattle.reading.specs.Found.{taken, list_of};
 
-use crate::found::{Bits, Corners, Number, Place, Step};
 use crate::values;
+use crate::values::{Listed, ended};
 
-// A node number is at most this.
-const MOST_NODE: u32 = 4294967295;
-
-// A triangle's line.
-fn corners(s: &[u8], at: usize) -> Corners
-    ensures { corners_as s.now result ≡ three node (drop at s.now) }
+// A line of three values: a triangle's nodes, or a point's bits.
+fn line<T: Listed>(s: &[u8]) -> Option<([T; 3], &[u8])>
+    ensures { MatchOption result (none ≡ three T.reader s.now) (λ t. taken (map T.number_of t.0) t.1.now ≡ three T.reader s.now) }
 {
-    let Number::Is(a, p) = values::decimal_then(s, at, MOST_NODE, b' ') else {
-        return Corners::Off;
-    };
-    let Number::Is(b, q) = values::decimal_then(s, p, MOST_NODE, b' ') else {
-        return Corners::Off;
-    };
-    let Number::Is(c, next) = values::decimal_then(s, q, MOST_NODE, b'\n') else {
-        return Corners::Off;
-    };
-    Corners::Are(a, b, c, next)
+    let (a, p) = ended(T::read(s), b' ')?;
+    let (b, q) = ended(T::read(p), b' ')?;
+    let (c, rest) = ended(T::read(q), b'\n')?;
+    Some(([a, b, c], rest))
 }
 
-// A point's line.
-fn place(s: &[u8], at: usize) -> Place
-    ensures { place_as s.now result ≡ three hex (drop at s.now) }
+// n lines.
+// Kept (6): `past` speaks of what lies past them in the lent slice, which a slice as long as they are doesn't have.
+fn lines<'a, T: Listed>(s: &'a [u8], n: usize, into: &mut [T]) -> Option<&'a [u8]>
+    requires { 3 * n ≤ length into.old }
+    ensures reads { MatchOption result (none ≡ times n (three T.reader) s.now) (λ rest. taken (rows 3 n (map T.number_of into.new)) rest.now ≡ times n (three T.reader) s.now) }
+    ensures past { drop (3 * n) into.new ≡ drop (3 * n) into.old }
 {
-    let Bits::Are(x, p) = values::bits_then(s, at, b' ') else {
-        return Place::Off;
-    };
-    let Bits::Are(y, q) = values::bits_then(s, p, b' ') else {
-        return Place::Off;
-    };
-    let Bits::Are(z, next) = values::bits_then(s, q, b'\n') else {
-        return Place::Off;
-    };
-    Place::Is(x, y, z, next)
-}
-
-// The lines of n triangles.
-fn triangles(s: &[u8], at: usize, n: usize, tris: &mut [u32]) -> Step
-    requires { 3 * n ≤ length tris.old }
-    ensures { RowsRead s.now n (times n (three node) (drop at s.now)) tris.old tris.new result }
-{
-    let mut p = at;
-    let mut i = 0;
-    while i < n {
-        let Corners::Are(a, b, c, next) = corners(s, p) else {
-            return Step::Off;
-        };
+    let mut rest = s;
+    for i in 0..n {
+        let (row, after) = line::<T>(rest)?;
         let k = 3 * i;
-        tris[k] = a;
-        tris[k + 1] = b;
-        tris[k + 2] = c;
-        p = next;
-        i += 1;
+        into[k..k + 3].copy_from_slice(&row);
+        rest = after;
     }
-    Step::To(p)
+    Some(rest)
 }
 
-// The lines of n points.
-fn points(s: &[u8], at: usize, n: usize, bits: &mut [u64]) -> Step
-    requires { 3 * n ≤ length bits.old }
-    ensures { RowsRead s.now n (times n (three hex) (drop at s.now)) bits.old bits.new result }
+// A list: its line of names, and n lines.
+// Kept (6): as above, `past` speaks of what lies past them.
+pub fn list<'a, T: Listed>(s: &'a [u8], names: &[u8], n: usize, into: &mut [T]) -> Option<&'a [u8]>
+    requires { 3 * n ≤ length into.old }
+    ensures reads { MatchOption result (none ≡ list_of names.now T.reader n s.now) (λ rest. taken (rows 3 n (map T.number_of into.new)) rest.now ≡ list_of names.now T.reader n s.now) }
+    ensures past { drop (3 * n) into.new ≡ drop (3 * n) into.old }
 {
-    let mut p = at;
-    let mut i = 0;
-    while i < n {
-        let Place::Is(x, y, z, next) = place(s, p) else {
-            return Step::Off;
-        };
-        let k = 3 * i;
-        bits[k] = x;
-        bits[k + 1] = y;
-        bits[k + 2] = z;
-        p = next;
-        i += 1;
-    }
-    Step::To(p)
-}
-
-// The list of triangles: its line of names, and n lines.
-pub fn triangle_list(s: &[u8], at: usize, n: usize, tris: &mut [u32]) -> Step
-    requires { 3 * n ≤ length tris.old }
-    ensures { RowsRead s.now n (triangle_list n (drop at s.now)) tris.old tris.new result }
-{
-    let Step::To(p) = values::expect(s, at, b"n0 n1 n2\n") else {
-        return Step::Off;
-    };
-    triangles(s, p, n, tris)
-}
-
-// The list of points: its line of names, and n lines.
-pub fn point_list(s: &[u8], at: usize, n: usize, bits: &mut [u64]) -> Step
-    requires { 3 * n ≤ length bits.old }
-    ensures { RowsRead s.now n (point_list n (drop at s.now)) bits.old bits.new result }
-{
-    let Step::To(p) = values::expect(s, at, b"x y z\n") else {
-        return Step::Off;
-    };
-    points(s, p, n, bits)
+    let rows = values::expect(s, names)?;
+    lines(rows, n, into)
 }

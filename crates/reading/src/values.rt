@@ -1,190 +1,152 @@
 // Single values of the input: fixed bytes, decimal numbers, the bits of floats.
-// Each is read at a position of the input.
-ghost use Rattle.std.specs.Prelude.{cond, [], ◌∷◌, ◌≡◌, drop};
-ghost use Rattle.definition.specs.Text.{exactly, is_digit, run, decimal, well_formed, one_digit, is_hex, hex_digit, hex};
-ghost use Rattle.reading.specs.Found.{step_as, number_as, bits_as, limited, up_to, and_then};
+// Each is read at the front of the bytes; with it come those that are left.
+ghost use Rattle.std.specs.Prelude.{◌≡◌, ℕ, true, false, MatchOption};
+ghost use Rattle.std.proofs.Math.Option.{none};
+ghost use Rattle.definition.specs.Text.{Bytes, Reader, exactly, is_digit, run, decimal, well_formed, one_digit, is_hex, hex_digit, hex, node};
+ghost use Rattle.reading.specs.Found.{taken, limited, up_to, and_then, itself};
 
-use crate::found::{Bits, Number, Step};
+// A node number is at most this.
+const MOST_NODE: u32 = 4294967295;
 
 // The bytes of `text` themselves.
-pub fn expect(s: &[u8], at: usize, text: &[u8]) -> Step
-    ensures { step_as s.now result ≡ exactly text.now (drop at s.now) }
+pub fn expect<'a>(s: &'a [u8], text: &[u8]) -> Option<&'a [u8]>
+    ensures { MatchOption result (none ≡ exactly text.now s.now) (λ rest. taken tt rest.now ≡ exactly text.now s.now) }
 {
-    let mut p = at;
-    let mut i = 0;
-    while i < text.len() {
-        if p >= s.len() {
-            return Step::Off;
-        }
-        if s[p] != text[i] {
-            return Step::Off;
-        }
-        p += 1;
-        i += 1;
-    }
-    Step::To(p)
-}
-
-// One given byte.
-fn byte(s: &[u8], at: usize, b: u8) -> Step
-    ensures { step_as s.now result ≡ exactly (b ∷ []) (drop at s.now) }
-{
-    if at >= s.len() {
-        return Step::Off;
-    }
-    if s[at] == b {
-        Step::To(at + 1)
-    } else {
-        Step::Off
-    }
+    s.strip_prefix(text)
 }
 
 // The byte is a decimal digit.
 fn is_digit(c: u8) -> bool
     ensures { result ≡ is_digit c }
 {
-    b'0' <= c && c <= b'9'
+    c.is_ascii_digit()
 }
 
-// The digits at `at` are well formed: there is one, and no zero before another.
-fn well_formed(s: &[u8], at: usize) -> bool
-    ensures { result ≡ well_formed (run (drop at s.now)).value }
+// The digits at the front are well formed: there is one, and no zero before another.
+fn well_formed(s: &[u8]) -> bool
+    ensures { result ≡ well_formed (run s.now).value }
 {
-    if at >= s.len() {
+    let Some((first, rest)) = s.split_first() else {
         return false;
+    };
+    if *first != b'0' {
+        return is_digit(*first);
     }
-    if !is_digit(s[at]) {
-        return false;
-    }
-    if s[at] != b'0' {
+    let Some((next, _)) = rest.split_first() else {
         return true;
-    }
-    let next = at + 1;
-    if next >= s.len() {
-        return true;
-    }
-    !is_digit(s[next])
+    };
+    !is_digit(*next)
 }
 
-// The number of the digits at `at`; nothing as soon as it passes `most`.
-fn digits(s: &[u8], at: usize, most: u32) -> Number
-    ensures { number_as s.now result ≡ limited most (decimal (run (drop at s.now))) }
+// The number of the digits at the front; nothing as soon as it passes `most`.
+fn digits(s: &[u8], most: u32) -> Option<(u32, &[u8])>
+    ensures { MatchOption result (none ≡ limited most (decimal (run s.now))) (λ t. taken t.0 t.1.now ≡ limited most (decimal (run s.now))) }
 {
     let mut v: u64 = 0;
-    let mut p = at;
-    while p < s.len() {
-        let c = s[p];
-        if !is_digit(c) {
-            return Number::Is(v as u32, p);
+    for (i, c) in s.iter().enumerate() {
+        if !is_digit(*c) {
+            return Some((v as u32, &s[i..]));
         }
-        v = 10 * v + (c - b'0') as u64;
+        v = 10 * v + (*c - b'0') as u64;
         if v > most as u64 {
-            return Number::Off;
+            return None;
         }
-        p += 1;
     }
-    Number::Is(v as u32, p)
+    Some((v as u32, &s[s.len()..]))
 }
 
 // A decimal number of at most `most`, with no leading zero.
-fn decimal(s: &[u8], at: usize, most: u32) -> Number
-    ensures { number_as s.now result ≡ up_to most (drop at s.now) }
+pub fn decimal(s: &[u8], most: u32) -> Option<(u32, &[u8])>
+    ensures { MatchOption result (none ≡ up_to most s.now) (λ t. taken t.0 t.1.now ≡ up_to most s.now) }
 {
-    if well_formed(s, at) {
-        digits(s, at, most)
+    if well_formed(s) {
+        digits(s, most)
     } else {
-        Number::Off
+        None
     }
-}
-
-// A decimal number of at most `most`, with no leading zero, then the byte `b`.
-pub fn decimal_then(s: &[u8], at: usize, most: u32, b: u8) -> Number
-    ensures { number_as s.now result ≡ and_then b (up_to most) (drop at s.now) }
-{
-    let Number::Is(v, p) = decimal(s, at, most) else {
-        return Number::Off;
-    };
-    let Step::To(next) = byte(s, p, b) else {
-        return Number::Off;
-    };
-    Number::Is(v, next)
 }
 
 // One decimal digit.
-fn digit(s: &[u8], at: usize) -> Number
-    ensures { number_as s.now result ≡ one_digit (drop at s.now) }
+pub fn digit(s: &[u8]) -> Option<(u32, &[u8])>
+    ensures { MatchOption result (none ≡ one_digit s.now) (λ t. taken t.0 t.1.now ≡ one_digit s.now) }
 {
-    if at >= s.len() {
-        return Number::Off;
-    }
-    let c = s[at];
-    if is_digit(c) {
-        Number::Is((c - b'0') as u32, at + 1)
+    let (c, rest) = s.split_first()?;
+    if is_digit(*c) {
+        Some(((*c - b'0') as u32, rest))
     } else {
-        Number::Off
+        None
     }
 }
 
-// One decimal digit, then the byte `b`.
-pub fn digit_then(s: &[u8], at: usize, b: u8) -> Number
-    ensures { number_as s.now result ≡ and_then b one_digit (drop at s.now) }
-{
-    let Number::Is(v, p) = digit(s, at) else {
-        return Number::Off;
-    };
-    let Step::To(next) = byte(s, p, b) else {
-        return Number::Off;
-    };
-    Number::Is(v, next)
-}
-
-// A lowercase hexadecimal digit's value; 16 for any other byte.
-fn hex_value(c: u8) -> u64
-    ensures { result ≡ cond (is_hex c) (hex_digit c) 16 }
+// A lowercase hexadecimal digit's value.
+fn hex_value(c: u8) -> Option<u64>
+    ensures { MatchOption result (is_hex c ≡ false) (λ d. (is_hex c ≡ true) × (d ≡ hex_digit c)) }
 {
     if is_digit(c) {
-        return (c - b'0') as u64;
+        return Some((c - b'0') as u64);
     }
     if c < b'a' {
-        return 16;
+        return None;
     }
     if c > b'f' {
-        return 16;
+        return None;
     }
-    (c - b'a') as u64 + 10
+    Some((c - b'a') as u64 + 10)
 }
 
 // Sixteen hexadecimal digits.
-fn bits(s: &[u8], at: usize) -> Bits
-    ensures { bits_as s.now result ≡ hex (drop at s.now) }
+pub fn bits(s: &[u8]) -> Option<(u64, &[u8])>
+    ensures { MatchOption result (none ≡ hex s.now) (λ t. taken t.0 t.1.now ≡ hex s.now) }
 {
+    let (front, rest) = s.split_at_checked(16)?;
     let mut v: u64 = 0;
-    let mut p = at;
-    let mut i: u32 = 0;
-    while i < 16 {
-        if p >= s.len() {
-            return Bits::Off;
-        }
-        let d = hex_value(s[p]);
-        if d > 15 {
-            return Bits::Off;
-        }
+    for c in front {
+        let d = hex_value(*c)?;
         v = 16 * v + d;
-        p += 1;
-        i += 1;
     }
-    Bits::Are(v, p)
+    Some((v, rest))
 }
 
-// Sixteen hexadecimal digits, then the byte `b`.
-pub fn bits_then(s: &[u8], at: usize, b: u8) -> Bits
-    ensures { bits_as s.now result ≡ and_then b hex (drop at s.now) }
+// What was read, if the byte `b` follows it.
+// Whatever reads the value with what is left, then `b` after it reads the result.
+pub fn ended<'a, T: Copy>(found: Option<(T, &'a [u8])>, b: u8) -> Option<(T, &'a [u8])>
+    ensures { (number : T → ℕ) → (r : Reader ℕ) → (s : Bytes) → MatchOption found.entry (none ≡ r s) (λ t. taken (number t.0) t.1.now ≡ r s) → MatchOption result (none ≡ and_then b r s) (λ t. taken (number t.0) t.1.now ≡ and_then b r s) }
 {
-    let Bits::Are(v, p) = bits(s, at) else {
-        return Bits::Off;
-    };
-    let Step::To(next) = byte(s, p, b) else {
-        return Bits::Off;
-    };
-    Bits::Are(v, next)
+    let (v, after) = found?;
+    let rest = expect(after, &[b])?;
+    Some((v, rest))
+}
+
+// What a list has three of in each line.
+pub trait Listed: Copy {
+    // the value's number, and the definition's reader of it
+    ghost number_of: { Self → ℕ };
+
+    ghost reader: { Reader ℕ };
+
+    // The value at the front of the bytes.
+    fn read(s: &[u8]) -> Option<(Self, &[u8])>
+        ensures { MatchOption result (none ≡ reader s.now) (λ t. taken (number_of t.0) t.1.now ≡ reader s.now) };
+}
+
+// A node number.
+impl Listed for u32 {
+    ghost number_of = { itself };
+
+    ghost reader = { node };
+
+    fn read(s: &[u8]) -> Option<(u32, &[u8])> {
+        decimal(s, MOST_NODE)
+    }
+}
+
+// A float's bits.
+impl Listed for u64 {
+    ghost number_of = { itself };
+
+    ghost reader = { hex };
+
+    fn read(s: &[u8]) -> Option<(u64, &[u8])> {
+        bits(s)
+    }
 }

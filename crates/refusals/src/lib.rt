@@ -9,12 +9,17 @@ ghost use Rattle.definition.specs.Lists.{all};
 ghost use Rattle.exact.specs.GridTest.{is_whole_part};
 ghost use Rattle.definition.specs.Numbers.{base};
 ghost use Rattle.rules.specs.Settings.{quality_of};
+ghost use Rattle.refusals.specs.Numbers.{number_or_0};
 ghost use Rattle.refusals.specs.Stated.{asked, asked_for, Lends, spot};
 ghost use Rattle.refusals.specs.Passed.{Limited};
 ghost use Rattle.refusals.specs.Refusals.{first_refusal};
 
 use rules::{MOST_PAIRS, Quality, standard_quality};
 use words::wide;
+
+mod named;
+
+pub use named::{Refusal, number_or_0};
 
 // Triangles, and given points, that a call may state.
 const MOST_GIVEN: usize = 4096;
@@ -119,53 +124,31 @@ pub struct Room {
 fn over_limit(a: Stated) -> bool
     ensures { result ≡ over_limit (asked a) }
 {
-    if a.count > MOST_GIVEN {
-        return true;
-    }
-    if a.given > MOST_GIVEN {
-        return true;
-    }
-    if a.capacity > MOST_CAPACITY {
-        return true;
-    }
-    if a.slots > MOST_SLOTS {
-        return true;
-    }
-    false
+    a.count > MOST_GIVEN
+        || a.given > MOST_GIVEN
+        || a.capacity > MOST_CAPACITY
+        || a.slots > MOST_SLOTS
 }
 
 // 2: a size that is no zero of either sign and does not lie between its limits.
 fn bad_size(a: Stated) -> bool
     ensures { result ≡ bad_size (asked a) }
 {
-    let size = a.size;
-    if size == 0.0 {
-        return false;
-    }
-    if size >= LEAST_SIZE {
-        return !(size <= MOST_SIZE);
-    }
-    true
+    !(a.size == 0.0 || LEAST_SIZE <= a.size && a.size <= MOST_SIZE)
 }
 
 // 3: a stop rule that is neither 0 nor 1.
 fn bad_stop(a: Stated) -> bool
     ensures { result ≡ bad_stop (asked a) }
 {
-    if a.stop > 1 {
-        return true;
-    }
-    false
+    a.stop > 1
 }
 
 // The number lies from low to high, both included; a NaN does not.
-fn ranges(low: f64, high: f64, c: f64) -> bool
+pub fn ranges(low: f64, high: f64, c: f64) -> bool
     ensures { result ≡ ranges low high c }
 {
-    if low <= c {
-        return c <= high;
-    }
-    false
+    low <= c && c <= high
 }
 
 // Every number of the set is in its range, and the low side factor is not above the high one.
@@ -197,8 +180,7 @@ fn good_quality(y: Quality) -> bool
 fn bad_quality(a: Stated) -> bool
     ensures { result ≡ bad_quality (asked a) }
 {
-    let y = a.quality;
-    !good_quality(y)
+    !good_quality(a.quality)
 }
 
 // ---- the lender's slices
@@ -254,12 +236,10 @@ pub fn unknown_node(triangles: &[u32], a: Stated) -> bool
 {
     let given = a.given;
     let n = 3 * a.count;
-    let mut i = 0;
-    while i < n {
+    for i in 0..n {
         if wide(triangles[i]) >= given {
             return true;
         }
-        i += 1;
     }
     false
 }
@@ -268,13 +248,7 @@ pub fn unknown_node(triangles: &[u32], a: Stated) -> bool
 fn twice(n0: u32, n1: u32, n2: u32) -> bool
     ensures { result ≡ twice (new_tri n0 n1 n2) }
 {
-    if n0 == n1 {
-        return true;
-    }
-    if n1 == n2 {
-        return true;
-    }
-    n0 == n2
+    n0 == n1 || n1 == n2 || n0 == n2
 }
 
 // 6: a triangle names a node twice.
@@ -283,12 +257,10 @@ pub fn repeated_node(triangles: &[u32], a: Stated) -> bool
     ensures { (l : Lent) → l.triangles ≡ triangles.now → result ≡ repeated_node (asked a) l }
 {
     let count = a.count;
-    let mut i = 0;
-    while i < count {
+    for i in 0..count {
         if twice(triangles[3 * i], triangles[3 * i + 1], triangles[3 * i + 2]) {
             return true;
         }
-        i += 1;
     }
     false
 }
@@ -297,20 +269,14 @@ pub fn repeated_node(triangles: &[u32], a: Stated) -> bool
 fn within(x: f64) -> bool
     ensures { result ≡ (abs x ≼ most_coordinate) }
 {
-    if x >= -MOST_COORDINATE {
-        return x <= MOST_COORDINATE;
-    }
-    false
+    -MOST_COORDINATE <= x && x <= MOST_COORDINATE
 }
 
 // An x or y is not finite or is beyond the limit.
 fn outside(x: f64, y: f64) -> bool
     ensures { (z : Float) → result ≡ outside (spot x y z) }
 {
-    if within(x) {
-        return !within(y);
-    }
-    true
+    !(within(x) && within(y))
 }
 
 // 7: a given point is outside.
@@ -319,12 +285,10 @@ pub fn far_point(points: &[f64], a: Stated) -> bool
     ensures { (l : Lent) → l.points ≡ points.now → result ≡ far_point (asked a) l }
 {
     let given = a.given;
-    let mut i = 0;
-    while i < given {
+    for i in 0..given {
         if outside(points[3 * i], points[3 * i + 1]) {
             return true;
         }
-        i += 1;
     }
     false
 }
@@ -337,29 +301,26 @@ fn whole_part(x: f64) -> bool
     root::floor(y) == y
 }
 
+// Kept (2): one function of this and `outside`, with its test handed in, is no plainer than a line for each.
 // An x or y within the limit that is no whole number of 1/1024.
 fn off_grid(x: f64, y: f64) -> bool
     requires { (z : Float) → outside (spot x y z) ≡ false }
     ensures { (z : Float) → result ≡ not (grid_node (spot x y z)) }
 {
-    if whole_part(x) {
-        return !whole_part(y);
-    }
-    true
+    !(whole_part(x) && whole_part(y))
 }
 
+// Kept (2): one loop for this and `far_point`, with its test handed in, is no plainer, for this test has a condition.
 // Some given point is off the grid, all being within the limit.
 fn point_off_grid(points: &[f64], a: Stated) -> bool
     requires { (3 * a.given ≤ length points.now) × ((l : Lent) → l.points ≡ points.now → far_point (asked a) l ≡ false) }
     ensures { (l : Lent) → l.points ≡ points.now → result ≡ not (all grid_node (given_points (asked a) l)) }
 {
     let given = a.given;
-    let mut i = 0;
-    while i < given {
+    for i in 0..given {
         if off_grid(points[3 * i], points[3 * i + 1]) {
             return true;
         }
-        i += 1;
     }
     false
 }
@@ -369,27 +330,14 @@ fn bad_grid(points: &[f64], a: Stated) -> bool
     requires { (3 * a.given ≤ length points.now) × ((l : Lent) → l.points ≡ points.now → far_point (asked a) l ≡ false) }
     ensures { (l : Lent) → l.points ≡ points.now → result ≡ bad_grid (asked a) l }
 {
-    let grid = a.grid;
-    if !grid {
-        return false;
-    }
-    if a.size == 0.0 {
-        return point_off_grid(points, a);
-    }
-    true
+    a.grid && (a.size != 0.0 || point_off_grid(points, a))
 }
 
 // The two nodes are one, or one of them is not among the given points.
-fn bad_joint(u: u32, v: u32, given: usize) -> bool
+pub fn bad_joint(u: u32, v: u32, given: usize) -> bool
     ensures { result ≡ bad_joint given (key u v) }
 {
-    if u == v {
-        return true;
-    }
-    if wide(u) >= given {
-        return true;
-    }
-    wide(v) >= given
+    u == v || wide(u) >= given || wide(v) >= given
 }
 
 // 13: too many joints, or one of them is bad.
@@ -402,51 +350,55 @@ pub fn bad_joints(joints: &[u32], a: Stated) -> bool
     if n > MOST_JOINTS {
         return true;
     }
-    let mut i = 0;
-    while i < n {
+    for i in 0..n {
         if bad_joint(joints[2 * i], joints[2 * i + 1], given) {
             return true;
         }
-        i += 1;
     }
     false
 }
 
 // ---- the answer
 
-// The number of the first refusal whose condition holds; 0 where none does.
-pub fn refusal(points: &[f64], triangles: &[u32], joints: &[u32], a: Stated, n: Room) -> u32
-    ensures { (l : Lent) → Lends l points.now triangles.now joints.now n → result ≡ first_refusal (asked a) l }
+// The first refusal whose condition holds, if one does.
+pub fn refusal(
+    points: &[f64],
+    triangles: &[u32],
+    joints: &[u32],
+    a: Stated,
+    n: Room,
+) -> Result<(), Refusal>
+    ensures { (l : Lent) → Lends l points.now triangles.now joints.now n → number_or_0 result ≡ first_refusal (asked a) l }
 {
     if over_limit(a) {
-        return 1;
+        return Err(Refusal::OverLimit);
     }
     if bad_size(a) {
-        return 2;
+        return Err(Refusal::BadSize);
     }
     if bad_stop(a) {
-        return 3;
+        return Err(Refusal::BadStop);
     }
     if bad_quality(a) {
-        return 14;
+        return Err(Refusal::BadQuality);
     }
     if too_short(points, triangles, joints, a, n) {
-        return 4;
+        return Err(Refusal::TooShort);
     }
     if unknown_node(triangles, a) {
-        return 5;
+        return Err(Refusal::UnknownNode);
     }
     if repeated_node(triangles, a) {
-        return 6;
+        return Err(Refusal::RepeatedNode);
     }
     if far_point(points, a) {
-        return 7;
+        return Err(Refusal::FarPoint);
     }
     if bad_grid(points, a) {
-        return 15;
+        return Err(Refusal::OffGrid);
     }
     if bad_joints(joints, a) {
-        return 13;
+        return Err(Refusal::BadJoint);
     }
-    0
+    Ok(())
 }

@@ -1,5 +1,6 @@
 -- The tests of a region: each node inside the quad, and the areas summed, cell after cell of the list.
-use Rattle.std.specs.Prelude.{◌≡◌, ◌≢◌, ◌&&◌, ◌+◌, ◌<◌, ◌≤◌, ◌∷◌, ◌++◌}
+use Rattle.std.specs.Prelude.{◌≡◌, ◌&&◌, ◌+◌, ◌<◌, ◌≤◌, ◌∷◌, ◌++◌}
+use Rattle.std.specs.Prelude.{None, Some}
 use Rattle.laws.specs.Kit.{refl, sym, ◌∙◌, ap, subst, Bool, true, false, not, cond, Option, none, some, ℕ, zero, suc, arith, List, [], foldl, length, get_or, drop, Float, binary64, of_bits, lt, sub, mul}
 use mathlib.Core.Bool.{and-true}
 use Rattle.definition.specs.Floats.{◌⊕◌, ◌⊖◌, ◌⊗◌, ◌⊘◌, ◌≺◌, abs, greater, f64, 1·0, 2·0, 1e-9}
@@ -194,7 +195,7 @@ agrees_is q m a b c d f xs area ea expected ee sum es off eo most em =
 
 -- ---- the region
 
-module _ (w w' : List ℕ) (s p n seed : ℕ) (m : Mesh) (a b c d : ℕ) (r : Rep w s p m) (t : TriIn m seed) where
+module _ (w w' : List ℕ) (s p seed : ℕ) (m : Mesh) (a b c d : ℕ) (r : Rep w s p m) (t : TriIn m seed) where
   abbrev pub flooded : Option (List Live)
   flooded = flood m.used m (quad_edges (new_quad a b c d)) [] (tri_live seed t.t ∷ [])
 
@@ -202,57 +203,56 @@ module _ (w w' : List ℕ) (s p n seed : ℕ) (m : Mesh) (a b c d : ℕ) (r : Re
   unfolding region region_from new_live
   region_is = ap (region_from m (new_quad a b c d)) (rep_cell w s p m r t.has)
 
-  module _ (f : Reached w w' s p m [] flooded n) where
-    pub region_none : n ≡ 0 → Reached w w' s p m [] (region m seed (new_quad a b c d)) 0
-    unfolding if_filled
-    region_none z = subst (λ (o : Option (List Live)). Reached w w' s p m [] o 0) (sym region_is) (go flooded f)
-      where
-        go : (o : Option (List Live)) → Reached w w' s p m [] o n → Reached w w' s p m [] (if_filled m (new_quad a b c d) o) 0
-        go none h = record { zero' = refl; aside = h.aside }
-        go (some xs) h = absurd (omega (arith, h.state.list.many))
+  pub region_none : Reached w w' s p m [] flooded None → Reached w w' s p m [] (region m seed (new_quad a b c d)) None
+  unfolding if_filled
+  region_none f = subst (λ (o : Option (List Live)). Reached w w' s p m [] o None) (sym region_is) (go flooded f)
+    where
+      go : (o : Option (List Live)) → Reached w w' s p m [] o None → Reached w w' s p m [] (if_filled m (new_quad a b c d) o) None
+      go none h = h
+      go (some xs) h = absurd h
 
-    -- the cells that the flood reached
-    pub record Cells : Type 0 where
-      pub xs : List Live
-      pub is : flooded ≡ some xs
-      pub grown : Grown w w' s p n m xs
+  -- the cells that the flood reached
+  pub record Cells (n : ℕ) : Type 0 where
+    pub xs : List Live
+    pub is : flooded ≡ some xs
+    pub grown : Grown w w' s p n m xs
 
-    pub cells : n ≢ 0 → Cells
-    cells z = go flooded refl f
-      where
-        go : (o : Option (List Live)) → flooded ≡ o → Reached w w' s p m [] o n → Cells
-        go none e h = absurd (z h.zero')
-        go (some xs) e h = record { xs = xs; is = e; grown = h }
+  pub cells : (n : ℕ) → Reached w w' s p m [] flooded (Some n) → Cells n
+  cells n f = go flooded refl f
+    where
+      go : (o : Option (List Live)) → flooded ≡ o → Reached w w' s p m [] o (Some n) → Cells n
+      go none e h = absurd h
+      go (some xs) e h = record { xs = xs; is = e; grown = h }
 
-module _ {w w' : List ℕ} {s p n seed : ℕ} {m : Mesh} {a b c d : ℕ} {r : Rep w s p m} {t : TriIn m seed} {f : Reached w w' s p m [] (flooded w w' s p n seed m a b c d r t) n}
-    (k : Cells w w' s p n seed m a b c d r t f) where
+module _ {w w' : List ℕ} {s p n seed : ℕ} {m : Mesh} {a b c d : ℕ} {r : Rep w s p m} {t : TriIn m seed}
+    (k : Cells w w' s p seed m a b c d r t n) where
   spares : Bool
   spares = spares_locked m (new_quad a b c d) k.xs
 
   by_test : (v : Bool) → (fills m (new_quad a b c d) k.xs && spares) ≡ v → region m seed (new_quad a b c d) ≡ cond v (some k.xs) none
   unfolding if_filled spares
   by_test v e =
-      region_is w w' s p n seed m a b c d r t ∙ ap (if_filled m (new_quad a b c d)) k.is ∙ ap (λ (u : Bool). cond u (some k.xs) none) e
+      region_is w w' s p seed m a b c d r t ∙ ap (if_filled m (new_quad a b c d)) k.is ∙ ap (λ (u : Bool). cond u (some k.xs) none) e
 
   fills_is : fills m (new_quad a b c d) k.xs ≡ (all (cell_inside m (new_quad a b c d)) k.xs && area_agrees m (new_quad a b c d) k.xs)
   unfolding fills
   fills_is = refl
 
-  refused : (fills m (new_quad a b c d) k.xs && spares) ≡ false → Reached w w' s p m [] (region m seed (new_quad a b c d)) 0
-  refused e = subst (λ (o : Option (List Live)). Reached w w' s p m [] o 0) (sym (by_test false e)) (record { zero' = refl; aside = k.grown.aside })
+  refused : (fills m (new_quad a b c d) k.xs && spares) ≡ false → Reached w w' s p m [] (region m seed (new_quad a b c d)) None
+  refused e = subst (λ (o : Option (List Live)). Reached w w' s p m [] o None) (sym (by_test false e)) k.grown.aside
 
-  unfilled : fills m (new_quad a b c d) k.xs ≡ false → Reached w w' s p m [] (region m seed (new_quad a b c d)) 0
+  unfilled : fills m (new_quad a b c d) k.xs ≡ false → Reached w w' s p m [] (region m seed (new_quad a b c d)) None
   unfilled e = refused (ap (λ (v : Bool). v && spares) e)
 
   module _ (x : Bool) (ex : x ≡ all (cell_inside m (new_quad a b c d)) k.xs) where
-    pub region_outside : x ≡ false → Reached w w' s p m [] (region m seed (new_quad a b c d)) 0
+    pub region_outside : x ≡ false → Reached w w' s p m [] (region m seed (new_quad a b c d)) None
     region_outside z = unfilled (fills_is ∙ ap (λ (v : Bool). v && area_agrees m (new_quad a b c d) k.xs) (sym ex ∙ z))
 
     module _ (h : x ≡ true) (y : Bool) (ey : y ≡ area_agrees m (new_quad a b c d) k.xs) where
       both : (v : Bool) → y ≡ v → fills m (new_quad a b c d) k.xs ≡ v
       both v e = fills_is ∙ ap (λ (u : Bool). u && area_agrees m (new_quad a b c d) k.xs) (sym ex ∙ h) ∙ sym ey ∙ e
 
-      pub region_off : y ≡ false → Reached w w' s p m [] (region m seed (new_quad a b c d)) 0
+      pub region_off : y ≡ false → Reached w w' s p m [] (region m seed (new_quad a b c d)) None
       region_off z = unfilled (both false z)
 
       module _ (g : y ≡ true) (l : Bool) (el : l ≡ spares_locked m (new_quad a b c d) k.xs) where
@@ -260,8 +260,8 @@ module _ {w w' : List ℕ} {s p n seed : ℕ} {m : Mesh} {a b c d : ℕ} {r : Re
         unfolding spares
         free v e = ap (λ (u : Bool). u && spares) (both true g) ∙ sym el ∙ e
 
-        pub region_locked : l ≡ false → Reached w w' s p m [] (region m seed (new_quad a b c d)) 0
+        pub region_locked : l ≡ false → Reached w w' s p m [] (region m seed (new_quad a b c d)) None
         region_locked z = refused (free false z)
 
-        pub region_found : l ≡ true → Reached w w' s p m [] (region m seed (new_quad a b c d)) n
-        region_found z = subst (λ (o : Option (List Live)). Reached w w' s p m [] o n) (sym (by_test true (free true z))) k.grown
+        pub region_found : l ≡ true → Reached w w' s p m [] (region m seed (new_quad a b c d)) (Some n)
+        region_found z = subst (λ (o : Option (List Live)). Reached w w' s p m [] o (Some n)) (sym (by_test true (free true z))) k.grown

@@ -1,6 +1,7 @@
 -- The flood, triangle after triangle: done are those crossed, as many as `head`;
 -- the fuel is never at its end while one is left.
-use Rattle.std.specs.Prelude.{◌≡◌, ◌≢◌, ◌+◌, ◌<◌, ◌≤◌, ◌∷◌, ◌++◌}
+use Rattle.std.specs.Prelude.{◌≡◌, ◌+◌, ◌<◌, ◌≤◌, ◌∷◌, ◌++◌}
+use Rattle.std.specs.Prelude.{None, Some}
 use Rattle.laws.specs.Kit.{refl, sym, ◌∙◌, ap, subst, true, false≢true, Option, none, some, ℕ, zero, suc, arith, List, [], append-nil, append_assoc, length, get_or, length-append}
 use Rattle.definition.specs.Plane.{Edge}
 use Rattle.definition.specs.Cells.{Cell, tri, quad, Live, Mesh, live_tri, is_tri, new_live}
@@ -109,7 +110,7 @@ module _ (w₀ w : List ℕ) (s p n head : ℕ) (m : Mesh) (sides : List Edge) (
       }
 
   ended_at : (fuel : ℕ) (done todo : List Live) → State w s p n m (done ++ todo) → Aside w₀ w s p → head ≡ length done → whole ≡ flood fuel m sides done todo → n ≤ head
-      → Reached w₀ w s p m [] whole n
+      → Reached w₀ w s p m [] whole (Some n)
   ended_at fuel done [] h u a f l = rw (f ∙ flood_empty fuel m sides done) (record { state = subst (λ (xs : List Live). State w s p n m xs) (append-nil done) h; aside = u })
   ended_at fuel done (y ∷ todo) h u a f l = absurd (omega (arith, h.list.len, length-append done (y ∷ todo)))
 
@@ -117,7 +118,7 @@ module _ (w₀ w : List ℕ) (s p n head : ℕ) (m : Mesh) (sides : List Edge) (
     pub flood_few : n ≤ m.used
     flood_few = few g.state.list
 
-    pub flood_end : n ≤ head → Reached w₀ w s p m [] whole n
+    pub flood_end : n ≤ head → Reached w₀ w s p m [] whole (Some n)
     flood_end l = ended_at g.fuel g.done g.todo g.state g.aside g.at g.same l
 
     module _ (l : head < n) where
@@ -131,24 +132,23 @@ module _ (w₀ w : List ℕ) (s p n head : ℕ) (m : Mesh) (sides : List Edge) (
         abbrev over : Option (List Live)
         over = reach_all popped.done popped.todo (across m sides (tri_live j popped.tri.t))
 
-        module _ (w' : List ℕ) (r : ℕ) (f : Reached w w' s p m popped.done (reach_all popped.done popped.todo (across m sides (tri_live j popped.tri.t))) r) where
-          pub flood_failed : r ≡ 0 → Reached w₀ w' s p m [] whole 0
-          flood_failed z = go over popped.same f
-            where
-              go : (o : Option (List Live)) → whole ≡ and_then o (λ t. flood popped.fuel m sides popped.done t) → Reached w w' s p m popped.done o r → Reached w₀ w' s p m [] whole 0
-              go none e h = rw e (record { zero' = refl; aside = aside_trans w₀ w w' s p g.aside h.aside })
-              go (some t) e h = absurd (omega (arith, h.state.list.many))
+        pub flood_failed : (w' : List ℕ) → Reached w w' s p m popped.done over None → Reached w₀ w' s p m [] whole None
+        flood_failed w' f = go over popped.same f
+          where
+            go : (o : Option (List Live)) → whole ≡ and_then o (λ t. flood popped.fuel m sides popped.done t) → Reached w w' s p m popped.done o None → Reached w₀ w' s p m [] whole None
+            go none e h = rw e (aside_trans w₀ w w' s p g.aside h)
+            go (some t) e h = absurd h
 
-          pub flood_on : r ≢ 0 → Flooding w₀ w' s p r (head + 1) m sides whole
-          flood_on z =
-              let d = mid w w' s p m popped.done over r f z in
-              record {
-                fuel = popped.fuel;
-                done = popped.done;
-                todo = d.now;
-                state = d.state;
-                aside = aside_trans w₀ w w' s p g.aside d.aside;
-                at = popped.at;
-                enough = popped.enough;
-                same = popped.same ∙ ap (λ (o : Option (List Live)). and_then o (λ t. flood popped.fuel m sides popped.done t)) d.is;
-              }
+        pub flood_on : (w' : List ℕ) (r : ℕ) → Reached w w' s p m popped.done over (Some r) → Flooding w₀ w' s p r (head + 1) m sides whole
+        flood_on w' r f =
+            let d = mid w w' s p m popped.done over r f in
+            record {
+              fuel = popped.fuel;
+              done = popped.done;
+              todo = d.now;
+              state = d.state;
+              aside = aside_trans w₀ w w' s p g.aside d.aside;
+              at = popped.at;
+              enough = popped.enough;
+              same = popped.same ∙ ap (λ (o : Option (List Live)). and_then o (λ t. flood popped.fuel m sides popped.done t)) d.is;
+            }

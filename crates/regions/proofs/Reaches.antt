@@ -1,6 +1,7 @@
 -- One cell reached.
 use Rattle.std.specs.Prelude.{◌≡◌, ◌≢◌, ◌||◌, ◌+◌, ◌*◌, ◌<◌, ◌≤◌, ◌∷◌, ◌++◌}
-use Rattle.laws.specs.Kit.{refl, sym, ◌∙◌, ap, subst, Bool, true, false, cond, ℕ, arith, eqb, eq-eqb, ne_eqb, List, [], append_assoc, length, get_or, set, length-set, length-append}
+use Rattle.std.specs.Prelude.{None, Some}
+use Rattle.laws.specs.Kit.{sym, ◌∙◌, ap, subst, Bool, true, false, cond, ℕ, arith, eqb, eq-eqb, ne_eqb, List, [], append_assoc, length, get_or, set, length-set, length-append}
 use mathlib.Core.Bool.{or-false, or-true}
 use Rattle.rings.proofs.Lists.{Same, same, differ, decide, distinct_snoc, below_append, room}
 use Rattle.definition.specs.Lists.{any}
@@ -127,17 +128,17 @@ module _ (w : List ℕ) (s p n j : ℕ) (m : Mesh) (xs : List Live) (x : Live) (
 
 -- the answers of visit_one
 module _ (w : List ℕ) (s p n j : ℕ) (m : Mesh) (done todo : List Live) (x : Live) (h : Seen w s p n j m (done ++ todo) x) where
-  pub seen_known : get_or w (marks_at s p + j) 0 ≢ 0 → Reached w w s p m done (reach done todo x) n
+  pub seen_known : get_or w (marks_at s p + j) 0 ≢ 0 → Reached w w s p m done (reach done todo x) (Some n)
   unfolding reach among
   seen_known z = rw (known w s p n j m (done ++ todo) x h z) (record { state = h.state; aside = aside_refl w s p })
 
-  pub seen_other : get_or w (marks_at s p + j) 0 ≡ 0 → get_or w j 0 ≢ 3 → Reached w w s p m done (reach done todo x) 0
+  pub seen_other : get_or w (marks_at s p + j) 0 ≡ 0 → get_or w j 0 ≢ 3 → Reached w w s p m done (reach done todo x) None
   unfolding reach among
   seen_other z k =
       let t : live_tri x ≡ false = sym (kind w s p n j m (done ++ todo) x h) ∙ ne_eqb (get_or w j 0) 3 k in
-      rw (fresh w s p n j m (done ++ todo) x h z, t) (record { zero' = refl; aside = aside_refl w s p })
+      rw (fresh w s p n j m (done ++ todo) x h z, t) (aside_refl w s p)
 
-  pub seen_new : get_or w (marks_at s p + j) 0 ≡ 0 → get_or w j 0 ≡ 3 → Reached w (appended w s p n j) s p m done (reach done todo x) (n + 1)
+  pub seen_new : get_or w (marks_at s p + j) 0 ≡ 0 → get_or w j 0 ≡ 3 → Reached w (appended w s p n j) s p m done (reach done todo x) (Some (n + 1))
   unfolding reach among
   seen_new z k =
       let t : live_tri x ≡ true = sym (kind w s p n j m (done ++ todo) x h) ∙ eq-eqb (get_or w j 0) 3 k in

@@ -1,20 +1,8 @@
 -- The sides of a quad.
-use Rattle.std.specs.Prelude.{◌≡◌, ◌&&◌, ◌||◌}
-use Rattle.laws.specs.Kit.{sym, ◌∙◌, Bool, true, false, ℕ, eqb, eq-eqb, ne_eqb}
+use Rattle.std.specs.Prelude.{◌≡◌, ◌||◌}
+use Rattle.laws.specs.Kit.{sym, ◌∙◌, Bool, true, false, ℕ}
 use Rattle.definition.specs.Cells.{key, new_quad, quad_edges, has_edge_in, has_side}
 use Rattle.cells.proofs.Edges.{joins, quad_side}
-
-pub pair_not : (a b u v : ℕ) → (a ≡ u → ⊥) → false ≡ (eqb a u && eqb b v)
-pair_not a b u v h = rw (ne_eqb a u h)
-
-pub pair_rest : (a b u v : ℕ) → a ≡ u → eqb b v ≡ (eqb a u && eqb b v)
-pair_rest a b u v h = rw (eq-eqb a u h)
-
-pub joint_first : (u v a b : ℕ) (x : Bool) → x ≡ (eqb a u && eqb b v) → x ≡ true → true ≡ joins u v a b
-joint_first u v a b x e t = rw (sym e ∙ t)
-
-pub joint_rest : (u v a b : ℕ) (x y : Bool) → x ≡ (eqb a u && eqb b v) → x ≡ false → y ≡ (eqb a v && eqb b u) → y ≡ joins u v a b
-joint_rest u v a b x y e t r = rw (sym e ∙ t) r
 
 -- four tests, one after the other
 any4 : ℕ → ℕ → ℕ → ℕ → ℕ → ℕ → Bool

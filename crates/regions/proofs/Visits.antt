@@ -1,5 +1,6 @@
 -- The owners of an edge reached one after the other, and the edges of a triangle.
-use Rattle.std.specs.Prelude.{◌≡◌, ◌≢◌, ◌*◌, ◌/◌, ◌<◌, ◌≤◌, ◌∷◌, ◌++◌}
+use Rattle.std.specs.Prelude.{◌≡◌, ◌*◌, ◌/◌, ◌<◌, ◌≤◌, ◌∷◌, ◌++◌}
+use Rattle.std.specs.Prelude.{None, Some, Option as Answer}
 use Rattle.laws.specs.Kit.{refl, sym, ◌∙◌, ap, subst, Bool, true, false, not, cond, Option, none, some, ℕ, arith, List, [], append-nil, length}
 use Rattle.definition.specs.Lists.{filter, flat_map}
 use Rattle.definition.specs.Plane.{Edge}
@@ -37,37 +38,35 @@ reach_append done todo (y ∷ l) k = reach_one done todo y (l ++ k) ∙ go (reac
     go none h = refl
     go (some t) h = h t
 
-pub reached_aside : (w w' : List ℕ) (s p : ℕ) (m : Mesh) (done : List Live) (o : Option (List Live)) (r : ℕ) → Reached w w' s p m done o r → Aside w w' s p
-reached_aside w w' s p m done none r h = h.aside
-reached_aside w w' s p m done (some t) r h = h.aside
+pub reached_aside : (w w' : List ℕ) (s p : ℕ) (m : Mesh) (done : List Live) (o : Option (List Live)) (r : Answer ℕ) → Reached w w' s p m done o r → Aside w w' s p
+reached_aside w w' s p m done none None h = h
+reached_aside w w' s p m done none (Some r) h = absurd h
+reached_aside w w' s p m done (some t) None h = absurd h
+reached_aside w w' s p m done (some t) (Some r) h = h.aside
 
 -- what was reached from a memory that came from another
-pub reached_from : (w w1 w2 : List ℕ) (s p : ℕ) (m : Mesh) (done : List Live) (o : Option (List Live)) (r : ℕ)
+pub reached_from : (w w1 w2 : List ℕ) (s p : ℕ) (m : Mesh) (done : List Live) (o : Option (List Live)) (r : Answer ℕ)
     → Aside w w1 s p → Reached w1 w2 s p m done o r → Reached w w2 s p m done o r
-reached_from w w1 w2 s p m done none r u h = record { zero' = h.zero'; aside = aside_trans w w1 w2 s p u h.aside }
-reached_from w w1 w2 s p m done (some t) r u h = record { state = h.state; aside = aside_trans w w1 w2 s p u h.aside }
+reached_from w w1 w2 s p m done none None u h = aside_trans w w1 w2 s p u h
+reached_from w w1 w2 s p m done none (Some r) u h = absurd h
+reached_from w w1 w2 s p m done (some t) None u h = absurd h
+reached_from w w1 w2 s p m done (some t) (Some r) u h = record { state = h.state; aside = aside_trans w w1 w2 s p u h.aside }
 
--- what 0 says of the answer, and what another number does
-module _ (w w1 : List ℕ) (s p : ℕ) (m : Mesh) (done : List Live) (o : Option (List Live)) (r : ℕ) (f : Reached w w1 s p m done o r) where
-  pub then_failed : r ≡ 0 → (k : List Live → Option (List Live)) → Reached w w1 s p m done (and_then o k) 0
-  then_failed z k = go o f
-    where
-      go : (q : Option (List Live)) → Reached w w1 s p m done q r → Reached w w1 s p m done (and_then q k) 0
-      go none h = record { zero' = refl; aside = h.aside }
-      go (some t) h = absurd (omega (arith, h.state.list.many))
+-- what no number says of the cells, and what a number does
+module _ (w w1 : List ℕ) (s p : ℕ) (m : Mesh) (done : List Live) where
+  pub then_failed : (o : Option (List Live)) (k : List Live → Option (List Live)) → Reached w w1 s p m done o None → Reached w w1 s p m done (and_then o k) None
+  then_failed none k h = h
+  then_failed (some t) k h = absurd h
 
-  pub record Mid : Type 0 where
+  pub record Mid (o : Option (List Live)) (r : ℕ) : Type 0 where
     pub now : List Live
     pub is : o ≡ some now
     pub state : State w1 s p r m (done ++ now)
     pub aside : Aside w w1 s p
 
-  pub mid : r ≢ 0 → Mid
-  mid z = go o refl f
-    where
-      go : (q : Option (List Live)) → o ≡ q → Reached w w1 s p m done q r → Mid
-      go none e h = absurd (z h.zero')
-      go (some t) e h = record { now = t; is = e; state = h.state; aside = h.aside }
+  pub mid : (o : Option (List Live)) (r : ℕ) → Reached w w1 s p m done o (Some r) → Mid o r
+  mid none r h = absurd h
+  mid (some t) r h = record { now = t; is = refl; state = h.state; aside = h.aside }
 
 -- reached up to the corner c
 pub record Going (w₀ w : List ℕ) (s p u v k c : ℕ) (m : Mesh) (done todo : List Live) : Type 0 where
@@ -85,7 +84,7 @@ going_start w s p u v n c m done todo h a =
     record { rest = owners m (key u v); now = todo; at = a; live = λ x k. owner_live m (key u v) k; state = h; aside = aside_refl w s p; same = refl }
 
 module _ (w₀ w : List ℕ) (s p u v k c : ℕ) (m : Mesh) (done todo : List Live) (g : Going w₀ w s p u v k c m done todo) where
-  pub going_end : 4 * s ≤ c → Reached w₀ w s p m done (reach_all done todo (owners m (key u v))) k
+  pub going_end : 4 * s ≤ c → Reached w₀ w s p m done (reach_all done todo (owners m (key u v))) (Some k)
   unfolding reach_all
   going_end h = rw (g.same, at_end w s p u v c g.rest g.at h) (record { state = g.state; aside = g.aside })
 
@@ -97,17 +96,17 @@ module _ (w₀ w : List ℕ) (s p u v k c : ℕ) (m : Mesh) (done todo : List Li
     going_seen =
         record { state = g.state; live = g.live going_here.x (subst (λ (l : List Live). Has going_here.x l) (sym going_here.is) here); slot = going_here.slot }
 
-    module _ (w' : List ℕ) (r : ℕ) (f : Reached w w' s p m done (reach done g.now going_here.x) r) where
+    after : reach_all done todo (owners m (key u v)) ≡ and_then (reach done g.now going_here.x) (λ t. reach_all done t going_here.more)
+    after = g.same ∙ ap (reach_all done g.now) going_here.is ∙ reach_one done g.now going_here.x going_here.more
+
+    pub going_failed : (w' : List ℕ) → Reached w w' s p m done (reach done g.now going_here.x) None → Reached w₀ w' s p m done (reach_all done todo (owners m (key u v))) None
+    going_failed w' f =
+        rw after (reached_from w₀ w w' s p m done (and_then (reach done g.now going_here.x) (λ t. reach_all done t going_here.more)) None g.aside
+        (then_failed w w' s p m done (reach done g.now going_here.x) (λ t. reach_all done t going_here.more) f))
+
+    module _ (w' : List ℕ) (r : ℕ) (f : Reached w w' s p m done (reach done g.now going_here.x) (Some r)) where
       kept : Aside w w' s p
-      kept = reached_aside w w' s p m done (reach done g.now going_here.x) r f
-
-      after : reach_all done todo (owners m (key u v)) ≡ and_then (reach done g.now going_here.x) (λ t. reach_all done t going_here.more)
-      after = g.same ∙ ap (reach_all done g.now) going_here.is ∙ reach_one done g.now going_here.x going_here.more
-
-      pub going_failed : r ≡ 0 → Reached w₀ w' s p m done (reach_all done todo (owners m (key u v))) 0
-      going_failed z =
-          rw after (reached_from w₀ w w' s p m done (and_then (reach done g.now going_here.x) (λ t. reach_all done t going_here.more)) 0 g.aside
-          (then_failed w w' s p m done (reach done g.now going_here.x) r f z (λ t. reach_all done t going_here.more)))
+      kept = reached_aside w w' s p m done (reach done g.now going_here.x) (Some r) f
 
       -- the walk stands where it stood
       pub going_at : At w' s p u v c g.rest
@@ -117,9 +116,9 @@ module _ (w₀ w : List ℕ) (s p u v k c : ℕ) (m : Mesh) (done todo : List Li
         pub going_less : left w' s p c' < left w s p c
         going_less = omega (arith, n.fewer, left_under w w' s p kept.under c)
 
-        pub going_on : r ≢ 0 → Going w₀ w' s p u v r c' m done todo
-        going_on z =
-            let d = mid w w' s p m done (reach done g.now going_here.x) r f z in
+        pub going_on : Going w₀ w' s p u v r c' m done todo
+        going_on =
+            let d = mid w w' s p m done (reach done g.now going_here.x) r f in
             record {
               rest = going_here.more;
               now = d.now;
@@ -134,11 +133,11 @@ module _ (w₀ w : List ℕ) (s p u v k c : ℕ) (m : Mesh) (done todo : List Li
 
 -- an edge, or a side of the quad
 module _ (w : List ℕ) (s p : ℕ) (sides : List Edge) (e : Edge) (n : ℕ) (m : Mesh) (done todo : List Live) (x : Bool) (q : x ≡ has_edge_in sides e) where
-  pub side_skipped : x ≡ true → State w s p n m (done ++ todo) → Reached w w s p m done (reach_all done todo (beyond m sides e)) n
+  pub side_skipped : x ≡ true → State w s p n m (done ++ todo) → Reached w w s p m done (reach_all done todo (beyond m sides e)) (Some n)
   unfolding beyond reach_all
   side_skipped t h = rw (sym q ∙ t) (record { state = h; aside = aside_refl w s p })
 
-  pub side_crossed : x ≡ false → (w' : List ℕ) (r : ℕ) → Reached w w' s p m done (reach_all done todo (owners m e)) r
+  pub side_crossed : x ≡ false → (w' : List ℕ) (r : Answer ℕ) → Reached w w' s p m done (reach_all done todo (owners m e)) r
       → Reached w w' s p m done (reach_all done todo (beyond m sides e)) r
   unfolding beyond
   side_crossed t w' r h = rw (sym q ∙ t) h
@@ -192,13 +191,13 @@ module _ (w : List ℕ) (s p : ℕ) (m : Mesh) (r : Rep w s p m) (i : ℕ) (t : 
   tri_corners ex ey ez = rw (ex, ey, ez) (corners_of p (length m.points) t.t r.points (rep_held w s p m r t.has).shape)
 
 -- one list reached after another
-module _ (w w1 : List ℕ) (s p r : ℕ) (m : Mesh) (done todo l : List Live) (f : Reached w w1 s p m done (reach_all done todo l) r) where
-  pub seq_failed : r ≡ 0 → (k : List Live) → Reached w w1 s p m done (reach_all done todo (l ++ k)) 0
-  seq_failed z k = rw (reach_append done todo l k) (then_failed w w1 s p m done (reach_all done todo l) r f z (λ t. reach_all done t k))
+module _ (w w1 : List ℕ) (s p : ℕ) (m : Mesh) (done todo l : List Live) where
+  pub seq_failed : Reached w w1 s p m done (reach_all done todo l) None → (k : List Live) → Reached w w1 s p m done (reach_all done todo (l ++ k)) None
+  seq_failed f k = rw (reach_append done todo l k) (then_failed w w1 s p m done (reach_all done todo l) (λ t. reach_all done t k) f)
 
-  pub seq_mid : r ≢ 0 → Mid w w1 s p m done (reach_all done todo l) r f
-  seq_mid z = mid w w1 s p m done (reach_all done todo l) r f z
+  pub seq_mid : (r : ℕ) → Reached w w1 s p m done (reach_all done todo l) (Some r) → Mid w w1 s p m done (reach_all done todo l) r
+  seq_mid r f = mid w w1 s p m done (reach_all done todo l) r f
 
-  pub seq_then : (d : Mid w w1 s p m done (reach_all done todo l) r f) (k : List Live) (w2 : List ℕ) (r2 : ℕ)
+  pub seq_then : (r : ℕ) (d : Mid w w1 s p m done (reach_all done todo l) r) (k : List Live) (w2 : List ℕ) (r2 : Answer ℕ)
       → Reached w1 w2 s p m done (reach_all done d.now k) r2 → Reached w w2 s p m done (reach_all done todo (l ++ k)) r2
-  seq_then d k w2 r2 h = rw (reach_append done todo l k, d.is) (reached_from w w1 w2 s p m done (reach_all done d.now k) r2 d.aside h)
+  seq_then r d k w2 r2 h = rw (reach_append done todo l k, d.is) (reached_from w w1 w2 s p m done (reach_all done d.now k) r2 d.aside h)

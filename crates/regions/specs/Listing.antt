@@ -1,5 +1,6 @@
 -- The list of the cells reached and a mark for each slot, beyond the mesh.
 use Rattle.std.specs.Prelude.{◌≡◌, ◌+◌, ◌*◌, ◌^◌, ◌<◌, ◌≤◌, ◌∷◌, ◌++◌}
+use Rattle.std.specs.Prelude.{None, Some, Option as Answer}
 use Rattle.laws.specs.Kit.{true, cond, Option, none, some, ℕ, List, [], length, get_or}
 use Rattle.rings.specs.Rings.{Distinct}
 use Rattle.definition.specs.Lists.{any}
@@ -64,17 +65,14 @@ pub record Cleared (w w' : List ℕ) (s p n : ℕ) : Type 0 where
   pub keeps : Keeps w w' (list_at s p)
   pub marks : (i : ℕ) → i < n → get_or w' (marks_at s p + i) 0 ≡ 0
 
--- refused
-pub record Failed (w w' : List ℕ) (s p r : ℕ) : Type 0 where
-  pub zero' : r ≡ 0
-  pub aside : Aside w w' s p
-
 -- the r cells xs are listed
 pub record Grown (w w' : List ℕ) (s p r : ℕ) (m : Mesh) (xs : List Live) : Type 0 where
   pub state : State w' s p r m xs
   pub aside : Aside w w' s p
 
--- the answer: 0 where there are none, else the number of cells, which are listed behind those of done
-abbrev pub Reached : List ℕ → List ℕ → ℕ → ℕ → Mesh → List Live → Option (List Live) → ℕ → Type 0
-Reached w w' s p m done none r = Failed w w' s p r
-Reached w w' s p m done (some xs) r = Grown w w' s p r m (done ++ xs)
+-- the answer: none, or the number of cells, which are listed behind those of done
+abbrev pub Reached : List ℕ → List ℕ → ℕ → ℕ → Mesh → List Live → Option (List Live) → Answer ℕ → Type 0
+Reached w w' s p m done none None = Aside w w' s p
+Reached w w' s p m done none (Some r) = ⊥
+Reached w w' s p m done (some xs) None = ⊥
+Reached w w' s p m done (some xs) (Some r) = Grown w w' s p r m (done ++ xs)

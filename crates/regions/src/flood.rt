@@ -10,59 +10,52 @@ ghost use Rattle.regions.specs.Flood.{beyond, Seeded, tri_live};
 
 use crate::lists::{append, clear_marks, listed, mark};
 use cells::find::{first_owner, kind, next_owner, node};
+use cells::layout::Layout;
 
 // The cell in slot j is reached: it comes to the end of the list of n, unless it is listed;
-// 0 where it is no triangle.
-fn visit_one(w: &mut [u32], s: usize, p: usize, n: usize, j: usize) -> usize
-    requires { (m : Mesh) × (xs : List Live) × (x : Live) × Seen w.old s p n j m xs x }
-    ensures { (m : Mesh) (done todo : List Live) (x : Live) → Seen w.old s p n j m (done ++ todo) x → Reached w.old w.new s p m done (reach done todo x) result }
+// none where it is no triangle.
+fn visit_one(w: &mut [u32], lay: Layout, n: usize, j: usize) -> Option<usize>
+    requires { (m : Mesh) × (xs : List Live) × (x : Live) × Seen w.old lay.slots lay.points n j m xs x }
+    ensures { (m : Mesh) (done todo : List Live) (x : Live) → Seen w.old lay.slots lay.points n j m (done ++ todo) x → Reached w.old w.new lay.slots lay.points m done (reach done todo x) result }
 {
-    if mark(w, s, p, j) != 0 {
-        return n;
+    if mark(w, lay, j) != 0 {
+        return Some(n);
     }
-    if kind(w, s, j) != 3 {
-        return 0;
+    if kind(w, lay.slots, j) != 3 {
+        return None;
     }
-    append(w, s, p, n, j);
-    n + 1
+    append(w, lay, n, j);
+    Some(n + 1)
 }
 
 // The owners of u-v are reached one after the other.
-fn visit_edge(w: &mut [u32], s: usize, p: usize, n: usize, u: usize, v: usize) -> usize
-    requires state { (m : Mesh) × (xs : List Live) × State w.old s p n m xs }
-    requires edge { IsEdge p u v }
-    ensures { (m : Mesh) (done todo : List Live) → State w.old s p n m (done ++ todo) → Reached w.old w.new s p m done (reach_all done todo (owners m (key u v))) result }
+fn visit_edge(w: &mut [u32], lay: Layout, n: usize, u: usize, v: usize) -> Option<usize>
+    requires state { (m : Mesh) × (xs : List Live) × State w.old lay.slots lay.points n m xs }
+    requires edge { IsEdge lay.points u v }
+    ensures { (m : Mesh) (done todo : List Live) → State w.old lay.slots lay.points n m (done ++ todo) → Reached w.old w.new lay.slots lay.points m done (reach_all done todo (owners m (key u v))) result }
 {
     let mut k = n;
-    let mut c = first_owner(w, s, p, u, v);
-    while c < 4 * s {
-        k = visit_one(w, s, p, k, c / 4);
-        if k == 0 {
-            return 0;
-        }
-        c = next_owner(w, s, p, u, v, c);
+    let mut c = first_owner(w, lay, u, v);
+    while c < 4 * lay.slots {
+        k = visit_one(w, lay, k, c / 4)?;
+        c = next_owner(w, lay, u, v, c);
     }
-    k
+    Some(k)
 }
 
 // The pair a b is the pair u v.
 fn is_pair(a: usize, b: usize, u: usize, v: usize) -> bool
     ensures { result ≡ (eqb a u && eqb b v) }
 {
-    if a != u {
-        return false;
-    }
-    b == v
+    a == u && b == v
 }
 
 // The edge a-b is the edge u-v.
+// Kept (4): an edge has no direction, so that no derived equality of two pairs is this one.
 fn same_edge(u: usize, v: usize, a: usize, b: usize) -> bool
     ensures { result ≡ joins u v a b }
 {
-    if is_pair(a, b, u, v) {
-        return true;
-    }
-    is_pair(a, b, v, u)
+    is_pair(a, b, u, v) || is_pair(a, b, v, u)
 }
 
 // The edge u-v is a side of the quad a b c d.
@@ -84,8 +77,7 @@ pub fn is_side(u: usize, v: usize, a: usize, b: usize, c: usize, d: usize) -> bo
 // The owners of u-v are reached, unless that is a side of the quad a b c d.
 fn visit_side(
     w: &mut [u32],
-    s: usize,
-    p: usize,
+    lay: Layout,
     n: usize,
     u: usize,
     v: usize,
@@ -93,82 +85,72 @@ fn visit_side(
     b: usize,
     c: usize,
     d: usize,
-) -> usize
-    requires state { (m : Mesh) × (xs : List Live) × State w.old s p n m xs }
-    requires edge { IsEdge p u v }
-    ensures { (m : Mesh) (done todo : List Live) → State w.old s p n m (done ++ todo) → Reached w.old w.new s p m done (reach_all done todo (beyond m (quad_edges (new_quad a b c d)) (key u v))) result }
+) -> Option<usize>
+    requires state { (m : Mesh) × (xs : List Live) × State w.old lay.slots lay.points n m xs }
+    requires edge { IsEdge lay.points u v }
+    ensures { (m : Mesh) (done todo : List Live) → State w.old lay.slots lay.points n m (done ++ todo) → Reached w.old w.new lay.slots lay.points m done (reach_all done todo (beyond m (quad_edges (new_quad a b c d)) (key u v))) result }
 {
     if is_side(u, v, a, b, c, d) {
-        return n;
+        return Some(n);
     }
-    visit_edge(w, s, p, n, u, v)
+    visit_edge(w, lay, n, u, v)
 }
 
 // The cells across the edges of the triangle in slot i that are no sides are reached, edge after edge.
 fn visit_tri(
     w: &mut [u32],
-    s: usize,
-    p: usize,
+    lay: Layout,
     n: usize,
     i: usize,
     a: usize,
     b: usize,
     c: usize,
     d: usize,
-) -> usize
-    requires { (m : Mesh) × (xs : List Live) × State w.old s p n m xs × TriIn m i }
-    ensures { (m : Mesh) (done todo : List Live) → State w.old s p n m (done ++ todo) → (t : TriIn m i) → Reached w.old w.new s p m done (reach_all done todo (across m (quad_edges (new_quad a b c d)) (tri_live i t.t))) result }
+) -> Option<usize>
+    requires { (m : Mesh) × (xs : List Live) × State w.old lay.slots lay.points n m xs × TriIn m i }
+    ensures { (m : Mesh) (done todo : List Live) → State w.old lay.slots lay.points n m (done ++ todo) → (t : TriIn m i) → Reached w.old w.new lay.slots lay.points m done (reach_all done todo (across m (quad_edges (new_quad a b c d)) (tri_live i t.t))) result }
 {
-    let x = node(w, s, i, 0);
-    let y = node(w, s, i, 1);
-    let z = node(w, s, i, 2);
-    let k = visit_side(w, s, p, n, x, y, a, b, c, d);
-    if k == 0 {
-        return 0;
-    }
-    let l = visit_side(w, s, p, k, y, z, a, b, c, d);
-    if l == 0 {
-        return 0;
-    }
-    visit_side(w, s, p, l, z, x, a, b, c, d)
+    let x = node(w, lay.slots, i, 0);
+    let y = node(w, lay.slots, i, 1);
+    let z = node(w, lay.slots, i, 2);
+    let k = visit_side(w, lay, n, x, y, a, b, c, d)?;
+    let l = visit_side(w, lay, k, y, z, a, b, c, d)?;
+    visit_side(w, lay, l, z, x, a, b, c, d)
 }
 
 // The triangle in slot i alone is listed, where `used` slots were given out.
-fn start(w: &mut [u32], s: usize, p: usize, used: usize, i: usize)
-    requires can_mark { CanMark w.old s p used }
-    requires i_lt_s { i < s }
-    ensures { Seeded w.old w.new s p used i }
+fn start(w: &mut [u32], lay: Layout, used: usize, i: usize)
+    requires can_mark { CanMark w.old lay.slots lay.points used }
+    requires i_lt_s { i < lay.slots }
+    ensures { Seeded w.old w.new lay.slots lay.points used i }
 {
-    clear_marks(w, s, p, used);
-    append(w, s, p, 0, i);
+    clear_marks(w, lay, used);
+    append(w, lay, 0, i);
 }
 
 // The triangles reached from the one in slot i without crossing a side of the quad are listed.
-// The answer is their number, or 0 where a cell that was reached is no triangle.
+// The answer is their number; none where a cell that was reached is no triangle.
 pub fn flood(
     w: &mut [u32],
-    s: usize,
-    p: usize,
+    lay: Layout,
     used: usize,
     i: usize,
     a: usize,
     b: usize,
     c: usize,
     d: usize,
-) -> usize
-    requires { (m : Mesh) × Rep w.old s p m × TriIn m i × (m.used ≡ used) }
-    ensures { (m : Mesh) → Rep w.old s p m → (t : TriIn m i) → m.used ≡ used → Reached w.old w.new s p m [] (flood m.used m (quad_edges (new_quad a b c d)) [] (tri_live i t.t ∷ [])) result }
+) -> Option<usize>
+    requires { (m : Mesh) × Rep w.old lay.slots lay.points m × TriIn m i × (m.used ≡ used) }
+    ensures { (m : Mesh) → Rep w.old lay.slots lay.points m → (t : TriIn m i) → m.used ≡ used → Reached w.old w.new lay.slots lay.points m [] (flood m.used m (quad_edges (new_quad a b c d)) [] (tri_live i t.t ∷ [])) result }
 {
-    start(w, s, p, used, i);
+    start(w, lay, used, i);
     let mut n = 1;
     let mut head = 0;
+    // Kept (3): the list grows while the loop goes along it, so that no range ends where it does.
     while head < n {
-        let j = listed(w, s, p, head);
-        n = visit_tri(w, s, p, n, j, a, b, c, d);
-        if n == 0 {
-            return 0;
-        }
+        let j = listed(w, lay, head);
+        n = visit_tri(w, lay, n, j, a, b, c, d)?;
         head += 1;
     }
-    n
+    Some(n)
 }

@@ -6,26 +6,24 @@ ghost use Rattle.regions.specs.Listing.{Listed};
 ghost use Rattle.regions.specs.Fill.{Gone, Replaced};
 
 use crate::lists::listed;
+use cells::layout::Layout;
 use meshes::store::{push_quad, remove_cell};
 
 // The n listed cells go, in the list's order.
-fn remove_listed(w: &mut [u32], s: usize, p: usize, n: usize)
-    requires { (m : Mesh) × (xs : List Live) × Listed w.old s p n m xs }
-    ensures { Gone w.old w.new s p n remove_cells }
+fn remove_listed(w: &mut [u32], lay: Layout, n: usize)
+    requires { (m : Mesh) × (xs : List Live) × Listed w.old lay.slots lay.points n m xs }
+    ensures { Gone w.old w.new lay.slots lay.points n remove_cells }
 {
-    let mut i = 0;
-    while i < n {
-        let j = listed(w, s, p, i);
-        remove_cell(w, s, p, j);
-        i += 1;
+    for i in 0..n {
+        let j = listed(w, lay, i);
+        remove_cell(w, lay, j);
     }
 }
 
 // The quad a b c d takes the place of the n listed cells, in slot `used`, the next one.
 pub fn place_quad(
     w: &mut [u32],
-    s: usize,
-    p: usize,
+    lay: Layout,
     used: usize,
     n: usize,
     a: usize,
@@ -33,9 +31,9 @@ pub fn place_quad(
     c: usize,
     d: usize,
 )
-    requires { (m : Mesh) × (xs : List Live) × Listed w.old s p n m xs × CanPush m s used (quad_of_nodes a b c d) }
-    ensures { Replaced w.old w.new s p used n a b c d }
+    requires { (m : Mesh) × (xs : List Live) × Listed w.old lay.slots lay.points n m xs × CanPush m lay.slots used (quad_of_nodes a b c d) }
+    ensures { Replaced w.old w.new lay.slots lay.points used n a b c d }
 {
-    remove_listed(w, s, p, n);
-    push_quad(w, s, p, used, a, b, c, d);
+    remove_listed(w, lay, n);
+    push_quad(w, lay, used, a, b, c, d);
 }

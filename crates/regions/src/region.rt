@@ -12,6 +12,7 @@ use crate::flood::flood;
 use crate::lists::listed;
 use crate::spares::spares;
 use cells::find::node;
+use cells::layout::Layout;
 use plane::area::{quad_area, tri_area};
 use plane::floats::{abs, greater};
 use plane::sides::inside_quad;
@@ -23,20 +24,19 @@ pub const AREA_SLACK: f64 = 1e-9;
 fn tri_inside(
     w: &[u32],
     q: &[f64],
-    s: usize,
-    p: usize,
+    lay: Layout,
     j: usize,
     a: usize,
     b: usize,
     c: usize,
     d: usize,
 ) -> bool
-    requires { (m : Mesh) × Drawn w.now q.now s p j m × Known m a b c d }
-    ensures { (m : Mesh) (h : Drawn w.now q.now s p j m) → Known m a b c d → result ≡ cell_inside m (new_quad a b c d) (tri_live j h.tri.t) }
+    requires { (m : Mesh) × Drawn w.now q.now lay.slots lay.points j m × Known m a b c d }
+    ensures { (m : Mesh) (h : Drawn w.now q.now lay.slots lay.points j m) → Known m a b c d → result ≡ cell_inside m (new_quad a b c d) (tri_live j h.tri.t) }
 {
-    let x = node(w, s, j, 0);
-    let y = node(w, s, j, 1);
-    let z = node(w, s, j, 2);
+    let x = node(w, lay.slots, j, 0);
+    let y = node(w, lay.slots, j, 1);
+    let z = node(w, lay.slots, j, 2);
     if !inside_quad(q, a, b, c, d, x) {
         return false;
     }
@@ -50,45 +50,45 @@ fn tri_inside(
 fn all_inside(
     w: &[u32],
     q: &[f64],
-    s: usize,
-    p: usize,
+    lay: Layout,
     n: usize,
     a: usize,
     b: usize,
     c: usize,
     d: usize,
 ) -> bool
-    requires { (m : Mesh) × (xs : List Live) × Shown w.now q.now s p n m xs × Known m a b c d }
-    ensures { (m : Mesh) (xs : List Live) → Shown w.now q.now s p n m xs → Known m a b c d → result ≡ all (cell_inside m (new_quad a b c d)) xs }
+    requires { (m : Mesh) × (xs : List Live) × Shown w.now q.now lay.slots lay.points n m xs × Known m a b c d }
+    ensures { (m : Mesh) (xs : List Live) → Shown w.now q.now lay.slots lay.points n m xs → Known m a b c d → result ≡ all (cell_inside m (new_quad a b c d)) xs }
 {
-    let mut i = 0;
-    while i < n {
-        if !tri_inside(w, q, s, p, listed(w, s, p, i), a, b, c, d) {
+    for i in 0..n {
+        if !tri_inside(w, q, lay, listed(w, lay, i), a, b, c, d) {
             return false;
         }
-        i += 1;
     }
     true
 }
 
 // The area of the triangle in slot j.
-fn area_in(w: &[u32], q: &[f64], s: usize, p: usize, j: usize) -> f64
-    requires { (m : Mesh) × Drawn w.now q.now s p j m }
-    ensures { (m : Mesh) (h : Drawn w.now q.now s p j m) → result ≡ area_of m (tri h.tri.t) }
+fn area_in(w: &[u32], q: &[f64], lay: Layout, j: usize) -> f64
+    requires { (m : Mesh) × Drawn w.now q.now lay.slots lay.points j m }
+    ensures { (m : Mesh) (h : Drawn w.now q.now lay.slots lay.points j m) → result ≡ area_of m (tri h.tri.t) }
 {
-    tri_area(q, node(w, s, j, 0), node(w, s, j, 1), node(w, s, j, 2))
+    tri_area(
+        q,
+        node(w, lay.slots, j, 0),
+        node(w, lay.slots, j, 1),
+        node(w, lay.slots, j, 2),
+    )
 }
 
 // The areas of the n listed triangles, summed in the list's order.
-fn region_area(w: &[u32], q: &[f64], s: usize, p: usize, n: usize) -> f64
-    requires { (m : Mesh) × (xs : List Live) × Shown w.now q.now s p n m xs }
-    ensures { (m : Mesh) (xs : List Live) → Shown w.now q.now s p n m xs → result ≡ region_area m xs }
+fn region_area(w: &[u32], q: &[f64], lay: Layout, n: usize) -> f64
+    requires { (m : Mesh) × (xs : List Live) × Shown w.now q.now lay.slots lay.points n m xs }
+    ensures { (m : Mesh) (xs : List Live) → Shown w.now q.now lay.slots lay.points n m xs → result ≡ region_area m xs }
 {
     let mut sum: f64 = 0.0;
-    let mut i = 0;
-    while i < n {
-        sum = sum + area_in(w, q, s, p, listed(w, s, p, i));
-        i += 1;
+    for i in 0..n {
+        sum += area_in(w, q, lay, listed(w, lay, i));
     }
     sum
 }
@@ -97,52 +97,47 @@ fn region_area(w: &[u32], q: &[f64], s: usize, p: usize, n: usize) -> f64
 fn area_agrees(
     w: &[u32],
     q: &[f64],
-    s: usize,
-    p: usize,
+    lay: Layout,
     n: usize,
     a: usize,
     b: usize,
     c: usize,
     d: usize,
 ) -> bool
-    requires { (m : Mesh) × (xs : List Live) × Shown w.now q.now s p n m xs × Known m a b c d }
-    ensures { (m : Mesh) (xs : List Live) → Shown w.now q.now s p n m xs → Known m a b c d → result ≡ area_agrees m (new_quad a b c d) xs }
+    requires { (m : Mesh) × (xs : List Live) × Shown w.now q.now lay.slots lay.points n m xs × Known m a b c d }
+    ensures { (m : Mesh) (xs : List Live) → Shown w.now q.now lay.slots lay.points n m xs → Known m a b c d → result ≡ area_agrees m (new_quad a b c d) xs }
 {
     let expected = abs(quad_area(q, a, b, c, d));
-    let sum = region_area(w, q, s, p, n);
+    let sum = region_area(w, q, lay, n);
     !(abs(sum - expected) > AREA_SLACK * greater(expected, 1.0))
 }
 
 // The region of the quad a b c d around the triangle in slot `seed`.
-// Its cells are listed, and their number is the answer; 0 where it is refused.
+// Its cells are listed, and their number is the answer; none where it is refused.
 pub fn region(
     w: &mut [u32],
     q: &[f64],
     j: &[u32],
-    s: usize,
-    p: usize,
+    lay: Layout,
     used: usize,
     seed: usize,
     a: usize,
     b: usize,
     c: usize,
     d: usize,
-) -> usize
-    requires { (m : Mesh) × Drawn w.old q.now s p seed m × Known m a b c d × Locks j.now m.locked × (m.used ≡ used) }
-    ensures { (m : Mesh) → Drawn w.old q.now s p seed m → Known m a b c d → Locks j.now m.locked → m.used ≡ used → Reached w.old w.new s p m [] (region m seed (new_quad a b c d)) result }
+) -> Option<usize>
+    requires { (m : Mesh) × Drawn w.old q.now lay.slots lay.points seed m × Known m a b c d × Locks j.now m.locked × (m.used ≡ used) }
+    ensures { (m : Mesh) → Drawn w.old q.now lay.slots lay.points seed m → Known m a b c d → Locks j.now m.locked → m.used ≡ used → Reached w.old w.new lay.slots lay.points m [] (region m seed (new_quad a b c d)) result }
 {
-    let n = flood(w, s, p, used, seed, a, b, c, d);
-    if n == 0 {
-        return 0;
+    let n = flood(w, lay, used, seed, a, b, c, d)?;
+    if !all_inside(w, q, lay, n, a, b, c, d) {
+        return None;
     }
-    if !all_inside(w, q, s, p, n, a, b, c, d) {
-        return 0;
+    if !area_agrees(w, q, lay, n, a, b, c, d) {
+        return None;
     }
-    if !area_agrees(w, q, s, p, n, a, b, c, d) {
-        return 0;
+    if !spares(w, j, lay, n, a, b, c, d) {
+        return None;
     }
-    if !spares(w, j, s, p, n, a, b, c, d) {
-        return 0;
-    }
-    n
+    Some(n)
 }

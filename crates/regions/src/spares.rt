@@ -11,6 +11,7 @@ ghost use Rattle.regions.specs.Listing.{Listed};
 use crate::flood::is_side;
 use crate::lists::listed;
 use cells::find::node;
+use cells::layout::Layout;
 use joints::locked_between;
 
 // The edge u-v is a side of the quad a b c d, or is not locked.
@@ -28,20 +29,19 @@ fn may_go(j: &[u32], u: usize, v: usize, a: usize, b: usize, c: usize, d: usize)
 fn spares_tri(
     w: &[u32],
     j: &[u32],
-    s: usize,
-    p: usize,
+    lay: Layout,
     i: usize,
     a: usize,
     b: usize,
     c: usize,
     d: usize,
 ) -> bool
-    requires { (m : Mesh) × Rep w.now s p m × TriIn m i × Locks j.now m.locked }
-    ensures { (m : Mesh) → Rep w.now s p m → (t : TriIn m i) → Locks j.now m.locked → result ≡ all (may_go m (new_quad a b c d)) (edges (tri t.t)) }
+    requires { (m : Mesh) × Rep w.now lay.slots lay.points m × TriIn m i × Locks j.now m.locked }
+    ensures { (m : Mesh) → Rep w.now lay.slots lay.points m → (t : TriIn m i) → Locks j.now m.locked → result ≡ all (may_go m (new_quad a b c d)) (edges (tri t.t)) }
 {
-    let x = node(w, s, i, 0);
-    let y = node(w, s, i, 1);
-    let z = node(w, s, i, 2);
+    let x = node(w, lay.slots, i, 0);
+    let y = node(w, lay.slots, i, 1);
+    let z = node(w, lay.slots, i, 2);
     if !may_go(j, x, y, a, b, c, d) {
         return false;
     }
@@ -52,26 +52,25 @@ fn spares_tri(
 }
 
 // Every edge of the n listed triangles is a side of the quad a b c d, or is not locked.
+// Kept (2): it asks of each triangle another question than `all_inside`, of the joints and not of the points.
+// One function over the question is a closure whose clause at each call says all that the loop says here.
 pub fn spares(
     w: &[u32],
     j: &[u32],
-    s: usize,
-    p: usize,
+    lay: Layout,
     n: usize,
     a: usize,
     b: usize,
     c: usize,
     d: usize,
 ) -> bool
-    requires { (m : Mesh) × (xs : List Live) × Listed w.now s p n m xs × Locks j.now m.locked }
-    ensures { (m : Mesh) (xs : List Live) → Listed w.now s p n m xs → Locks j.now m.locked → result ≡ spares_locked m (new_quad a b c d) xs }
+    requires { (m : Mesh) × (xs : List Live) × Listed w.now lay.slots lay.points n m xs × Locks j.now m.locked }
+    ensures { (m : Mesh) (xs : List Live) → Listed w.now lay.slots lay.points n m xs → Locks j.now m.locked → result ≡ spares_locked m (new_quad a b c d) xs }
 {
-    let mut i = 0;
-    while i < n {
-        if !spares_tri(w, j, s, p, listed(w, s, p, i), a, b, c, d) {
+    for i in 0..n {
+        if !spares_tri(w, j, lay, listed(w, lay, i), a, b, c, d) {
             return false;
         }
-        i += 1;
     }
     true
 }

@@ -19,8 +19,7 @@ use Rattle.account.proofs.Finished.{behind, points_number, tris_number}
 use Rattle.account.proofs.Rounds.{attempts_bound}
 use Rattle.account.proofs.Invariants.{answer_fits}
 use Rattle.account.proofs.Demand.{keeps_account}
-use Rattle.mesher.specs.declared.Answer.{Answer}
-use Rattle.mesher.specs.Promise.{number_of, counts_in, lengths_in, Returns}
+use Rattle.mesher.specs.Promise.{Reply, number_of, counts_in, lengths_in, Returns}
 use Rattle.replies.specs.Tells.{Writable}
 use Rattle.replies.proofs.Empties.{front_empty_bound}
 
@@ -109,7 +108,7 @@ module _ (a : Asked) (l : Lent) (double : fits binary64 a.quality.largest_cosine
       }
 
   -- field by field
-  writable : (w : call.Answer) → (call a l).answer ≡ w → (r : Answer) → r.refusal ≡ number_of w → counts_in r ≡ call.counts_of w → lengths_in r ≡ call.lengths_of w → Writable r a.given
+  writable : (w : call.Answer) → (call a l).answer ≡ w → (r : Reply) → r.refusal ≡ number_of w → counts_in r ≡ call.counts_of w → lengths_in r ≡ call.lengths_of w → Writable r a.given
   unfolding number_of tally call.counts_of call.lengths_of no_counts
   writable (finished c n) e r f g h =
       let s = small c n e in
@@ -161,5 +160,5 @@ module _ (a : Asked) (l : Lent) (double : fits binary64 a.quality.largest_cosine
       }
 
   -- what the program's call answers can be written
-  pub call_writable : {r : Answer} {l' : Lent} → Returns (call a l) r l' → Writable r a.given
+  pub call_writable : {r : Reply} {l' : Lent} → Returns (call a l) r l' → Writable r a.given
   call_writable {r} h = writable (call a l).answer refl r h.number h.counts h.lengths

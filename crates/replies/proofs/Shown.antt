@@ -10,15 +10,14 @@ use Rattle.definition.specs.Call.{finished, refusal, Returned}
 use Rattle.definition.specs.Call as call
 use Rattle.definition.specs.Text.{show_lists, show_refusal, show_answer, show_returned}
 use Rattle.writing.specs.Answer.{shown, only_shown}
-use Rattle.mesher.specs.declared.Answer.{Answer}
-use Rattle.mesher.specs.Promise.{number_of, counts_in, lengths_in}
+use Rattle.mesher.specs.Promise.{Reply, number_of, counts_in, lengths_in}
 use Rattle.replies.specs.Tells.{Left}
 
 -- the lengths of a run without a trace
 abbrev pub untraced : call.Lengths → call.Lengths
 untraced n = record { quads = n.quads; triangles = n.triangles; points = n.points; components = n.components; words = 0 }
 
-module _ {x : Returned} {a : Answer} {points : List Float} {quads triangles components : List ℕ} (given : List (List ℕ)) (h : Left x a points quads triangles components) where
+module _ {x : Returned} {a : Reply} {points : List Float} {quads triangles components : List ℕ} (given : List (List ℕ)) (h : Left x a points quads triangles components) where
   by_number : (w : call.Answer) → x.answer ≡ w → 0 < a.refusal → show_refusal a.refusal ≡ show_answer given x.lent w
   unfolding show_answer number_of
   by_number (finished c n) e p = absurd (let z : a.refusal ≡ 0 = h.answer.number ∙ ap number_of e in omega arith)

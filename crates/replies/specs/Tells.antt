@@ -4,8 +4,7 @@ use Rattle.definition.specs.Floats.{f64}
 use Rattle.definition.specs.Call.{refusal, Returned, onto}
 use Rattle.reading.specs.declared.found.Header.{Header}
 use Rattle.writing.specs.Answer.{most_written}
-use Rattle.mesher.specs.declared.Answer.{Answer}
-use Rattle.mesher.specs.Promise.{Returns}
+use Rattle.mesher.specs.Promise.{Reply, Returns}
 
 -- the floats of n bit patterns at the front of a slice
 unfoldable pub filled : ℕ → List ℕ → List Float → List Float
@@ -19,7 +18,7 @@ pub record WasRead (h : Header) (tris bits : List ℕ) : Type 0 where
   pub points_held : 192 ≤ length bits
 
 -- the counts are small enough to be written
-pub record Countable (a : Answer) : Type 0 where
+pub record Countable (a : Reply) : Type 0 where
   pub front_empty : a.front_empty ≤ 4294967295
   pub attempts : a.attempts ≤ 4294967295
   pub placement : a.placement ≤ 4294967295
@@ -31,7 +30,7 @@ pub record Countable (a : Answer) : Type 0 where
   pub limit : a.limit ≤ 4294967295
 
 -- the answer is one that the program can write: its numbers are small, and its lists within what was lent
-pub record Writable (a : Answer) (given : ℕ) : Type 0 where
+pub record Writable (a : Reply) (given : ℕ) : Type 0 where
   pub number : a.refusal ≤ 16
   pub counts : Countable a
   pub quads : a.quads ≤ 160
@@ -50,7 +49,7 @@ pub record Long (given : ℕ) (bits : List ℕ) (points : List Float) (quads tri
   pub out_long : most_written ≤ length out
 
 -- a call returned this answer and left these slices; its refusals have a number
-pub record Left (x : Returned) (a : Answer) (points : List Float) (quads triangles components : List ℕ) : Type 0 where
+pub record Left (x : Returned) (a : Reply) (points : List Float) (quads triangles components : List ℕ) : Type 0 where
   pub answer : Returns x a x.lent
   pub named : (k : ℕ) → x.answer ≡ refusal k → 0 < k
   pub points_left : x.lent.points ≡ points

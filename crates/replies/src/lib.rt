@@ -4,17 +4,18 @@
 mod floats;
 
 ghost use Rattle.std.proofs.Math.Option.{some};
-ghost use Rattle.std.specs.Prelude.{◌≡◌, ◌≤◌, length};
+ghost use Rattle.std.specs.Prelude.{◌≡◌, ◌≤◌, length, Ok};
 ghost use Rattle.definition.specs.Lists.{rows};
 ghost use Rattle.definition.specs.Call.{Returned};
 ghost use Rattle.definition.specs.Text.{listed, show_returned, reply};
 ghost use Rattle.reading.specs.Whole.{input_of, answer};
 ghost use Rattle.writing.specs.Answer.{most_written, columns, Answered};
-ghost use Rattle.mesher.specs.Promise.{counts_in};
+ghost use Rattle.mesher.specs.Promise.{answered, counts_in};
 ghost use Rattle.replies.specs.Tells.{WasRead, Countable, Writable, Long, Left};
 
 use mesher::Answer;
-use reading::found::{Header, Reading};
+use reading::found::Header;
+use refusals::Refusal;
 use words::float_of;
 use writing::{Counts, Lengths};
 
@@ -31,9 +32,10 @@ const SLOTS: usize = 160;
 const NOT_IN_FORM: u32 = 10;
 
 // The counts to be written.
+// Kept (4): a From takes no `requires`, and `Countable` says that the counts fit 32 bits.
 fn counts_of(a: Answer) -> Counts
-    requires { Countable a }
-    ensures { listed (counts_in a) ≡ columns result }
+    requires { Countable (answered (Ok a)) }
+    ensures { listed (counts_in (answered (Ok a))) ≡ columns result }
 {
     Counts {
         front_empty: a.front_empty as u32,
@@ -50,9 +52,10 @@ fn counts_of(a: Answer) -> Counts
 
 // What a call returned, as text: its refusal, or its counts and lists with the `given`
 // points by the bits that were read.
+// Kept (4): `Lengths`, `Answer` and From are other crates', so no From can stand here.
 fn told(
     out: &mut [u8],
-    a: Answer,
+    a: Result<Answer, Refusal>,
     bits: &[u64],
     given: usize,
     points: &[f64],
@@ -60,12 +63,13 @@ fn told(
     triangles: &[u32],
     components: &[u32],
 ) -> usize
-    requires { Writable a given × Long given bits.now points.now quads.now triangles.now components.now out.old }
-    ensures { (x : Returned) → Left x a points.now quads.now triangles.now components.now → Answered out.old out.new (show_returned (rows 3 given bits.now) x) result }
+    requires { Writable (answered a) given × Long given bits.now points.now quads.now triangles.now components.now out.old }
+    ensures { (x : Returned) → Left x (answered a) points.now quads.now triangles.now components.now → Answered out.old out.new (show_returned (rows 3 given bits.now) x) result }
 {
-    if a.refusal > 0 {
-        return writing::refusal(out, a.refusal as u32);
-    }
+    let a = match a {
+        Ok(a) => a,
+        Err(k) => return writing::refusal(out, k.into()),
+    };
     let c = counts_of(a);
     let n = Lengths {
         quads: a.quads,
@@ -127,7 +131,7 @@ pub fn reply(text: &[u8], out: &mut [u8; WRITTEN]) -> usize
 {
     let mut tris = [0u32; 192];
     let mut bits = [0u64; 192];
-    let Reading::Read(h) = reading::read(text, &mut tris, &mut bits) else {
+    let Some(h) = reading::read(text, &mut tris, &mut bits) else {
         return writing::refusal(out, NOT_IN_FORM);
     };
     meshed(h, &tris, &bits, out)

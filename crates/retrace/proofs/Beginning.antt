@@ -12,6 +12,7 @@ use Rattle.definition.specs.Call.{Lent, first_points, given_points, given_tris, 
 use Rattle.definition.specs.Replay.{Told, as_asked}
 use Rattle.account.proofs.Finished.{points_number, tris_number}
 use Rattle.joints.specs.Table.{edge_in, Locks}
+use Rattle.cells.specs.Layout.{Sizes}
 use Rattle.cells.specs.Rep.{slots, Rep, Pts}
 use Rattle.cells.proofs.Slots.{slots_below}
 use Rattle.meshes.specs.Build.{Given, IsNew, Builds, CanBuild}
@@ -20,7 +21,7 @@ use Rattle.meshes.proofs.Valid.{shape_at}
 use Rattle.retrace.specs.Stored.{plain, kept, stored}
 use Rattle.retrace.specs.Plays.{quad_in, quads_of, Small}
 use Rattle.retrace.specs.Opening.{opening_number, first_mesh, CanBegin, Begins}
-use Rattle.retrace.specs.declared.Playing.{Playing}
+use Rattle.retrace.specs.Plays.{State}
 use Rattle.retrace.proofs.Keeping.{stored_used}
 use Rattle.retrace.proofs.Openings.{call_passes, opened}
 
@@ -61,6 +62,11 @@ module _ (t : Told) (l : Lent) (h : opening_number t l ≡ 0) where
       }
 
   -- what every entry asks
+  -- no area of the work slice begins at a large number
+  pub sized : Sizes t.slots t.capacity
+  unfolding as_asked
+  sized = let p = (opened t l h).passed.limited in record { slots = omega (arith, p.slots); points = omega (arith, p.capacity) }
+
   pub small : Small l.quads t.slots t.capacity
   unfolding as_asked
   small = let p = (opened t l h).passed in record { slots = p.limited.slots; points = p.limited.capacity; room = p.roomy.quads }
@@ -111,29 +117,29 @@ module _ (t : Told) (l : Lent) (h : opening_number t l ≡ 0) where
         (subst (λ (k : List Live). Below (stored m).used (slots k)) live_is (slots_below w' t.slots (stored m).used (length (stored m).points) (stored m).live first_rep.cells))
 
     -- the state before the first entry
-    pub first_begins : (r : Playing) → r ≡ record { at = 0; used = t.count; points = t.given; quads = 0; odd = false; refusal = 0 } → Begins w' t l r
+    pub first_begins : (r : State) → r ≡ record { at = 0; used = t.count; points = t.given; quads = 0; odd = false; refusal = 0 } → Begins w' t l r
     unfolding new_mesh quads_placed flat_map onto any settings settings_within
     first_begins r e =
         record {
           plays = record {
             rep = first_rep;
             pts = points_stand;
-            used = ap (λ (z : Playing). z.used) e ∙ sym tris_are;
-            points = ap (λ (z : Playing). z.points) e ∙ sym points_are;
-            number = ap (λ (z : Playing). z.quads) e;
+            used = ap (λ (z : State). z.used) e ∙ sym tris_are;
+            points = ap (λ (z : State). z.points) e ∙ sym points_are;
+            number = ap (λ (z : State). z.quads) e;
             text = refl;
             live = no_quads 0 (given_tris (as_asked t) l);
             few = omega arith;
-            odd = ap (λ (z : Playing). z.odd) e;
+            odd = ap (λ (z : State). z.odd) e;
             distinct = slots_differ;
             below = slots_given;
             free = refl;
             room = refl;
             len = refl;
             rest = refl;
-            going = ap (λ (z : Playing). z.refusal) e;
+            going = ap (λ (z : State). z.refusal) e;
           };
-          at = ap (λ (z : Playing). z.at) e;
+          at = ap (λ (z : State). z.at) e;
         }
 
 -- ---- by the slices of the call
@@ -144,7 +150,7 @@ module _ (w ts : List ℕ) (t : Told) (l : Lent) (h : CanBegin w ts t l) where
       subst (λ (z : List ℕ). CanBuild z t.slots t.capacity ts t.count t.given) h.work
       (subst (λ (z : List ℕ). CanBuild l.work t.slots t.capacity z t.count t.given) h.triangles (can_build t l h.opened))
 
-  pub begin_begins : (w' : List ℕ) (r : Playing) → Builds w w' t.slots t.capacity ts t.count t.given
+  pub begin_begins : (w' : List ℕ) (r : State) → Builds w w' t.slots t.capacity ts t.count t.given
       → r ≡ record { at = 0; used = t.count; points = t.given; quads = 0; odd = false; refusal = 0 } → Begins w' t l r
   begin_begins w' r b e =
       first_begins t l h.opened w'

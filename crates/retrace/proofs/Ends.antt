@@ -1,5 +1,5 @@
 -- How a replay ends, by what became of its trace.
-use Rattle.std.specs.Prelude.{◌≡◌, ◌≢◌}
+use Rattle.std.specs.Prelude.{◌≡◌, ◌≢◌, Ok}
 use Rattle.laws.specs.Kit.{refl, sym, ap, ℕ, arith, List, length, take, Float}
 use Rattle.definition.specs.Floats.{0·0}
 use Rattle.definition.specs.Cells.{Mesh}
@@ -11,8 +11,8 @@ use Rattle.retrace.specs.Plays.{Plays}
 use Rattle.retrace.specs.Reads.{Whole, Cut, PlayTo}
 use Rattle.retrace.specs.Opening.{opening_number, first_mesh}
 use Rattle.retrace.specs.Ending.{FinishTo}
-use Rattle.retrace.specs.Replaying.{Replays}
-use Rattle.retrace.specs.declared.Playing.{Playing}
+use Rattle.retrace.specs.Replaying.{Reply, answered, Replays}
+use Rattle.retrace.specs.Plays.{State}
 use Rattle.retrace.specs.declared.ending.Replayed.{Replayed}
 use Rattle.retrace.proofs.Returns.{left_with, refusal_of, whole_returns, broken_returns}
 
@@ -21,7 +21,7 @@ pub suits_told : (t : Told) → Suits (settings (as_asked t)) t.slots t.capacity
 unfolding settings settings_within as_asked
 suits_told t = record { slots = refl; capacity = refl }
 
-module _ (w w' : List ℕ) (q : List Float) (quads : List ℕ) (s p : ℕ) (q₀ : List Float) (old : List ℕ) (r : Playing) where
+module _ (w w' : List ℕ) (q : List Float) (quads : List ℕ) (s p : ℕ) (q₀ : List Float) (old : List ℕ) (r : State) where
   -- the whole trace was replayed
   pub record AllDone (x : defined.Replayed) : Type 0 where
     pub mesh : Mesh
@@ -47,22 +47,22 @@ module _ (w w' : List ℕ) (q : List Float) (quads : List ℕ) (s p : ℕ) (q₀
         ends = record { number = refl; refused = omega (arith, h.number, h.refused); memory = h.memory; state = h.state; plays = h.plays; len = h.len };
       }
 
-module _ (t : Told) (l : Lent) (o : opening_number t l ≡ 0) (w w' : List ℕ) (q : List Float) (quads : List ℕ) (r : Playing)
+module _ (t : Told) (l : Lent) (o : opening_number t l ≡ 0) (w w' : List ℕ) (q : List Float) (quads : List ℕ) (r : State)
     (to : PlayTo w w' q quads t.slots t.capacity l.points l.quads (replay_words (settings (as_asked t)) (first_mesh t l) (take t.words l.trace)) r) where
   -- the mesh at the end of the trace
   pub at_end : r.refusal ≡ 0 → AllDone w w' q quads t.slots t.capacity l.points l.quads r (replay_words (settings (as_asked t)) (first_mesh t l) (take t.words l.trace))
   at_end e = all_done w w' q quads t.slots t.capacity l.points l.quads r _ to e
 
-  module _ (w₁ w₂ : List ℕ) (f₂ : List Float) (words : length w₁ ≡ length l.work) (clear_w : w₂ ≡ all_of 0 w₁) (clear_f : f₂ ≡ all_of 0·0 l.float_work) (x : Replayed) where
-    pub done_returns : r.refusal ≡ 0 → (out components : List ℕ)
+  module _ (w₁ w₂ : List ℕ) (f₂ : List Float) (words : length w₁ ≡ length l.work) (clear_w : w₂ ≡ all_of 0 w₁) (clear_f : f₂ ≡ all_of 0·0 l.float_work) where
+    pub done_returns : r.refusal ≡ 0 → (x : Replayed) (out components : List ℕ)
         → ((q : List Float) (quads : List ℕ) (q₀ : List Float) (old : List ℕ) (m : Mesh) → Plays w' q quads t.slots t.capacity q₀ old r m → FinishTo l.triangles_out out l.components components m x)
-        → Replays (replay t l) x (left_with l q quads out components w₂ f₂)
-    done_returns e out components finishes =
+        → Replays (replay t l) (answered (Ok x)) (left_with l q quads out components w₂ f₂)
+    done_returns e x out components finishes =
         let d = at_end e in
         whole_returns t l w' q quads t.slots t.capacity r d.mesh d.ends.plays w₁ w₂ l.float_work f₂ words refl clear_w clear_f o d.is out components x
         (finishes q quads l.points l.quads d.mesh d.ends.plays)
 
-    pub cut_returns : r.refusal ≢ 0 → x ≡ refusal_of r.refusal → Replays (replay t l) x (left_with l q quads l.triangles_out l.components w₂ f₂)
-    cut_returns e y =
+    pub cut_returns : r.refusal ≢ 0 → (x : Reply) → x ≡ refusal_of r.refusal → Replays (replay t l) x (left_with l q quads l.triangles_out l.components w₂ f₂)
+    cut_returns e x y =
         let d = broken_off w w' q quads t.slots t.capacity l.points l.quads r _ to e in
         broken_returns t l d.ends.memory q quads t.slots t.capacity d.ends.state d.mesh d.ends.plays w₁ w₂ l.float_work f₂ words refl clear_w clear_f o r.refusal d.is x y

@@ -26,7 +26,7 @@ use Rattle.cells.proofs.Slots.{out_filter, rep_noting, find_out}
 use Rattle.retrace.specs.Stored.{four, plain, kept, stored}
 use Rattle.retrace.specs.Takes.{has_tri, taking, TakesTo, CanPlace, PutsWords}
 use Rattle.retrace.specs.Plays.{quad_in, quads_of, placed, Plays, EntryTo}
-use Rattle.retrace.specs.declared.Playing.{Playing}
+use Rattle.retrace.specs.Plays.{State}
 use Rattle.retrace.proofs.Keeping.{stored_if, stored_noting, filter_swap}
 use Rattle.retrace.proofs.Taking.{taken, taking_is, cell_slot}
 use Rattle.retrace.proofs.Seats.{Seats, TriSlot, tri_slot, seats_take, seats_push, seats_as, quads_without, quads_push}
@@ -296,7 +296,7 @@ all_gone w s p m ids b to f = go (taking m ids) refl
         record { mesh = m'; is = h; rep = y.1 }
 
 -- the numbers after a quad
-pub record Onward (g r : Playing) (n : ℕ) (odd : Bool) : Type 0 where
+pub record Onward (g r : State) (n : ℕ) (odd : Bool) : Type 0 where
   pub at : r.at ≡ g.at + n
   pub used : r.used ≡ g.used + 1
   pub points : r.points ≡ g.points
@@ -304,7 +304,7 @@ pub record Onward (g r : Playing) (n : ℕ) (odd : Bool) : Type 0 where
   pub odd_now : r.odd ≡ (g.odd || odd)
   pub going : r.refusal ≡ 0
 
-module _ (w : List ℕ) (q : List Float) (quads : List ℕ) (s p : ℕ) (q₀ : List Float) (old : List ℕ) (g : Playing) (m : Mesh) (k : Plays w q quads s p q₀ old g m) (ids : List ℕ) where
+module _ (w : List ℕ) (q : List Float) (quads : List ℕ) (s p : ℕ) (q₀ : List Float) (old : List ℕ) (g : State) (m : Mesh) (k : Plays w q quads s p q₀ old g m) (ids : List ℕ) where
   -- the slots by what is stored
   pub emptied : (w' : List ℕ) (b : Bool) → TakesTo w' s p (taking (stored m) ids) b → TakesTo w' s p (stored_if (taking m ids)) b
   emptied w' b h = subst (λ (o : Option Mesh). TakesTo w' s p o b) (taking_stored ids m (seats w q quads s p q₀ old g m k)) h
@@ -347,7 +347,7 @@ module _ (w : List ℕ) (q : List Float) (quads : List ℕ) (s p : ℕ) (q₀ : 
         let v = was_placed x (map (λ y. y.slot) (cells_in m ids)) in
         subst (Rep w' s p) (sym (stored_noting (push_cell m' (quad x)) v)) (rep_noting v (stored (push_cell m' (quad x))) w' s p r)
 
-    quad_plays : (t : Settings) (w' quads' : List ℕ) (n : ℕ) (r : Playing) → Rep w' s p (stored (push_cell m' (quad x))) → Onward g r n (not (four x))
+    quad_plays : (t : Settings) (w' quads' : List ℕ) (n : ℕ) (r : State) → Rep w' s p (stored (push_cell m' (quad x))) → Onward g r n (not (four x))
         → quads' ≡ onto (flat_map quad_words (placed m ++ x ∷ [])) old → Plays w' q quads' s p q₀ old r (after t m x ids m' e)
     quad_plays t w' quads' n r rep o text =
         let same = after_placed t in
@@ -378,12 +378,12 @@ module _ (w : List ℕ) (q : List Float) (quads : List ℕ) (s p : ℕ) (q₀ : 
   -- ---- the ends of the entry
 
   module _ (t : Settings) (z : Suits t s p) (x : Quad) (n : ℕ) where
-    pub entry_strange : all (λ v. ltb v (length m.points)) (quad_nodes x) ≡ false → (r : Playing) → r.refusal ≡ 12
+    pub entry_strange : all (λ v. ltb v (length m.points)) (quad_nodes x) ≡ false → (r : State) → r.refusal ≡ 12
         → EntryTo w w q q quads quads s p q₀ old g n (redo t m (was_placed x ids)) r
     entry_strange h r e = broken_entry w w q quads s p q₀ old g r n 12 _ (redo_strange t m x ids h) (omega arith) e refl
 
     module _ (w₁ : List ℕ) (len : length w₁ ≡ length w) (b : Bool) (to : TakesTo w₁ s p (stored_if (taking m ids)) b) where
-      pub entry_missing : b ≡ false → (r : Playing) → r.refusal ≡ 12 → EntryTo w w₁ q q quads quads s p q₀ old g n (redo t m (was_placed x ids)) r
+      pub entry_missing : b ≡ false → (r : State) → r.refusal ≡ 12 → EntryTo w w₁ q q quads quads s p q₀ old g n (redo t m (was_placed x ids)) r
       entry_missing f r e = go (taking m ids) refl
         where
           go : (o : Option Mesh) → taking m ids ≡ o → EntryTo w w₁ q q quads quads s p q₀ old g n (redo t m (was_placed x ids)) r
@@ -393,11 +393,11 @@ module _ (w : List ℕ) (q : List Float) (quads : List ℕ) (s p : ℕ) (q₀ : 
               never b y.0 f
 
       module _ (gone : Emptied w₁ s p m ids) (all_Known : all (λ v. ltb v (length m.points)) (quad_nodes x) ≡ true) where
-        pub entry_crowded : s ≤ g.used → (r : Playing) → r.refusal ≡ 9 → EntryTo w w₁ q q quads quads s p q₀ old g n (redo t m (was_placed x ids)) r
+        pub entry_crowded : s ≤ g.used → (r : State) → r.refusal ≡ 9 → EntryTo w w₁ q q quads quads s p q₀ old g n (redo t m (was_placed x ids)) r
         entry_crowded h r e =
             broken_entry w w₁ q quads s p q₀ old g r n 9 _ (redo_crowded t m x ids gone.mesh gone.is all_Known (omega (arith, k.used, z.slots))) (omega arith) e len
 
-        pub entry_placed : (w' quads' : List ℕ) (r : Playing) → g.used < s → Rep w' s p (stored (push_cell gone.mesh (quad x))) → length w' ≡ length w₁ → Onward g r n (not (four x))
+        pub entry_placed : (w' quads' : List ℕ) (r : State) → g.used < s → Rep w' s p (stored (push_cell gone.mesh (quad x))) → length w' ≡ length w₁ → Onward g r n (not (four x))
             → quads' ≡ onto (flat_map quad_words (placed m ++ x ∷ [])) old → length quads' ≡ length quads → EntryTo w w' q q quads quads' s p q₀ old g n (redo t m (was_placed x ids)) r
         entry_placed w' quads' r h rep l o text size =
             subst (λ (y : Redone). EntryTo w w' q q quads quads' s p q₀ old g n y r)

@@ -25,7 +25,7 @@ use Rattle.cells.proofs.Points.{pts_as}
 use Rattle.account.proofs.Redo.{placed_last}
 use Rattle.retrace.specs.Stored.{four, plain, kept, stored}
 use Rattle.retrace.specs.Plays.{quad_in, quads_of, placed, Plays, Small, EntryTo}
-use Rattle.retrace.specs.declared.Playing.{Playing}
+use Rattle.retrace.specs.Plays.{State}
 use Rattle.retrace.proofs.Keeping.{stored_if, stored_used, hidden, stored_flip, two_tris}
 use Rattle.retrace.proofs.Seats.{Seats, slot_given, seats_set, seats_as, tri_slot, quads_set, still_tri}
 
@@ -129,7 +129,7 @@ module _ (m : Mesh) (e : Edge) (m' : Mesh) (f : flip m e ≡ some m') where
   flip_room = ap (λ (n : Mesh). n.room) made.after
 
 -- the numbers of r are those of g, further on
-pub record Onward (g r : Playing) (n : ℕ) : Type 0 where
+pub record Onward (g r : State) (n : ℕ) : Type 0 where
   pub at : r.at ≡ g.at + n
   pub used : r.used ≡ g.used
   pub points : r.points ≡ g.points
@@ -137,11 +137,11 @@ pub record Onward (g r : Playing) (n : ℕ) : Type 0 where
   pub odd : r.odd ≡ g.odd
   pub going : r.refusal ≡ 0
 
-module _ (w : List ℕ) (q : List Float) (quads : List ℕ) (s p : ℕ) (q₀ : List Float) (old : List ℕ) (g : Playing) (m : Mesh) (k : Plays w q quads s p q₀ old g m) where
+module _ (w : List ℕ) (q : List Float) (quads : List ℕ) (s p : ℕ) (q₀ : List Float) (old : List ℕ) (g : State) (m : Mesh) (k : Plays w q quads s p q₀ old g m) where
   pub seats : Seats m
   seats = record { distinct = k.distinct; below = k.below }
 
-  flip_plays : (w' : List ℕ) (e : Edge) (m' : Mesh) (f : flip m e ≡ some m') → Rep w' s p (stored m') → (r : Playing) → Onward g r 3 → Plays w' q quads s p q₀ old r m'
+  flip_plays : (w' : List ℕ) (e : Edge) (m' : Mesh) (f : flip m e ≡ some m') → Rep w' s p (stored m') → (r : State) → Onward g r 3 → Plays w' q quads s p q₀ old r m'
   flip_plays w' e m' f rep r o =
       let points = flip_points m e m' f in
       let used = flip_used m e m' f in
@@ -195,7 +195,7 @@ module _ (t : Settings) (m : Mesh) (u v : ℕ) where
   redo_made m' h k f = rw (lt-ltb u v h, lt-ltb v (length m.points) k) (ap redo_flipped f)
 
 -- an entry that is refused
-pub broken_entry : (w w' : List ℕ) (q : List Float) (quads : List ℕ) (s p : ℕ) (q₀ : List Float) (old : List ℕ) (g r : Playing) (n k : ℕ) (x : Redone)
+pub broken_entry : (w w' : List ℕ) (q : List Float) (quads : List ℕ) (s p : ℕ) (q₀ : List Float) (old : List ℕ) (g r : State) (n k : ℕ) (x : Redone)
     → x ≡ balked k → 0 < k → r.refusal ≡ k → length w' ≡ length w → EntryTo w w' q q quads quads s p q₀ old g n x r
 broken_entry w w' q quads s p q₀ old g r n k x e h f l =
     subst (λ (y : Redone). EntryTo w w' q q quads quads s p q₀ old g n y r) (sym e) (record { number = f; refused = h; points = refl; text = refl; len = l })
@@ -233,7 +233,7 @@ in_quads : (m : Mesh) (x : Live) (q : Quad) → In x m.live → x.cell ≡ quad 
 unfolding quads_of quad_in
 in_quads m x q i e = flat_map_in (λ y. quad_in y.cell) x q m.live i (subst (λ (c : Cell). In q (quad_in c)) (sym e) (inl refl))
 
-module _ (w : List ℕ) (q : List Float) (quads : List ℕ) (s p : ℕ) (q₀ : List Float) (old : List ℕ) (g : Playing) (m : Mesh) (k : Plays w q quads s p q₀ old g m) (e : Edge) where
+module _ (w : List ℕ) (q : List Float) (quads : List ℕ) (s p : ℕ) (q₀ : List Float) (old : List ℕ) (g : State) (m : Mesh) (k : Plays w q quads s p q₀ old g m) (e : Edge) where
   -- the slice has the quads that are live
   read_quads : first_quads g.quads quads ≡ quads_of m.live
   read_quads =
@@ -286,25 +286,25 @@ pub short_made : (x : Turned) → x ≡ Short → x ≡ Made → ⊥
 short_made x e f = let z : code Short ≡ code Made = ap code (sym e ∙ f) in omega arith
 
 -- the quads so far are no more than the slots
-pub few_quads : (w : List ℕ) (q : List Float) (quads : List ℕ) (s p : ℕ) (q₀ : List Float) (old : List ℕ) (g : Playing) (m : Mesh) → Plays w q quads s p q₀ old g m → g.quads ≤ s
+pub few_quads : (w : List ℕ) (q : List Float) (quads : List ℕ) (s p : ℕ) (q₀ : List Float) (old : List ℕ) (g : State) (m : Mesh) → Plays w q quads s p q₀ old g m → g.quads ≤ s
 few_quads w q quads s p q₀ old g m k = let e : (stored m).used ≡ m.used = stored_used m in omega (arith, k.number, k.few, k.rep.used)
 
-pub numbers_fit : (w : List ℕ) (q : List Float) (quads : List ℕ) (s p : ℕ) (q₀ : List Float) (old : List ℕ) (g : Playing) (m : Mesh) → Plays w q quads s p q₀ old g m → Small quads s p
+pub numbers_fit : (w : List ℕ) (q : List Float) (quads : List ℕ) (s p : ℕ) (q₀ : List Float) (old : List ℕ) (g : State) (m : Mesh) → Plays w q quads s p q₀ old g m → Small quads s p
     → (g.used ≤ 16384) × (g.points ≤ 8192) × (g.quads ≤ 16384)
 numbers_fit w q quads s p q₀ old g m k z =
     let e : (stored m).used ≡ m.used = stored_used m in
     (omega (arith, k.used, k.rep.used, z.slots), omega (arith, k.points, k.pts.few, z.points), omega (arith, k.number, k.few, k.rep.used, z.slots))
 
 -- with a slot left there is room for a quad
-pub room_left : (w : List ℕ) (q : List Float) (quads : List ℕ) (s p : ℕ) (q₀ : List Float) (old : List ℕ) (g : Playing) (m : Mesh) → Plays w q quads s p q₀ old g m → Small quads s p
+pub room_left : (w : List ℕ) (q : List Float) (quads : List ℕ) (s p : ℕ) (q₀ : List Float) (old : List ℕ) (g : State) (m : Mesh) → Plays w q quads s p q₀ old g m → Small quads s p
     → g.used < s → (8 * g.quads + 8 ≤ length quads) × (g.quads < 16384)
 room_left w q quads s p q₀ old g m k z l = (omega (arith, k.number, k.few, k.used, z.room), omega (arith, k.number, k.few, k.used, z.slots))
 
-pub quads_fit : (w : List ℕ) (q : List Float) (quads : List ℕ) (s p : ℕ) (q₀ : List Float) (old : List ℕ) (g : Playing) (m : Mesh) → Plays w q quads s p q₀ old g m → Small quads s p
+pub quads_fit : (w : List ℕ) (q : List Float) (quads : List ℕ) (s p : ℕ) (q₀ : List Float) (old : List ℕ) (g : State) (m : Mesh) → Plays w q quads s p q₀ old g m → Small quads s p
     → (8 * g.quads ≤ length quads) × (g.quads ≤ 16384)
 quads_fit w q quads s p q₀ old g m k z = let h = few_quads w q quads s p q₀ old g m k in (omega (arith, z.room), omega (arith, z.slots))
 
-module _ (w : List ℕ) (q : List Float) (quads : List ℕ) (s p : ℕ) (q₀ : List Float) (old : List ℕ) (g : Playing) (m : Mesh) (k : Plays w q quads s p q₀ old g m) where
+module _ (w : List ℕ) (q : List Float) (quads : List ℕ) (s p : ℕ) (q₀ : List Float) (old : List ℕ) (g : State) (m : Mesh) (k : Plays w q quads s p q₀ old g m) where
   pub points_stored : Pts q p (stored m)
   unfolding stored with_live
   points_stored = pts_as q p m (stored m) refl k.pts
@@ -313,13 +313,13 @@ pub locks_stored : (m : Mesh) (j : List ℕ) → Locks j m.locked → Locks j (s
 unfolding stored with_live
 locks_stored m j l = l
 
-module _ (w : List ℕ) (q : List Float) (quads : List ℕ) (s p : ℕ) (q₀ : List Float) (old : List ℕ) (g : Playing) (m : Mesh) (k : Plays w q quads s p q₀ old g m) (u v : ℕ) (t : Settings) where
+module _ (w : List ℕ) (q : List Float) (quads : List ℕ) (s p : ℕ) (q₀ : List Float) (old : List ℕ) (g : State) (m : Mesh) (k : Plays w q quads s p q₀ old g m) (u v : ℕ) (t : Settings) where
   -- where the slice of quads bars it
-  pub entry_bars : (r : Playing) → looked w q quads s p q₀ old g m k (u, v) ≡ true → r.refusal ≡ 12 → EntryTo w w q q quads quads s p q₀ old g 3 (redo t m (was_flipped (u, v))) r
+  pub entry_bars : (r : State) → looked w q quads s p q₀ old g m k (u, v) ≡ true → r.refusal ≡ 12 → EntryTo w w q q quads quads s p q₀ old g 3 (redo t m (was_flipped (u, v))) r
   entry_bars r h e = broken_entry w w q quads s p q₀ old g r 3 12 _ (redo_none t m u v (hides_bars w q quads s p q₀ old g m k (u, v) h)) (omega arith) e refl
 
   module _ (up : u < v) (within : v < length m.points) (seen : looked w q quads s p q₀ old g m k (u, v) ≡ false) (w' : List ℕ) (len : length w' ≡ length w) (x : Turned)
-      (to : FlipTo w' s p (stored m) (flip (stored m) (key u v)) true x) (r : Playing) where
+      (to : FlipTo w' s p (stored m) (flip (stored m) (key u v)) true x) (r : State) where
     is : flip (stored m) (key u v) ≡ stored_if (flip m (u, v))
     is = ap (flip (stored m)) (key_up u v up) ∙ stored_flip m (u, v) (unlocked w q quads s p q₀ old g m k (u, v)) (unhidden w q quads s p q₀ old g m k (u, v) seen)
 

@@ -8,7 +8,6 @@ use Rattle.definition.specs.Plane.{Edge}
 use Rattle.definition.specs.Cells.{Quad, Cell, tri, quad, Live, Mesh, new_quad, nodes, quad_nodes, is_tri, live_tri, cell_of, with_live, remove_cell, push_cell}
 use Rattle.definition.specs.Replay.{cells_in}
 use Rattle.laws.specs.Bools.{never, both}
-use Rattle.laws.specs.Lists.{known}
 use Rattle.cells.specs.Rep.{CellAt, Rep, Has}
 use Rattle.cells.proofs.Members.{Lookup, absent, present, lookup}
 use Rattle.cells.proofs.Slots.{read_tri, read_quad, rep_held, cell_none, cell_some}

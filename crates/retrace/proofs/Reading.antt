@@ -10,7 +10,7 @@ use Rattle.definition.specs.Trace.{double_of}
 use Rattle.definition.specs.Replay.{Read, reading, word, is_kind, entered_quad, read_entry, Redone, redone, balked, unsound, redo, Replayed, whole, broken, replay_in, replay_words}
 use Rattle.retrace.specs.Plays.{Plays, Broken, EntryTo}
 use Rattle.retrace.specs.Reads.{AtKind, ReadOne, ReadTo, Cut, PlayTo}
-use Rattle.retrace.specs.declared.Playing.{Playing}
+use Rattle.retrace.specs.Plays.{State}
 
 -- ---- the kinds
 
@@ -63,7 +63,7 @@ module _ (ws : List ℕ) where
 
 -- ---- where they stand
 
-module _ (w w' : List ℕ) (q q' : List Float) (quads quads' : List ℕ) (s p : ℕ) (q₀ : List Float) (old : List ℕ) (g : Playing) (trace : List ℕ) (t : Settings) (m : Mesh) (r : Playing) where
+module _ (w w' : List ℕ) (q q' : List Float) (quads quads' : List ℕ) (s p : ℕ) (q₀ : List Float) (old : List ℕ) (g : State) (trace : List ℕ) (t : Settings) (m : Mesh) (r : State) where
   abbrev here : List ℕ
   here = drop g.at trace
 
@@ -115,7 +115,7 @@ module _ (w w' : List ℕ) (q q' : List Float) (quads quads' : List ℕ) (s p : 
       (ap (λ (k : ℕ). drop k (drop 9 here)) is ∙ ap (drop n) (drop-drop 9 g.at trace) ∙ drop-drop n (g.at + 9) trace ∙ ap (λ (k : ℕ). drop k trace) sum)
       (subst (λ (k : ℕ). EntryTo w w' q q' quads quads' s p q₀ old g (9 + n) (redo t m (was_placed (entered_quad here) (take k (drop 9 here)))) r) (sym is) to)
 
-module _ (w : List ℕ) (q : List Float) (quads : List ℕ) (s p : ℕ) (q₀ : List Float) (old : List ℕ) (g : Playing) (trace : List ℕ) (t : Settings) (m : Mesh) (r : Playing) (e : r.refusal ≡ 12) where
+module _ (w : List ℕ) (q : List Float) (quads : List ℕ) (s p : ℕ) (q₀ : List Float) (old : List ℕ) (g : State) (trace : List ℕ) (t : Settings) (m : Mesh) (r : State) (e : r.refusal ≡ 12) where
   unread : read_entry (drop g.at trace) ≡ none → ReadTo w w q q quads quads s p q₀ old g trace t m (read_entry (drop g.at trace)) r
   unread f = subst (λ (o : Option Read). ReadTo w w q q quads quads s p q₀ old g trace t m o r) (sym f) (record { number = e; refused = omega arith; points = refl; text = refl; len = refl })
 
@@ -150,7 +150,7 @@ module _ (w : List ℕ) (q : List Float) (quads : List ℕ) (s p : ℕ) (q₀ : 
 -- ---- the whole trace
 
 -- after some entries: the mesh so far, and what is left to do, with fuel enough
-pub record Going (w₀ w : List ℕ) (q : List Float) (quads : List ℕ) (s p : ℕ) (q₀ : List Float) (old : List ℕ) (g : Playing) (trace : List ℕ) (t : Settings) (m₀ : Mesh) : Type 0 where
+pub record Going (w₀ w : List ℕ) (q : List Float) (quads : List ℕ) (s p : ℕ) (q₀ : List Float) (old : List ℕ) (g : State) (trace : List ℕ) (t : Settings) (m₀ : Mesh) : Type 0 where
   pub mesh : Mesh
   pub plays : Plays w q quads s p q₀ old g mesh
   pub fuel : ℕ
@@ -158,7 +158,7 @@ pub record Going (w₀ w : List ℕ) (q : List Float) (quads : List ℕ) (s p : 
   pub same : replay_words t m₀ trace ≡ replay_in fuel t mesh (drop g.at trace)
   pub len : length w ≡ length w₀
 
-pub going_start : (w : List ℕ) (q : List Float) (quads : List ℕ) (s p : ℕ) (q₀ : List Float) (old : List ℕ) (g : Playing) (trace : List ℕ) (t : Settings) (m : Mesh)
+pub going_start : (w : List ℕ) (q : List Float) (quads : List ℕ) (s p : ℕ) (q₀ : List Float) (old : List ℕ) (g : State) (trace : List ℕ) (t : Settings) (m : Mesh)
     → g.at ≡ 0 → Plays w q quads s p q₀ old g m → Going w w q quads s p q₀ old g trace t m
 unfolding replay_words
 going_start w q quads s p q₀ old g trace t m e k =
@@ -183,7 +183,7 @@ unfolding replay_in
 in_end zero t m = refl
 in_end (suc n) t m = refl
 
-module _ (w₀ w : List ℕ) (q : List Float) (quads : List ℕ) (s p : ℕ) (q₀ : List Float) (old : List ℕ) (g : Playing) (trace : List ℕ) (t : Settings) (m₀ : Mesh)
+module _ (w₀ w : List ℕ) (q : List Float) (quads : List ℕ) (s p : ℕ) (q₀ : List Float) (old : List ℕ) (g : State) (trace : List ℕ) (t : Settings) (m₀ : Mesh)
     (h : Going w₀ w q quads s p q₀ old g trace t m₀) where
   pub going_whole : length trace ≤ g.at → PlayTo w₀ w q quads s p q₀ old (replay_words t m₀ trace) g
   going_whole l =
@@ -191,7 +191,7 @@ module _ (w₀ w : List ℕ) (q : List Float) (quads : List ℕ) (s p : ℕ) (q�
       subst (λ (x : Replayed). PlayTo w₀ w q quads s p q₀ old x g) (sym (h.same ∙ ap (replay_in h.fuel t h.mesh) none_left ∙ in_end h.fuel t h.mesh))
       (record { plays = h.plays; len = h.len })
 
-  module _ (l : g.at < length trace) (w' : List ℕ) (q' : List Float) (quads' : List ℕ) (r : Playing)
+  module _ (l : g.at < length trace) (w' : List ℕ) (q' : List Float) (quads' : List ℕ) (r : State)
       (to : ReadTo w w' q q' quads quads' s p q₀ old g trace t h.mesh (read_entry (drop g.at trace)) r) where
     abbrev x : ℕ
     x = get_or trace g.at 0

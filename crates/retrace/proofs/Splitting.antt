@@ -23,7 +23,7 @@ use Rattle.account.proofs.Redo.{placed_last}
 use Rattle.insertion.specs.Hold.{slot_holds}
 use Rattle.retrace.specs.Stored.{four, plain, kept, stored}
 use Rattle.retrace.specs.Plays.{quads_of, placed, Plays, EntryTo}
-use Rattle.retrace.specs.declared.Playing.{Playing}
+use Rattle.retrace.specs.Plays.{State}
 use Rattle.retrace.proofs.Keeping.{stored_used, stored_points, stored_split}
 use Rattle.retrace.proofs.Taking.{cell_slot}
 use Rattle.retrace.proofs.Seats.{Seats, slot_given, seats_set, seats_push, seats_as, tri_slot, quads_set, quads_tri}
@@ -213,7 +213,7 @@ beyond n i [] h b = tt
 beyond n i (x ∷ l) h b = (λ e. omega (arith, b.0), beyond n i l h b.1)
 
 -- the numbers after a split
-pub record Onward (g r : Playing) : Type 0 where
+pub record Onward (g r : State) : Type 0 where
   pub at : r.at ≡ g.at + 6
   pub used : r.used ≡ g.used + 2
   pub points : r.points ≡ g.points + 1
@@ -221,7 +221,7 @@ pub record Onward (g r : Playing) : Type 0 where
   pub odd : r.odd ≡ g.odd
   pub going : r.refusal ≡ 0
 
-module _ (w : List ℕ) (q : List Float) (quads : List ℕ) (s p : ℕ) (q₀ : List Float) (old : List ℕ) (g : Playing) (m : Mesh) (k : Plays w q quads s p q₀ old g m) (i : ℕ) (x y : Float) where
+module _ (w : List ℕ) (q : List Float) (quads : List ℕ) (s p : ℕ) (q₀ : List Float) (old : List ℕ) (g : State) (m : Mesh) (k : Plays w q quads s p q₀ old g m) (i : ℕ) (x y : Float) where
   -- the slot's triangle by what is stored
   pub held_slot : (b : Bool) → b ≡ slot_holds (stored m) (flat x y) (cell_of (stored m) i) → slot_holds m (flat x y) (cell_of m i) ≡ b
   held_slot b e = sym (held_same m (flat x y) i k.distinct) ∙ sym e
@@ -239,18 +239,18 @@ module _ (w : List ℕ) (q : List Float) (quads : List ℕ) (s p : ℕ) (q₀ : 
   can_split h = record { in_slot = tri_stored m (flat x y) i h; given = stored_used m ∙ sym k.used; count = ap length (stored_points m) ∙ sym k.points }
 
   module _ (t : Settings) (z : Suits t s p) where
-    pub entry_unheld : slot_holds m (flat x y) (cell_of m i) ≡ false → (r : Playing) → r.refusal ≡ 12 → EntryTo w w q q quads quads s p q₀ old g 6 (redo t m (was_split i (flat x y))) r
+    pub entry_unheld : slot_holds m (flat x y) (cell_of m i) ≡ false → (r : State) → r.refusal ≡ 12 → EntryTo w w q q quads quads s p q₀ old g 6 (redo t m (was_split i (flat x y))) r
     entry_unheld h r e = broken_entry w w q quads s p q₀ old g r 6 12 _ (redo_unheld t m (flat x y) i h) (omega arith) e refl
 
     module _ (h : Held m (flat x y) i) where
-      pub entry_points : p ≤ g.points → (r : Playing) → r.refusal ≡ 8 → EntryTo w w q q quads quads s p q₀ old g 6 (redo t m (was_split i (flat x y))) r
+      pub entry_points : p ≤ g.points → (r : State) → r.refusal ≡ 8 → EntryTo w w q q quads quads s p q₀ old g 6 (redo t m (was_split i (flat x y))) r
       entry_points l r e = broken_entry w w q quads s p q₀ old g r 6 8 _ (redo_points t m (flat x y) i h (omega (arith, k.points, z.capacity))) (omega arith) e refl
 
-      pub entry_slots : g.points < p → s < g.used + 2 → (r : Playing) → r.refusal ≡ 9 → EntryTo w w q q quads quads s p q₀ old g 6 (redo t m (was_split i (flat x y))) r
+      pub entry_slots : g.points < p → s < g.used + 2 → (r : State) → r.refusal ≡ 9 → EntryTo w w q q quads quads s p q₀ old g 6 (redo t m (was_split i (flat x y))) r
       entry_slots l n r e =
           broken_entry w w q quads s p q₀ old g r 6 9 _ (redo_slots t m (flat x y) i h (omega (arith, k.points, z.capacity)) (omega (arith, k.used, z.slots))) (omega arith) e refl
 
-      module _ (w' : List ℕ) (q' : List Float) (f : Splits w w' q q' s p i g.used g.points x y) (r : Playing) (n : Onward g r) where
+      module _ (w' : List ℕ) (q' : List Float) (f : Splits w w' q q' s p i g.used g.points x y) (r : State) (n : Onward g r) where
         abbrev after : Mesh
         after = split_triangle m i h.t (flat x y)
 

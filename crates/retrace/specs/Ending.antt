@@ -13,7 +13,6 @@ use Rattle.retrace.specs.declared.ending.Replayed.{Replayed}
 pub record FinishTo (o o' k k' : List ℕ) (m : Mesh) (r : Replayed) : Type 0 where
   pub out : o' ≡ onto (flat_map tri_nodes (triangles m)) o
   pub components : k' ≡ onto (component_sizes (triangles m)) k
-  pub number : r.refusal ≡ 0
   pub quads : r.quads ≡ length (placed m)
   pub left : r.triangles ≡ length (triangles m)
   pub points : r.points ≡ length m.points

@@ -9,7 +9,7 @@ use Rattle.definition.specs.Replay.{Told, as_asked, replay_conditions}
 use Rattle.refusals.specs.Passed.{Passed}
 use Rattle.refusals.specs.Refusals.{number_of}
 use Rattle.retrace.specs.Plays.{Plays}
-use Rattle.retrace.specs.declared.Playing.{Playing}
+use Rattle.retrace.specs.Plays.{State}
 
 -- the number of the first condition that holds; 0: none does
 unfoldable pub opening_number : Told → Lent → ℕ
@@ -31,6 +31,6 @@ pub record CanBegin (w ts : List ℕ) (t : Told) (l : Lent) : Type 0 where
   pub work : l.work ≡ w
 
 -- the mesh is built, and no word is read
-pub record Begins (w' : List ℕ) (t : Told) (l : Lent) (r : Playing) : Type 0 where
+pub record Begins (w' : List ℕ) (t : Told) (l : Lent) (r : State) : Type 0 where
   pub plays : Plays w' l.points l.quads t.slots t.capacity l.points l.quads r (first_mesh t l)
   pub at : r.at ≡ 0

@@ -1,6 +1,6 @@
 -- The state of a replay: what the slices and the numbers stand for after an entry.
-use Rattle.std.specs.Prelude.{◌≡◌, ◌+◌, ◌*◌, ◌<◌, ◌≤◌, ◌∷◌}
-use Rattle.laws.specs.Kit.{false, not, ℕ, List, [], length, drop, Float}
+use Rattle.std.specs.Prelude.{◌≡◌, ◌+◌, ◌*◌, ◌<◌, ◌≤◌, ◌∷◌, Result, Ok, Err}
+use Rattle.laws.specs.Kit.{Bool, false, not, ℕ, List, [], length, drop, Float}
 use Rattle.rings.specs.Rings.{Distinct, Below}
 use Rattle.definition.specs.Lists.{any, flat_map}
 use Rattle.definition.specs.Cells.{Quad, Cell, tri, quad, Live, Mesh}
@@ -8,6 +8,8 @@ use Rattle.definition.specs.Trace.{quads_placed}
 use Rattle.definition.specs.Call.{onto, quad_words}
 use Rattle.definition.specs.Replay.{Redone, redone, balked}
 use Rattle.cells.specs.Rep.{slots, Rep, Pts}
+use Rattle.refusals.specs.declared.named.Refusal.{Refusal}
+use Rattle.refusals.specs.Numbers.{number}
 use Rattle.retrace.specs.Stored.{four, stored}
 use Rattle.retrace.specs.declared.Playing.{Playing}
 
@@ -24,8 +26,26 @@ quads_of xs = flat_map (λ x. quad_in x.cell) xs
 abbrev pub placed : Mesh → List Quad
 placed m = quads_placed m.history
 
+-- a replay's state as numbers: the last is that of the refusal that ended it, 0 while it goes on
+pub record State : Type 0 where
+  pub at : ℕ
+  pub used : ℕ
+  pub points : ℕ
+  pub quads : ℕ
+  pub odd : Bool
+  pub refusal : ℕ
+
+-- it goes on
+abbrev pub state : Playing → State
+state g = record { at = g.at; used = g.used; points = g.points; quads = g.quads; odd = g.odd; refusal = 0 }
+
+-- it goes on, or a refusal ended it
+abbrev pub played : Result Playing Refusal → State
+played (Ok g) = state g
+played (Err k) = record { at = 0; used = 0; points = 0; quads = 0; odd = false; refusal = number k }
+
 -- q₀ and old are the slices of points and quads as they were lent
-pub record Plays (w : List ℕ) (q : List Float) (quads : List ℕ) (s p : ℕ) (q₀ : List Float) (old : List ℕ) (g : Playing) (m : Mesh) : Type 0 where
+pub record Plays (w : List ℕ) (q : List Float) (quads : List ℕ) (s p : ℕ) (q₀ : List Float) (old : List ℕ) (g : State) (m : Mesh) : Type 0 where
   -- what is stored, and the points
   pub rep : Rep w s p (stored m)
   pub pts : Pts q p m
@@ -56,7 +76,7 @@ pub record Small (quads : List ℕ) (s p : ℕ) : Type 0 where
   pub room : 8 * s ≤ length quads
 
 -- an entry was refused with this number: points and quads are as before it
-pub record Broken (w w' : List ℕ) (q q' : List Float) (quads quads' : List ℕ) (g : Playing) (k : ℕ) (r : Playing) : Type 0 where
+pub record Broken (w w' : List ℕ) (q q' : List Float) (quads quads' : List ℕ) (g : State) (k : ℕ) (r : State) : Type 0 where
   pub number : r.refusal ≡ k
   pub refused : 0 < k
   pub points : q' ≡ q
@@ -64,6 +84,6 @@ pub record Broken (w w' : List ℕ) (q q' : List Float) (quads quads' : List ℕ
   pub len : length w' ≡ length w
 
 -- what became of an entry of n words, by what the definition says of it
-abbrev pub EntryTo : List ℕ → List ℕ → List Float → List Float → List ℕ → List ℕ → ℕ → ℕ → List Float → List ℕ → Playing → ℕ → Redone → Playing → Type 0
+abbrev pub EntryTo : List ℕ → List ℕ → List Float → List Float → List ℕ → List ℕ → ℕ → ℕ → List Float → List ℕ → State → ℕ → Redone → State → Type 0
 EntryTo w w' q q' quads quads' s p q₀ old g n (redone m) r = (r.at ≡ g.at + n) × Plays w' q' quads' s p q₀ old r m × (length w' ≡ length w) × (length quads' ≡ length quads)
 EntryTo w w' q q' quads quads' s p q₀ old g n (balked k) r = Broken w w' q q' quads quads' g k r

@@ -5,14 +5,16 @@ ghost use Rattle.definition.specs.Cells.{Mesh};
 ghost use Rattle.definition.specs.Replay.{read_entry, replay_words};
 ghost use Rattle.joints.specs.Table.{Locks};
 ghost use Rattle.rules.specs.Settings.{Suits};
-ghost use Rattle.retrace.specs.Plays.{Plays, Small};
+ghost use Rattle.retrace.specs.Plays.{state, played, Plays, Small};
 ghost use Rattle.retrace.specs.Reads.{ReadTo, AtKind, PlayTo};
 
+use crate::Playing;
 use crate::doubles::double;
 use crate::quads::{HEAD, quad_at};
 use crate::splits::split_at;
 use crate::turns::flip_at;
-use crate::{Playing, refused};
+use cells::layout::Layout;
+use refusals::Refusal;
 use traces::{FLIP, SPLIT};
 use words::wide;
 
@@ -28,22 +30,21 @@ fn split_entry(
     points: &mut [f64],
     work: &mut [u32],
     trace: &[u32],
-    s: usize,
-    p: usize,
+    lay: Layout,
     g: Playing,
-) -> Playing
-    requires by_index { (quads : List ℕ) × (q₀ : List Float) × (old : List ℕ) × (m : Mesh) × Plays work.old points.old quads s p q₀ old g m × Small quads s p }
+) -> Result<Playing, Refusal>
+    requires by_index { (quads : List ℕ) × (q₀ : List Float) × (old : List ℕ) × (m : Mesh) × Plays work.old points.old quads lay.slots lay.points q₀ old (state g) m × Small quads lay.slots lay.points }
     requires at_kind { AtKind trace.now g.at 1 }
-    ensures { (quads : List ℕ) (q₀ : List Float) (old : List ℕ) (m : Mesh) (t : Settings) → Suits t s p → Plays work.old points.old quads s p q₀ old g m → ReadTo work.old work.new points.old points.new quads quads s p q₀ old g trace.now t m (read_entry (drop g.at trace.now)) result }
+    ensures { (quads : List ℕ) (q₀ : List Float) (old : List ℕ) (m : Mesh) (t : Settings) → Suits t lay.slots lay.points → Plays work.old points.old quads lay.slots lay.points q₀ old (state g) m → ReadTo work.old work.new points.old points.new quads quads lay.slots lay.points q₀ old (state g) trace.now t m (read_entry (drop g.at trace.now)) (played result) }
 {
     let at = g.at;
     if trace.len() - at < SPLIT {
-        return refused(g, 12);
+        return Err(Refusal::BadTrace);
     }
     let i = wide(trace[at + 1]);
     let x = double(trace[at + 2], trace[at + 3]);
     let y = double(trace[at + 4], trace[at + 5]);
-    split_at(points, work, s, p, g, i, x, y)
+    split_at(points, work, lay, g, i, x, y)
 }
 
 // The flip that the entry at hand says; 12 where it is cut short.
@@ -53,21 +54,20 @@ fn flip_entry(
     work: &mut [u32],
     trace: &[u32],
     j: &[u32],
-    s: usize,
-    p: usize,
+    lay: Layout,
     g: Playing,
-) -> Playing
-    requires by_index { (q₀ : List Float) × (old : List ℕ) × (m : Mesh) × Plays work.old points.now quads.now s p q₀ old g m × Small quads.now s p }
+) -> Result<Playing, Refusal>
+    requires by_index { (q₀ : List Float) × (old : List ℕ) × (m : Mesh) × Plays work.old points.now quads.now lay.slots lay.points q₀ old (state g) m × Small quads.now lay.slots lay.points }
     requires at_kind { AtKind trace.now g.at 2 × Locks j.now (λ e. false) }
-    ensures { (q₀ : List Float) (old : List ℕ) (m : Mesh) (t : Settings) → Plays work.old points.now quads.now s p q₀ old g m → ReadTo work.old work.new points.now points.now quads.now quads.now s p q₀ old g trace.now t m (read_entry (drop g.at trace.now)) result }
+    ensures { (q₀ : List Float) (old : List ℕ) (m : Mesh) (t : Settings) → Plays work.old points.now quads.now lay.slots lay.points q₀ old (state g) m → ReadTo work.old work.new points.now points.now quads.now quads.now lay.slots lay.points q₀ old (state g) trace.now t m (read_entry (drop g.at trace.now)) (played result) }
 {
     let at = g.at;
     if trace.len() - at < FLIP {
-        return refused(g, 12);
+        return Err(Refusal::BadTrace);
     }
     let u = wide(trace[at + 1]);
     let v = wide(trace[at + 2]);
-    flip_at(points, quads, work, j, s, p, g, u, v)
+    flip_at(points, quads, work, j, lay, g, u, v)
 }
 
 // The quad that the entry at hand says; 12 where it is cut short, its slots too.
@@ -75,24 +75,23 @@ fn quad_entry(
     quads: &mut [u32],
     work: &mut [u32],
     trace: &[u32],
-    s: usize,
-    p: usize,
+    lay: Layout,
     g: Playing,
-) -> Playing
-    requires by_index { (q : List Float) × (q₀ : List Float) × (old : List ℕ) × (m : Mesh) × Plays work.old q quads.old s p q₀ old g m × Small quads.old s p }
+) -> Result<Playing, Refusal>
+    requires by_index { (q : List Float) × (q₀ : List Float) × (old : List ℕ) × (m : Mesh) × Plays work.old q quads.old lay.slots lay.points q₀ old (state g) m × Small quads.old lay.slots lay.points }
     requires at_kind { AtKind trace.now g.at 4 }
-    ensures { (q q₀ : List Float) (old : List ℕ) (m : Mesh) (t : Settings) → Suits t s p → Plays work.old q quads.old s p q₀ old g m → ReadTo work.old work.new q q quads.old quads.new s p q₀ old g trace.now t m (read_entry (drop g.at trace.now)) result }
+    ensures { (q q₀ : List Float) (old : List ℕ) (m : Mesh) (t : Settings) → Suits t lay.slots lay.points → Plays work.old q quads.old lay.slots lay.points q₀ old (state g) m → ReadTo work.old work.new q q quads.old quads.new lay.slots lay.points q₀ old (state g) trace.now t m (read_entry (drop g.at trace.now)) (played result) }
 {
     let at = g.at;
     let left = trace.len() - at;
     if left < HEAD {
-        return refused(g, 12);
+        return Err(Refusal::BadTrace);
     }
     let n = wide(trace[at + 8]);
     if left - HEAD < n {
-        return refused(g, 12);
+        return Err(Refusal::BadTrace);
     }
-    quad_at(quads, work, trace, s, p, g, n)
+    quad_at(quads, work, trace, lay, g, n)
 }
 
 // The entry at hand, by its kind; 12 where there is no such kind.
@@ -102,26 +101,25 @@ fn one_entry(
     work: &mut [u32],
     trace: &[u32],
     j: &[u32],
-    s: usize,
-    p: usize,
+    lay: Layout,
     g: Playing,
-) -> Playing
-    requires by_index { (q₀ : List Float) × (old : List ℕ) × (m : Mesh) × Plays work.old points.old quads.old s p q₀ old g m × Small quads.old s p }
+) -> Result<Playing, Refusal>
+    requires by_index { (q₀ : List Float) × (old : List ℕ) × (m : Mesh) × Plays work.old points.old quads.old lay.slots lay.points q₀ old (state g) m × Small quads.old lay.slots lay.points }
     requires at_in_bounds { (g.at < length trace.now) × Locks j.now (λ e. false) }
-    ensures { (q₀ : List Float) (old : List ℕ) (m : Mesh) (t : Settings) → Suits t s p → Plays work.old points.old quads.old s p q₀ old g m → ReadTo work.old work.new points.old points.new quads.old quads.new s p q₀ old g trace.now t m (read_entry (drop g.at trace.now)) result }
+    ensures { (q₀ : List Float) (old : List ℕ) (m : Mesh) (t : Settings) → Suits t lay.slots lay.points → Plays work.old points.old quads.old lay.slots lay.points q₀ old (state g) m → ReadTo work.old work.new points.old points.new quads.old quads.new lay.slots lay.points q₀ old (state g) trace.now t m (read_entry (drop g.at trace.now)) (played result) }
 {
     let at = g.at;
     let kind = trace[at];
     if kind == SPLITS {
-        return split_entry(points, work, trace, s, p, g);
+        return split_entry(points, work, trace, lay, g);
     }
     if kind == FLIPS {
-        return flip_entry(points, quads, work, trace, j, s, p, g);
+        return flip_entry(points, quads, work, trace, j, lay, g);
     }
     if kind == QUADS {
-        return quad_entry(quads, work, trace, s, p, g);
+        return quad_entry(quads, work, trace, lay, g);
     }
-    refused(g, 12)
+    Err(Refusal::BadTrace)
 }
 
 // Every entry of the trace, up to one that is refused.
@@ -131,20 +129,17 @@ pub fn play(
     work: &mut [u32],
     trace: &[u32],
     j: &[u32],
-    s: usize,
-    p: usize,
+    lay: Layout,
     start: Playing,
-) -> Playing
-    requires by_index { (q₀ : List Float) × (old : List ℕ) × (m : Mesh) × (t : Settings) × Suits t s p × Plays work.old points.old quads.old s p q₀ old start m × Small quads.old s p }
+) -> Result<Playing, Refusal>
+    requires by_index { (q₀ : List Float) × (old : List ℕ) × (m : Mesh) × (t : Settings) × Suits t lay.slots lay.points × Plays work.old points.old quads.old lay.slots lay.points q₀ old (state start) m × Small quads.old lay.slots lay.points }
     requires at_value { (start.at ≡ 0) × Locks j.now (λ e. false) }
-    ensures { (q₀ : List Float) (old : List ℕ) (m : Mesh) (t : Settings) → Suits t s p → Plays work.old points.old quads.old s p q₀ old start m → PlayTo work.old work.new points.new quads.new s p q₀ old (replay_words t m trace.now) result }
+    ensures { (q₀ : List Float) (old : List ℕ) (m : Mesh) (t : Settings) → Suits t lay.slots lay.points → Plays work.old points.old quads.old lay.slots lay.points q₀ old (state start) m → PlayTo work.old work.new points.new quads.new lay.slots lay.points q₀ old (replay_words t m trace.now) (played result) }
 {
     let mut g = start;
+    // Kept (3): a step goes over an entry of as many words as it says, not to the next index.
     while g.at < trace.len() {
-        g = one_entry(points, quads, work, trace, j, s, p, g);
-        if g.refusal != 0 {
-            return g;
-        }
+        g = one_entry(points, quads, work, trace, j, lay, g)?;
     }
-    g
+    Ok(g)
 }

@@ -10,8 +10,6 @@ pub mod replays;
 pub mod splits;
 pub mod turns;
 
-ghost use Rattle.std.specs.Prelude.{◌≡◌};
-
 // What the caller states: given points, point capacity, triangles, slots, and the words of the trace.
 #[derive(Clone, Copy)]
 pub struct Told {
@@ -22,8 +20,8 @@ pub struct Told {
     pub words: usize,
 }
 
-// The state of a replay: the words read so far, the slots given out, the points and the quads;
-// whether a quad has a node twice; and the refusal that ended the replay, 0 while it goes on.
+// The state of a replay that goes on: the words read so far, the slots given out, the points and the quads;
+// and whether a quad has a node twice.
 #[derive(Clone, Copy)]
 pub struct Playing {
     pub at: usize,
@@ -31,19 +29,4 @@ pub struct Playing {
     pub points: usize,
     pub quads: usize,
     pub odd: bool,
-    pub refusal: usize,
-}
-
-// The state g, ended by a refusal.
-pub fn refused(g: Playing, number: usize) -> Playing
-    ensures { result ≡ record { at = g.at; used = g.used; points = g.points; quads = g.quads; odd = g.odd; refusal = number } }
-{
-    Playing {
-        at: g.at,
-        used: g.used,
-        points: g.points,
-        quads: g.quads,
-        odd: g.odd,
-        refusal: number,
-    }
 }

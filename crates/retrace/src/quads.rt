@@ -10,10 +10,12 @@ ghost use Rattle.cells.specs.Rep.{Rep};
 ghost use Rattle.meshes.specs.Changes.{born_of_nodes};
 ghost use Rattle.retrace.specs.Stored.{four, stored};
 ghost use Rattle.retrace.specs.Takes.{TakesOut, CanPlace, Places, HasSlots, PutsWords};
-ghost use Rattle.retrace.specs.Plays.{Plays, Small, EntryTo};
+ghost use Rattle.retrace.specs.Plays.{state, played, Plays, Small, EntryTo};
 
-use crate::{Playing, refused};
+use crate::Playing;
+use cells::layout::Layout;
 use meshes::store::{push_quad, remove_cell};
+use refusals::Refusal;
 use traces::copy_words;
 use words::wide;
 
@@ -72,45 +74,34 @@ fn twice(a: usize, b: usize, c: usize, d: usize) -> bool
 
 // The n slots that stand in the trace from `from` on are emptied one after the other.
 // The answer is false where one holds no triangle when its turn comes.
-fn take_out(work: &mut [u32], trace: &[u32], s: usize, p: usize, from: usize, n: usize) -> bool
-    requires rep { (m : Mesh) × Rep work.old s p m }
+fn take_out(work: &mut [u32], trace: &[u32], lay: Layout, from: usize, n: usize) -> bool
+    requires rep { (m : Mesh) × Rep work.old lay.slots lay.points m }
     requires n_in_bounds { from + n ≤ length trace.now }
-    ensures { TakesOut work.old work.new trace.now s p from n result }
+    ensures { TakesOut work.old work.new trace.now lay.slots lay.points from n result }
 {
-    let mut k = 0;
-    while k < n {
+    for k in 0..n {
         let i = wide(trace[from + k]);
-        if i >= s {
+        if i >= lay.slots {
             return false;
         }
         if work[i] != 3 {
             return false;
         }
-        remove_cell(work, s, p, i);
-        k += 1;
+        remove_cell(work, lay, i);
     }
     true
 }
 
 // The quad a b c d takes slot i, the next one, and is stored where no node stands in it twice.
 // The answer is whether one does.
-fn place(
-    work: &mut [u32],
-    s: usize,
-    p: usize,
-    i: usize,
-    a: usize,
-    b: usize,
-    c: usize,
-    d: usize,
-) -> bool
-    requires { (m : Mesh) × Rep work.old s p (stored m) × CanPlace m s i a b c d }
-    ensures { Places work.old work.new s p i a b c d result }
+fn place(work: &mut [u32], lay: Layout, i: usize, a: usize, b: usize, c: usize, d: usize) -> bool
+    requires { (m : Mesh) × Rep work.old lay.slots lay.points (stored m) × CanPlace m lay.slots i a b c d }
+    ensures { Places work.old work.new lay.slots lay.points i a b c d result }
 {
     if twice(a, b, c, d) {
         return true;
     }
-    push_quad(work, s, p, i, a, b, c, d);
+    push_quad(work, lay, i, a, b, c, d);
     false
 }
 
@@ -130,14 +121,13 @@ pub fn quad_at(
     quads: &mut [u32],
     work: &mut [u32],
     trace: &[u32],
-    s: usize,
-    p: usize,
+    lay: Layout,
     g: Playing,
     n: usize,
-) -> Playing
-    requires by_index { (q : List Float) × (q₀ : List Float) × (old : List ℕ) × (m : Mesh) × Plays work.old q quads.old s p q₀ old g m × Small quads.old s p }
+) -> Result<Playing, Refusal>
+    requires by_index { (q : List Float) × (q₀ : List Float) × (old : List ℕ) × (m : Mesh) × Plays work.old q quads.old lay.slots lay.points q₀ old (state g) m × Small quads.old lay.slots lay.points }
     requires has_slots { HasSlots trace.now g.at n }
-    ensures { (q q₀ : List Float) (old : List ℕ) (m : Mesh) (t : Settings) → Suits t s p → Plays work.old q quads.old s p q₀ old g m → EntryTo work.old work.new q q quads.old quads.new s p q₀ old g (9 + n) (redo t m (was_placed (entered_quad (drop g.at trace.now)) (take n (drop 9 (drop g.at trace.now))))) result }
+    ensures { (q q₀ : List Float) (old : List ℕ) (m : Mesh) (t : Settings) → Suits t lay.slots lay.points → Plays work.old q quads.old lay.slots lay.points q₀ old (state g) m → EntryTo work.old work.new q q quads.old quads.new lay.slots lay.points q₀ old (state g) (9 + n) (redo t m (was_placed (entered_quad (drop g.at trace.now)) (take n (drop 9 (drop g.at trace.now))))) (played result) }
 {
     let from = g.at;
     let a = wide(trace[from + 1]);
@@ -145,23 +135,22 @@ pub fn quad_at(
     let c = wide(trace[from + 3]);
     let d = wide(trace[from + 4]);
     if !known(g.points, a, b, c, d) {
-        return refused(g, 12);
+        return Err(Refusal::BadTrace);
     }
-    if !take_out(work, trace, s, p, from + HEAD, n) {
-        return refused(g, 12);
+    if !take_out(work, trace, lay, from + HEAD, n) {
+        return Err(Refusal::BadTrace);
     }
-    if g.used >= s {
-        return refused(g, 9);
+    if g.used >= lay.slots {
+        return Err(Refusal::NoSlots);
     }
-    let odd = place(work, s, p, g.used, a, b, c, d);
+    let odd = place(work, lay, g.used, a, b, c, d);
     put_words(quads, trace, from, g.quads);
     let any = either(g.odd, odd);
-    Playing {
+    Ok(Playing {
         at: from + HEAD + n,
         used: g.used + 1,
         points: g.points,
         quads: g.quads + 1,
         odd: any,
-        refusal: 0,
-    }
+    })
 }

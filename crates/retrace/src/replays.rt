@@ -1,14 +1,15 @@
 // The replay of a trace, in lent memory.
 ghost use Rattle.definition.specs.Replay.{replay};
-ghost use Rattle.retrace.specs.Replaying.{told_of, lent_of, Replays};
+ghost use Rattle.retrace.specs.Replaying.{told_of, lent_of, answered, Replays};
 
 use crate::Told;
-use crate::ending::{Replayed, broken, finish};
+use crate::ending::{Replayed, finish};
 use crate::entries::play;
 use crate::opening::{begin, opening};
-use cells::clear::{clear_floats, clear_words};
+use cells::clear::clear;
+use cells::layout::Layout;
 use joints::TABLE;
-use refusals::Room;
+use refusals::{Refusal, Room};
 
 // The mesh of the given triangles is changed by the entries that stand in the first `words` words of the trace,
 // one after the other; no edge of it is locked.
@@ -23,12 +24,12 @@ pub fn replay(
     work: &mut [u32],
     float_work: &mut [f64],
     told: Told,
-) -> Replayed
+) -> Result<Replayed, Refusal>
     ensures { Replays
         (replay
         (told_of told)
         (lent_of points.old triangles.now trace.now quads.old triangles_out.old components.old work.old float_work.old))
-        result
+        (answered result)
         (lent_of points.new triangles.now trace.now quads.new triangles_out.new components.new work.new float_work.new) }
 {
     let room = Room {
@@ -38,38 +39,26 @@ pub fn replay(
         work: work.len(),
         floats: float_work.len(),
     };
-    let k = opening(points, triangles, trace.len(), told, room);
-    if k != 0 {
-        return broken(k);
-    }
+    opening(points, triangles, trace.len(), told, room)?;
     let first = begin(work, triangles, told);
+    let lay = Layout {
+        slots: told.slots,
+        points: told.capacity,
+    };
     let unlocked = [0u32; TABLE];
     let words = told.words;
-    let end = play(
-        points,
-        quads,
-        work,
-        &trace[..words],
-        &unlocked,
-        told.slots,
-        told.capacity,
-        first,
-    );
-    let number = end.refusal;
-    if number != 0 {
-        clear_words(work);
-        clear_floats(float_work);
-        return broken(number);
+    let done = play(points, quads, work, &trace[..words], &unlocked, lay, first);
+    match done {
+        Err(k) => {
+            clear(work, 0);
+            clear(float_work, 0.0);
+            Err(k)
+        }
+        Ok(end) => {
+            let answer = finish(triangles_out, components, work, lay, end);
+            clear(work, 0);
+            clear(float_work, 0.0);
+            Ok(answer)
+        }
     }
-    let answer = finish(
-        triangles_out,
-        components,
-        work,
-        told.slots,
-        told.capacity,
-        end,
-    );
-    clear_words(work);
-    clear_floats(float_work);
-    answer
 }

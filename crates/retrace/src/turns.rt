@@ -6,11 +6,13 @@ ghost use Rattle.definition.specs.Cells.{Mesh, was_flipped, key, same_edge, has_
 ghost use Rattle.definition.specs.Call.{quad_at, first_quads};
 ghost use Rattle.definition.specs.Replay.{redo};
 ghost use Rattle.joints.specs.Table.{Locks};
-ghost use Rattle.retrace.specs.Plays.{Plays, Small, EntryTo};
+ghost use Rattle.retrace.specs.Plays.{state, played, Plays, Small, EntryTo};
 
+use crate::Playing;
 use crate::quads::QUAD;
-use crate::{Playing, refused};
+use cells::layout::Layout;
 use flips::flip::{Turned, flip};
+use refusals::Refusal;
 use traces::FLIP;
 use words::wide;
 
@@ -57,12 +59,10 @@ fn quad_has(quads: &[u32], k: usize, u: usize, v: usize) -> bool
     requires u_lt_v { u < v }
     ensures { result ≡ any (λ q. has_edge_in (quad_edges q) (u, v)) (first_quads k quads.now) }
 {
-    let mut i = 0;
-    while i < k {
+    for i in 0..k {
         if has_side(quads, i, u, v) {
             return true;
         }
-        i += 1;
     }
     false
 }
@@ -86,36 +86,34 @@ pub fn flip_at(
     quads: &[u32],
     work: &mut [u32],
     j: &[u32],
-    s: usize,
-    p: usize,
+    lay: Layout,
     g: Playing,
     u: usize,
     v: usize,
-) -> Playing
-    requires by_index { (q₀ : List Float) × (old : List ℕ) × (m : Mesh) × Plays work.old points.now quads.now s p q₀ old g m × Small quads.now s p × Locks j.now m.locked }
+) -> Result<Playing, Refusal>
+    requires by_index { (q₀ : List Float) × (old : List ℕ) × (m : Mesh) × Plays work.old points.now quads.now lay.slots lay.points q₀ old (state g) m × Small quads.now lay.slots lay.points × Locks j.now m.locked }
     requires at_bound { g.at + 3 < 2 ^ 64 }
-    ensures { (q₀ : List Float) (old : List ℕ) (m : Mesh) (t : Settings) → Plays work.old points.now quads.now s p q₀ old g m → Locks j.now m.locked → EntryTo work.old work.new points.now points.now quads.now quads.now s p q₀ old g 3 (redo t m (was_flipped (u, v))) result }
+    ensures { (q₀ : List Float) (old : List ℕ) (m : Mesh) (t : Settings) → Plays work.old points.now quads.now lay.slots lay.points q₀ old (state g) m → Locks j.now m.locked → EntryTo work.old work.new points.now points.now quads.now quads.now lay.slots lay.points q₀ old (state g) 3 (redo t m (was_flipped (u, v))) (played result) }
 {
     if u >= v {
-        return refused(g, 12);
+        return Err(Refusal::BadTrace);
     }
     if v >= g.points {
-        return refused(g, 12);
+        return Err(Refusal::BadTrace);
     }
     if hides(quads, g.odd, g.quads, u, v) {
-        return refused(g, 12);
+        return Err(Refusal::BadTrace);
     }
-    let t = flip(work, points, j, s, p, u, v, true);
+    let t = flip(work, points, j, lay, u, v, true);
     match t {
-        Turned::Not => refused(g, 12),
-        Turned::Short => refused(g, 12),
-        Turned::Flipped => Playing {
+        Turned::Not => Err(Refusal::BadTrace),
+        Turned::Short => Err(Refusal::BadTrace),
+        Turned::Flipped => Ok(Playing {
             at: g.at + FLIP,
             used: g.used,
             points: g.points,
             quads: g.quads,
             odd: g.odd,
-            refusal: 0,
-        },
+        }),
     }
 }

@@ -19,11 +19,9 @@ pub fn open(w: &mut [u32], b: usize, n: usize, t: usize)
     requires { CanOpen w.old b n t }
     ensures { OpenedFrom w.old w.new b n t }
 {
-    let mut c = t;
-    while c < n {
+    for c in t..n {
         w[b + c] = c as u32;
         w[b + n + c] = c as u32;
-        c += 1;
     }
 }
 

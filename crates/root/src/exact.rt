@@ -83,8 +83,7 @@ fn by_digits(r: u64) -> Whole
     let mut w = r << 10;
     let mut rest: u64 = 0;
     let mut root: u64 = 0;
-    let mut i: u64 = 0;
-    while i < 54 {
+    for _i in 0..54_usize {
         let next = rest * 4 + w / TOP;
         let trial = root * 4 + 1;
         w = w << 2;
@@ -95,7 +94,6 @@ fn by_digits(r: u64) -> Whole
             rest = next - trial;
             root = root * 2 + 1;
         }
-        i += 1;
     }
     Whole {
         root: root,

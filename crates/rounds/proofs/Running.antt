@@ -2,13 +2,13 @@
 use mathlib.Core.Path.{◌≡◌, refl, ap, sym, ◌∙◌, subst}
 use mathlib.Core.Bool.{Bool, true, false}
 use mathlib.Core.List.{List, []}
-use Prim.{absurd}
+use Prim.{⊥, absurd}
 use Prim.Native.Nat.{ℕ, zero, suc, ◌+◌, ◌-◌, ◌*◌, ◌<◌, ◌≤◌}
 use native.Mathlib.Omega.{arith}
 use lib.Ieee.{Float}
 use lib.ListN.{length}
 use Rattle.definition.specs.Lists.{flat_map}
-use Rattle.definition.specs.Counts.{tally, no_counts, Want, of_points, of_slots, of_trace}
+use Rattle.definition.specs.Counts.{tally, no_counts}
 use Rattle.definition.specs.Plane.{Node, Edge}
 use Rattle.definition.specs.Cells.{Tri, front}
 use Rattle.definition.specs.Front.{State, Progress, stuck, progressed, limited, stopped, round, front_loop, start, new_mesh}
@@ -28,12 +28,13 @@ use Rattle.blocked_edges.specs.Blocks.{OpenTo}
 use Rattle.outcomes.specs.Ready.{Ready}
 use Rattle.settling.specs.declared.standing.Standing.{Standing}
 use Rattle.settling.specs.declared.standing.Step.{Step}
+use Rattle.settling.specs.declared.standing.Going.{Going}
+use Rattle.settling.specs.declared.standing.Going.TheVariants as goings
 use Rattle.settling.specs.declared.standing.Run.{Run}
 use Rattle.settling.specs.Standings.{counts_of}
-use Rattle.settling.specs.Settles.{want_kind}
 use Rattle.attempts.specs.Runs.{Begun, Setup, setup, Fixed, Leaves, Goes}
 use Rattle.rounds.specs.Rounds.{Rounded}
-use Rattle.rounds.specs.Loop.{is_progressed, finish_of, want_finish, Finished, Begins, CanRun, LeftRun, RunTo}
+use Rattle.rounds.specs.Loop.{is_progressed, finish_of, Finished, Begins, CanRun, LeftRun, RunTo}
 use Rattle.settling.proofs.Tallies.{same_counts}
 use Rattle.attempts.proofs.Reaching.{sound}
 use Rattle.attempts.proofs.Attempting.{ready_under}
@@ -46,17 +47,14 @@ progress_case : (w : List ℕ) (q : List Float) (quads tr : List ℕ) (x : Setup
 progress_case w q quads tr x (stuck st) r h e = absurd (never (is_progressed r.kind) e (ap is_progressed h.0))
 progress_case w q quads tr x (progressed st) r h e = (st, refl, h.1)
 progress_case w q quads tr x (limited st) r h e = absurd (never (is_progressed r.kind) e (ap is_progressed h.0))
-progress_case w q quads tr x (stopped wt st) r h e = absurd (never (is_progressed r.kind) e (ap is_progressed h.0 ∙ want wt))
-  where
-    want : (wt : Want) → is_progressed (want_kind wt) ≡ false
-    want of_points = refl
-    want of_slots = refl
-    want of_trace = refl
+progress_case w q quads tr x (stopped wt st) r h e = absurd (never (is_progressed r.kind) e (ap is_progressed h.0))
 
-want_finishes : (wt : Want) → finish_of (want_kind wt) ≡ want_finish wt
-want_finishes of_points = refl
-want_finishes of_slots = refl
-want_finishes of_trace = refl
+-- any other end is no quad
+pub not_progressed : (k : Going) → (k ≡ goings.Progressed → ⊥) → is_progressed k ≡ false
+not_progressed goings.Stuck h = refl
+not_progressed goings.Progressed h = absurd (h refl)
+not_progressed goings.Limited h = refl
+not_progressed (goings.Short short) h = refl
 
 -- it did not: the run ends
 end_case : (w : List ℕ) (q : List Float) (quads tr : List ℕ) (x : Setup) (given n : ℕ) (st : State) (p : Progress) (s' : Step) (r : Run) → Rounded w q quads tr x p s' → is_progressed s'.kind ≡ false
@@ -65,7 +63,7 @@ unfolding front_loop
 end_case w q quads tr x given n st (stuck st') s' r h e g f k = rw (g, front_loop) (f ∙ ap finish_of h.0, subst (λ (z : Standing). Leaves w q quads tr x z st') (sym k) h.1)
 end_case w q quads tr x given n st (progressed st') s' r h e g f k = absurd (never (is_progressed s'.kind) (ap is_progressed h.0) e)
 end_case w q quads tr x given n st (limited st') s' r h e g f k = rw (g, front_loop) (f ∙ ap finish_of h.0, subst (λ (z : Standing). Leaves w q quads tr x z st') (sym k) h.1)
-end_case w q quads tr x given n st (stopped wt st') s' r h e g f k = rw (g, front_loop) (f ∙ ap finish_of h.0 ∙ want_finishes wt, subst (λ (z : Standing). Leaves w q quads tr x z st') (sym k) h.1)
+end_case w q quads tr x given n st (stopped wt st') s' r h e g f k = rw (g, front_loop) (f ∙ ap finish_of h.0, subst (λ (z : Standing). Leaves w q quads tr x z st') (sym k) h.1)
 
 next_round : (x : Setup) (given n : ℕ) (st st' : State) → round (settings_of x.rules) given st (front st.mesh) ≡ progressed st' → front_loop (suc n) (settings_of x.rules) given st ≡ front_loop n (settings_of x.rules) given st'
 unfolding front_loop
@@ -143,14 +141,14 @@ module _ (w : List ℕ) (q f : List Float) (quads tr : List ℕ) (rules : Rules)
   fixed : Fixed x
   fixed = record { proper = k.proper; given = k.is_given; few = k.few; attempts = k.attempts; points = k.points; slots = k.slots; within = k.within; sized = k.sized; room = k.room }
 
-  pub can_open : Records.Room w (refused_at rules.slots rules.capacity) (3 * rules.slots) rules.capacity
+  pub can_open : Records.Room w (refused_at rules.lay.slots rules.lay.points) (3 * rules.lay.slots) rules.lay.points
   can_open =
       let r = k.ready.rep.room.fits in
       let a = k.ready.small.slots in
       let b = k.ready.small.points in
       record { fits = omega arith; few_records = omega arith; few_nodes = omega arith }
 
-  module _ (w₁ : List ℕ) (to : OpenTo w w₁ (refused_at rules.slots rules.capacity) (3 * rules.slots) rules.capacity) (g : Standing) (b : Begins c g) where
+  module _ (w₁ : List ℕ) (to : OpenTo w w₁ (refused_at rules.lay.slots rules.lay.points) (3 * rules.lay.slots) rules.lay.points) (g : Standing) (b : Begins c g) where
     begin_counts : counts_of g ≡ (start (settings_of rules) lk ts ps).counts
     unfolding start no_counts tally
     begin_counts = same_counts (counts_of g) no_counts b.front (ap (λ z. z.attempts) b.counters ∙ k.fresh) b.placement b.invalid b.recovery b.region b.odd b.insertions b.limit b.trials

@@ -1,8 +1,8 @@
 -- The whole run of the front: what it asks and what it leaves.
-use Rattle.std.specs.Prelude.{◌≡◌, Bool, true, false, List, ℕ, ◌*◌, ◌≤◌, length, Float}
+use Rattle.std.specs.Prelude.{◌≡◌, Result, Ok, Err, Bool, true, false, List, ℕ, ◌*◌, ◌≤◌, length, Float}
 use Rattle.definition.specs.Lists.{flat_map}
 use Rattle.definition.specs.Numbers.{max_attempts}
-use Rattle.definition.specs.Counts.{Want, of_points, of_slots, of_trace}
+use Rattle.definition.specs.Counts.{Want}
 use Rattle.definition.specs.Plane.{Node, Edge}
 use Rattle.definition.specs.Cells.{Tri}
 use Rattle.definition.specs.Front.{State, Progress, stuck, progressed, limited, stopped, start}
@@ -15,46 +15,44 @@ use Rattle.exact.specs.Theorems.{Within}
 use Rattle.traces.specs.Log.{Logged}
 use Rattle.cells.specs.declared.counters.Counters.{Counters}
 use Rattle.outcomes.specs.Ready.{Ready, Behind}
+use Rattle.outcomes.specs.Ends.{shortage_of}
+use Rattle.outcomes.specs.declared.Shortage.{Shortage}
 use Rattle.settling.specs.declared.standing.Standing.{Standing}
 use Rattle.settling.specs.declared.standing.Going.{Going}
 use Rattle.settling.specs.declared.standing.Going.TheVariants as goings
-use Rattle.settling.specs.declared.standing.Finish.{Finish}
-use Rattle.settling.specs.declared.standing.Finish.TheVariants as finishes
 use Rattle.settling.specs.declared.standing.Run.{Run}
 use Rattle.settling.specs.Standings.{counts_of}
 use Rattle.attempts.specs.Runs.{Setup, Sized, Leaves}
 
 -- ---- how it ends
 
+-- done, or what there was too little of
+abbrev pub Finish : Type 0
+Finish = Result (Unit {0}) Shortage
+
 -- a quad was placed
 abbrev pub is_progressed : Going → Bool
 is_progressed goings.Stuck = false
 is_progressed goings.Progressed = true
 is_progressed goings.Limited = false
-is_progressed goings.NoPoint = false
-is_progressed goings.NoSlots = false
-is_progressed goings.NoTrace = false
+is_progressed (goings.Short short) = false
 
 -- how a run ends whose last step ended so
 abbrev pub finish_of : Going → Finish
-finish_of goings.Stuck = finishes.Done
-finish_of goings.Progressed = finishes.Done
-finish_of goings.Limited = finishes.Done
-finish_of goings.NoPoint = finishes.NoPoint
-finish_of goings.NoSlots = finishes.NoSlots
-finish_of goings.NoTrace = finishes.NoTrace
+finish_of goings.Stuck = Ok tt
+finish_of goings.Progressed = Ok tt
+finish_of goings.Limited = Ok tt
+finish_of (goings.Short short) = Err short
 
 -- for want of lent memory
 abbrev pub want_finish : Want → Finish
-want_finish of_points = finishes.NoPoint
-want_finish of_slots = finishes.NoSlots
-want_finish of_trace = finishes.NoTrace
+want_finish wt = Err (shortage_of wt)
 
 -- the memory stands for the last state, by cases
 abbrev pub Finished : List ℕ → List Float → List ℕ → List ℕ → Setup → Progress → Run → Type 0
-Finished w q quads t x (stuck st) r = (r.finish ≡ finishes.Done) × Leaves w q quads t x r.standing st
-Finished w q quads t x (progressed st) r = (r.finish ≡ finishes.Done) × Leaves w q quads t x r.standing st
-Finished w q quads t x (limited st) r = (r.finish ≡ finishes.Done) × Leaves w q quads t x r.standing st
+Finished w q quads t x (stuck st) r = (r.finish ≡ Ok tt) × Leaves w q quads t x r.standing st
+Finished w q quads t x (progressed st) r = (r.finish ≡ Ok tt) × Leaves w q quads t x r.standing st
+Finished w q quads t x (limited st) r = (r.finish ≡ Ok tt) × Leaves w q quads t x r.standing st
 Finished w q quads t x (stopped wt st) r = (r.finish ≡ want_finish wt) × Leaves w q quads t x r.standing st
 
 -- ---- the start
@@ -83,13 +81,13 @@ pub record CanRun (w : List ℕ) (q f : List Float) (quads t : List ℕ) (rules 
   pub is_given : rules.given ≡ length ts
   pub few : rules.given ≤ 4096
   pub attempts : rules.attempts ≤ max_attempts rules.given
-  pub points : length ps ≤ rules.capacity
-  pub slots : length ts ≤ rules.slots
+  pub points : length ps ≤ rules.lay.points
+  pub slots : length ts ≤ rules.lay.slots
   pub fresh : c.attempts ≡ 0
   pub within : All Within ps
   pub sized : Sized rules.size
-  pub floats : 3 * rules.slots ≤ length f
-  pub room : 8 * rules.slots ≤ length quads
+  pub floats : 3 * rules.lay.slots ≤ length f
+  pub room : 8 * rules.lay.slots ≤ length quads
   pub trace : rules.room ≡ length t
 
 -- ---- the end
@@ -107,7 +105,7 @@ pub record LeftRun (w w' : List ℕ) (q q' f f' : List Float) (quads quads' t t'
 
 -- by cases
 abbrev pub RunTo : List ℕ → List ℕ → List Float → List Float → List Float → List Float → List ℕ → List ℕ → List ℕ → List ℕ → Rules → Progress → Run → Type 0
-RunTo w w' q q' f f' quads quads' t t' rules (stuck st) r = (r.finish ≡ finishes.Done) × LeftRun w w' q q' f f' quads quads' t t' rules st r
-RunTo w w' q q' f f' quads quads' t t' rules (progressed st) r = (r.finish ≡ finishes.Done) × LeftRun w w' q q' f f' quads quads' t t' rules st r
-RunTo w w' q q' f f' quads quads' t t' rules (limited st) r = (r.finish ≡ finishes.Done) × LeftRun w w' q q' f f' quads quads' t t' rules st r
+RunTo w w' q q' f f' quads quads' t t' rules (stuck st) r = (r.finish ≡ Ok tt) × LeftRun w w' q q' f f' quads quads' t t' rules st r
+RunTo w w' q q' f f' quads quads' t t' rules (progressed st) r = (r.finish ≡ Ok tt) × LeftRun w w' q q' f f' quads quads' t t' rules st r
+RunTo w w' q q' f f' quads quads' t t' rules (limited st) r = (r.finish ≡ Ok tt) × LeftRun w w' q q' f f' quads quads' t t' rules st r
 RunTo w w' q q' f f' quads quads' t t' rules (stopped wt st) r = (r.finish ≡ want_finish wt) × LeftRun w w' q q' f f' quads quads' t t' rules st r

@@ -5,6 +5,8 @@ ghost use Rattle.std.specs.Prelude.{◌≡◌};
 ghost use Rattle.definition.specs.Numbers.{base};
 ghost use Rattle.rules.specs.Settings.{quality_of};
 
+use cells::layout::Layout;
+
 // The most pairs that a quality set may permit.
 pub const MOST_PAIRS: usize = 64;
 
@@ -36,8 +38,7 @@ pub fn standard_quality() -> Quality
 
 #[derive(Clone, Copy)]
 pub struct Rules {
-    pub slots: usize,
-    pub capacity: usize,
+    pub lay: Layout,
     pub given: usize,
     pub bucket: f64,
     pub size: f64,

@@ -1,5 +1,5 @@
 -- The sheet of what a call left in its slices, from what `run_front` promises and nothing else.
-use Rattle.std.specs.Prelude.{◌≡◌, refl, false, ℕ, ◌+◌, ◌*◌, ◌≤◌, length, drop, Float}
+use Rattle.std.specs.Prelude.{Result, Ok, Err, ◌≡◌, refl, false, ℕ, ◌*◌, ◌≤◌, length, drop, Float}
 use Rattle.std.proofs.Math.Path.{sym, ap, subst}
 use Rattle.std.proofs.Common.{◌∙◌, arith, length-append}
 use mathlib.Core.List.{List, [], ◌∷◌}
@@ -12,15 +12,16 @@ use Rattle.definition.specs.Floats.{◌≺◌}
 use Rattle.definition.specs.Numbers.{Quality, max_attempts}
 use Rattle.definition.specs.Plane.{Node}
 use Rattle.definition.specs.Front.{Outcome, ran, wanting, run_front}
-use Rattle.definition.specs.Call.{Asked, Lent, Lengths, given_points, given_tris, given_locks, first_points, first_quads, coordinates, quad_words, onto, settings_within, lengths, lengths_of, written, untouched, after_run, call_within, call}
+use Rattle.definition.specs.Call.{Asked, Lent, Lengths, given_points, given_tris, given_locks, first_quads, coordinates, quad_words, onto, settings_within, lengths, lengths_of, written, untouched, after_run, call_within, call}
 use Rattle.definition.specs.Sheet.{Value}
 use Rattle.definition.specs.Sheet as sheets
 use Rattle.laws.specs.Lists.{table_length, numbers_length}
 use Rattle.laws.specs.Cells.{points_length}
 use Rattle.laws.specs.Slices.{quads_length}
 use Rattle.refusals.specs.Refusals.{first_refusal, passed, call_runs, call_refused}
-use Rattle.mesher.specs.declared.Answer.{Answer}
-use Rattle.mesher.specs.Promise.{number_of, lengths_in, Returns, KeptAccountWithin, KeptAccount}
+use Rattle.mesher.specs.Promise.{Reply, number_of, lengths_in, Returns, KeptAccountWithin, KeptAccount}
+use Rattle.refusals.specs.declared.named.Refusal.{Refusal}
+use Rattle.refusals.specs.Numbers.{number, number_positive}
 use Rattle.sheet_steps.specs.Values.{worst_in}
 use Rattle.sheet.specs.declared.answers.Sheet.{Sheet}
 use Rattle.sheet.specs.Promise as filing
@@ -28,17 +29,23 @@ use Rattle.sheet.specs.Promise.{listed}
 use Rattle.sheet.specs.OurMeshes.{Handed, Passing, on_our_mesh}
 
 -- What a finished call with at most so many attempts is known to have left: its contract, and that it was not refused.
-pub record FinishedRun (most : ℕ) (a : Asked) (l : Lent) (r : Answer) (exit : Lent) : Type 0 where
+pub record FinishedRun (most : ℕ) (a : Asked) (l : Lent) (r : Reply) (exit : Lent) : Type 0 where
   pub returns : Returns (call_within most a l) r exit
   pub keeps : KeptAccountWithin most a l r exit
   pub no_refusal : r.refusal ≡ 0
 
--- A sheet that is filed: no quad is without metrics, and neither worst is beyond the set's.
-pub record Filed (y : Quality) (s : Sheet) : Type 0 where
-  pub number : s.refusal ≡ 0
+-- A sheet comes back, and is filed: no quad is without metrics, and neither worst is beyond the set's.
+pub record Filed (y : Quality) (r : Result Sheet Refusal) : Type 0 where
+  pub s : Sheet
+  pub sheet : r ≡ Ok s
   pub eleventh : get_or s.counts 10 0 ≡ 0
   pub jacobian : (v : Value) → worst_in s.jacobian ≡ some v → (v.1 ≺ y.least_jacobian) ≡ false
   pub cosine : (v : Value) → worst_in s.cosine ≡ some v → (y.largest_cosine ≺ v.1) ≡ false
+
+filed_is : (r : Result Sheet Refusal) (d : sheets.Sheet) → filing.answer_in r ≡ sheets.filed d → (s : Sheet) × ((r ≡ Ok s) × (filing.sheet_in s ≡ d))
+unfolding filing.number_of sheets.sheet_of
+filed_is (Ok s) d e = (s, (refl, ap sheets.sheet_of e))
+filed_is (Err k) d e = absurd (let p = number_positive k in let z : number k ≡ 0 = ap filing.number_of e in omega arith)
 
 -- ---- lengths
 
@@ -68,7 +75,7 @@ left_in l exit n (wanting w ps qs words) e f = (omega (arith, ap (λ k. k.points
 
 -- ---- the theorem
 
-module _ (most : ℕ) (a : Asked) (l exit : Lent) (r : Answer) (run : FinishedRun most a l r exit) where
+module _ (most : ℕ) (a : Asked) (l exit : Lent) (r : Reply) (run : FinishedRun most a l r exit) where
   not_refused : first_refusal a l ≡ 0
   unfolding untouched number_of
   not_refused = elim (ℕ_discrete (first_refusal a l) 0) [
@@ -101,22 +108,23 @@ module _ (most : ℕ) (a : Asked) (l exit : Lent) (r : Answer) (run : FinishedRu
 
   -- the sheet that the code answers of the points and quads that the call left has no quad without metrics,
   -- and neither worst is beyond the set's
-  pub sheet_filed : (ps : List Float) (qs : List ℕ) (out new : List Float) (s : Sheet) → exit.points ≡ ps → exit.quads ≡ qs → 2 * r.quads ≤ length out
+  pub sheet_filed : (ps : List Float) (qs : List ℕ) (out new : List Float) (s : Result Sheet Refusal) → exit.points ≡ ps → exit.quads ≡ qs → 2 * r.quads ≤ length out
       → filing.Returns (sheets.call (listed r.points r.quads ps qs out)) s new → Filed a.quality s
-  unfolding filing.number_of sheets.sheet_of
   sheet_filed ps qs out new s e f room h =
       let there = subst (λ (z : List Float). filing.Returns (sheets.call (listed r.points r.quads z qs out)) s new) (sym e) h in
       let here = subst (λ (z : List ℕ). filing.Returns (sheets.call (listed r.points r.quads exit.points z out)) s new) (sym f) there in
       let p = sheet_passes out room in
-      let is = here.sheet ∙ ap sheets.sheet_of p.answer in
+      let o = filed_is s _ (here.answer ∙ p.answer) in
+      let is = o.1.1 in
       record {
-        number = here.number ∙ ap filing.number_of p.answer;
+        s = o.0;
+        sheet = o.1.0;
         eleventh = ap (λ x. get_or x.counts 10 0) is ∙ p.eleventh;
         jacobian = λ v g. p.jacobian v (sym (ap (λ x. x.jacobian) is) ∙ g);
         cosine = λ v g. p.cosine v (sym (ap (λ x. x.cosine) is) ∙ g);
       }
 
 -- A call of `run_front` that came back without a refusal is such a run, by its contract.
-pub run_finished : (a : Asked) (l exit : Lent) (r : Answer) → Returns (call a l) r exit → KeptAccount a l r exit → r.refusal ≡ 0 → FinishedRun (max_attempts a.count) a l r exit
+pub run_finished : (a : Asked) (l exit : Lent) (r : Reply) → Returns (call a l) r exit → KeptAccount a l r exit → r.refusal ≡ 0 → FinishedRun (max_attempts a.count) a l r exit
 unfolding call
 run_finished a l exit r h k e = record { returns = h; keeps = k; no_refusal = e }

@@ -15,6 +15,7 @@ fn read_full<R: Read>(input: &mut R, buf: &mut [u8]) -> io::Result<usize>
     ensures { IfOk result (λ n. n ≤ length buf.new) }
 {
     let mut done = 0;
+    // Kept (3): a read says how many bytes it brought, so no range counts them, and std's `read_to_end` takes heap.
     while done < buf.len() {
         let n = input.read(&mut buf[done..])?;
         if n == 0 {

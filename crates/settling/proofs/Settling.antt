@@ -1,77 +1,75 @@
 -- What `settle` asks of its callees and makes of what they give.
-use Rattle.std.specs.Prelude.{◌≡◌, ◌+◌, ◌*◌, ◌≤◌, ◌∷◌}
-use Rattle.laws.specs.Kit.{refl, sym, ◌∙◌, ap, subst, ℕ, arith, List}
-use Rattle.definition.specs.Counts.{◌⊞◌, spending, Refusal, Placement, Shape, Recovery, Region, OddRegion, refused_by, Want, of_points, of_slots, of_trace}
+use Rattle.std.specs.Prelude.{◌≡◌, ◌+◌, ◌*◌, ◌∷◌}
+use Rattle.laws.specs.Kit.{refl, sym, ◌∙◌, ap, subst, ℕ, List}
+use Rattle.laws.specs.Numbers.{clash}
+use Rattle.definition.specs.Counts.{◌⊞◌, Refusal, Placement, Shape, Recovery, Region, OddRegion, refused_by, Want, of_points, of_slots, of_trace}
 use Rattle.definition.specs.Plane.{Edge}
 use Rattle.definition.specs.Cells.{Quad}
 use Rattle.laws.specs.Frames.{only_refl}
 use Rattle.cells.specs.Layout.{refused_at}
 use Rattle.blocked_edges.specs.Records.{size}
 use Rattle.blocked_edges.specs.Blocks.{Blocks, with_edge}
-use Rattle.outcomes.specs.Ends.{end_of, end_for, spent_of}
+use Rattle.outcomes.specs.Ends.{kind_of, shortage_of, end_of, end_for}
+use Rattle.outcomes.specs.declared.Shortage.{Shortage}
+use Rattle.outcomes.specs.declared.Shortage.TheVariants.{NoPoint, NoSlots, NoTrace}
+use Rattle.outcomes.specs.declared.Kind.{Kind}
+use Rattle.outcomes.specs.declared.Kind.TheVariants as kinds
+use Rattle.outcomes.specs.declared.Placed.{Placed}
 use Rattle.outcomes.specs.declared.Tried.{Tried}
 use Rattle.outcomes.specs.declared.End.{End}
 use Rattle.outcomes.specs.declared.End.TheVariants as ends
 use Rattle.settling.specs.declared.standing.Standing.{Standing}
 use Rattle.settling.specs.declared.standing.Step.{Step}
-use Rattle.settling.specs.Standings.{counts_of, sort_of, TriedMore, CountsMore}
-use Rattle.settling.specs.Settles.{KeptSoFar, CanPut, PutTo, CanRecord, RecordTo, CanSettle, SettleTo, Ending, CountedOn, want_kind}
+use Rattle.settling.specs.declared.standing.Going.TheVariants as goings
+use Rattle.settling.specs.Standings.{counts_of, TriedMore, CountsMore}
+use Rattle.settling.specs.Settles.{KeptSoFar, CanPut, PutTo, CanRecord, RecordTo, CanSettle, SettleTo, Placing, Ending, want_kind}
 
--- ---- the sorts of ends
+-- ---- an end is of one sort
 
-pub sort_placed : (e : End) → sort_of e ≡ 0 → e ≡ ends.Placed
-sort_placed ends.Placed h = refl
-sort_placed ends.Placement h = absurd (omega arith)
-sort_placed ends.Shape h = absurd (omega arith)
-sort_placed ends.Recovery h = absurd (omega arith)
-sort_placed ends.Region h = absurd (omega arith)
-sort_placed ends.OddRegion h = absurd (omega arith)
-sort_placed ends.NoPoint h = absurd (omega arith)
-sort_placed ends.NoSlots h = absurd (omega arith)
-sort_placed ends.NoTrace h = absurd (omega arith)
-
-pub sort_refused : (e : End) → sort_of e ≡ 1 → (why : Refusal) × (e ≡ end_of why)
+pub placed_refused : (e : End) (z : Placed) (why : Refusal) → e ≡ ends.Placed z → e ≡ end_of why → ⊥
 unfolding end_of
-sort_refused ends.Placed h = absurd (omega arith)
-sort_refused ends.Placement h = (Placement, refl)
-sort_refused ends.Shape h = (Shape, refl)
-sort_refused ends.Recovery h = (Recovery, refl)
-sort_refused ends.Region h = (Region, refl)
-sort_refused ends.OddRegion h = (OddRegion, refl)
-sort_refused ends.NoPoint h = absurd (omega arith)
-sort_refused ends.NoSlots h = absurd (omega arith)
-sort_refused ends.NoTrace h = absurd (omega arith)
+placed_refused e z why a b = clash cc
 
-pub sort_of_refusal : (e : End) (why : Refusal) → e ≡ end_of why → sort_of e ≡ 1
-unfolding end_of
-sort_of_refusal e Placement h = ap sort_of h
-sort_of_refusal e Shape h = ap sort_of h
-sort_of_refusal e Recovery h = ap sort_of h
-sort_of_refusal e Region h = ap sort_of h
-sort_of_refusal e OddRegion h = ap sort_of h
-
--- 2 for points, 3 for slots, 4 for the trace
-abbrev pub want_sort : Want → ℕ
-want_sort of_points = 2
-want_sort of_slots = 3
-want_sort of_trace = 4
-
-pub sort_of_want : (e : End) (wt : Want) → e ≡ end_for wt → sort_of e ≡ want_sort wt
+pub placed_ended : (e : End) (z : Placed) (wt : Want) → e ≡ ends.Placed z → e ≡ end_for wt → ⊥
 unfolding end_for
-sort_of_want e of_points h = ap sort_of h
-sort_of_want e of_slots h = ap sort_of h
-sort_of_want e of_trace h = ap sort_of h
+placed_ended e z wt a b = clash cc
 
-sort_few : (e : End) → sort_of e ≤ 4
-sort_few ends.Placed = omega arith
-sort_few ends.Placement = omega arith
-sort_few ends.Shape = omega arith
-sort_few ends.Recovery = omega arith
-sort_few ends.Region = omega arith
-sort_few ends.OddRegion = omega arith
-sort_few ends.NoPoint = omega arith
-sort_few ends.NoSlots = omega arith
-sort_few ends.NoTrace = omega arith
+pub refused_ended : (e : End) (why : Refusal) (wt : Want) → e ≡ end_of why → e ≡ end_for wt → ⊥
+unfolding end_of end_for
+refused_ended e why wt a b = clash cc
+
+-- and says what it says
+pub same_placed : (e : End) (y z : Placed) → e ≡ ends.Placed y → e ≡ ends.Placed z → y ≡ z
+same_placed e y z a b = cc
+
+pub same_kind : (e : End) (kind : Kind) (why : Refusal) → e ≡ ends.Refused kind → e ≡ end_of why → kind ≡ kind_of why
+unfolding end_of
+same_kind e kind why a b = cc
+
+pub same_short : (e : End) (short : Shortage) (wt : Want) → e ≡ ends.Short short → e ≡ end_for wt → short ≡ shortage_of wt
+unfolding end_for
+same_short e short wt a b = cc
+
+-- each kind stands for a refusal, and each shortage for a want
+named : (kind : Kind) → (why : Refusal) × (kind ≡ kind_of why)
+named kinds.Placement = (Placement, refl)
+named kinds.InvalidQuad = (Shape, refl)
+named kinds.Recovery = (Recovery, refl)
+named kinds.Region = (Region, refl)
+named kinds.OddRegion = (OddRegion, refl)
+
+wanted : (short : Shortage) → (wt : Want) × (short ≡ shortage_of wt)
+wanted NoPoint = (of_points, refl)
+wanted NoSlots = (of_slots, refl)
+wanted NoTrace = (of_trace, refl)
+
+refused_as : (e : End) (kind : Kind) (why : Refusal) → e ≡ ends.Refused kind → kind ≡ kind_of why → e ≡ end_of why
+unfolding end_of
+refused_as e kind why a b = a ∙ ap ends.Refused b
+
+short_as : (e : End) (short : Shortage) (wt : Want) → e ≡ ends.Short short → short ≡ shortage_of wt → e ≡ end_for wt
+unfolding end_for
+short_as e short wt a b = a ∙ ap ends.Short b
 
 module _ (w quads : List ℕ) (s p : ℕ) (g : Standing) (t : Tried) (u v : ℕ) (ever bl : List Edge) (qs : List Quad) (old : List ℕ) (can : CanSettle w quads s p g t u v ever bl qs old)
     (h : Standing) (tm : TriedMore g t.counters t.at t.inserted t.trials h) where
@@ -79,38 +77,34 @@ module _ (w quads : List ℕ) (s p : ℕ) (g : Standing) (t : Tried) (u v : ℕ)
   so_far : KeptSoFar w quads s p h ever bl qs old
   so_far = record { blocks = can.so_far.blocks; records = tm.records ∙ can.so_far.records; number = tm.quads ∙ can.so_far.number; text = can.so_far.text }
 
-  counted : CountedOn g t (counts_of g ⊞ spending (spent_of t)) h
-  counted = record { counters = tm.counters; counts = λ a. tm.counts a t.flips; words = tm.words }
-
   -- ---- a quad
 
-  pub can_put : sort_of t.end ≡ 0 → CanPut w quads s p h t u v ever bl qs old
-  can_put e = record { small_slots = can.small_slots; small_points = can.small_points; so_far = so_far; fits = can.placed (sort_placed t.end e) }
+  module _ (z : Placed) (e : t.end ≡ ends.Placed z) where
+    pub can_put : CanPut w quads s p h z u v ever bl qs old
+    can_put = record { small_slots = can.small_slots; small_points = can.small_points; so_far = so_far; fits = can.placed z e }
 
-  pub put_settles : (w' quads' : List ℕ) (r : Step) → sort_of t.end ≡ 0 → PutTo w w' quads' s p h t ever bl qs old r
-      → SettleTo w w' quads' s p g t u v ever bl qs old r
-  put_settles w' quads' r e to =
-      record {
-        kept = to.kept;
-        placed = λ f. record {
-          kind = to.kind;
-          counted = record { counters = to.standing.counters ∙ tm.counters; counts = λ a. to.standing.counts ∙ tm.counts a t.flips; words = to.standing.words ∙ tm.words };
-          so_far = to.so_far;
-        };
-        refused = λ why f. absurd (omega (arith, e, sort_of_refusal t.end why f));
-        ended = λ wt f. absurd (no_want wt (sort_of_want t.end wt f));
-      }
-    where
-      no_want : (wt : Want) → sort_of t.end ≡ want_sort wt → ⊥
-      no_want of_points f = omega (arith, e, f)
-      no_want of_slots f = omega (arith, e, f)
-      no_want of_trace f = omega (arith, e, f)
+    pub put_settles : (w' quads' : List ℕ) (r : Step) → PutTo w w' quads' s p h z ever bl qs old r
+        → SettleTo w w' quads' s p g t u v ever bl qs old r
+    put_settles w' quads' r to =
+        record {
+          kept = to.kept;
+          placed = λ y f. subst (λ (k : Placed). Placing w' quads' s p g t k ever bl qs old r) (same_placed t.end z y e f) (record {
+            kind = to.kind;
+            counted = record { counters = to.standing.counters ∙ tm.counters; counts = λ a. to.standing.counts ∙ tm.counts a t.flips; words = to.standing.words ∙ tm.words };
+            so_far = to.so_far;
+          });
+          refused = λ why f. absurd (placed_refused t.end z why e f);
+          ended = λ wt f. absurd (placed_ended t.end z wt e f);
+        }
 
   -- ---- a refusal
 
-  module _ (k : Standing) (more : (why : Refusal) → t.end ≡ end_of why → CountsMore h (refused_by why) k) (e : sort_of t.end ≡ 1) where
-    name : (why : Refusal) × (t.end ≡ end_of why)
-    name = sort_refused t.end e
+  module _ (kind : Kind) (k : Standing) (more : (why : Refusal) → kind ≡ kind_of why → CountsMore h (refused_by why) k) (e : t.end ≡ ends.Refused kind) where
+    name : (why : Refusal) × (kind ≡ kind_of why)
+    name = named kind
+
+    is : t.end ≡ end_of name.0
+    is = refused_as t.end kind name.0 e name.1
 
     pub can_record : CanRecord w s p k u v ever bl
     can_record =
@@ -122,7 +116,7 @@ module _ (w quads : List ℕ) (s p : ℕ) (g : Standing) (t : Tried) (u v : ℕ)
             blocks = subst (λ (z : ℕ). Blocks w (refused_at s p) (3 * s) p z ever bl) (sym (m.quads ∙ tm.quads ∙ can.so_far.number)) can.so_far.blocks;
             count = m.records ∙ tm.records ∙ can.so_far.records;
             edge = can.edge;
-            enough = can.refused name.0 name.1;
+            enough = can.refused name.0 is;
           };
         }
 
@@ -130,9 +124,9 @@ module _ (w quads : List ℕ) (s p : ℕ) (g : Standing) (t : Tried) (u v : ℕ)
     record_settles w' r to =
         record {
           kept = to.kept;
-          placed = λ f. absurd (omega (arith, e, ap sort_of f));
+          placed = λ z f. absurd (placed_refused t.end z name.0 f is);
           refused = λ why f.
-              let m = more why f in
+              let m = more why (same_kind t.end kind why e f) in
               let number = m.quads ∙ tm.quads ∙ can.so_far.number in
               record {
                 kind = to.kind;
@@ -144,13 +138,8 @@ module _ (w quads : List ℕ) (s p : ℕ) (g : Standing) (t : Tried) (u v : ℕ)
                   text = can.so_far.text;
                 };
               };
-          ended = λ wt f. absurd (no_want wt (sort_of_want t.end wt f));
+          ended = λ wt f. absurd (refused_ended t.end name.0 wt is f);
         }
-      where
-        no_want : (wt : Want) → sort_of t.end ≡ want_sort wt → ⊥
-        no_want of_points f = omega (arith, e, f)
-        no_want of_slots f = omega (arith, e, f)
-        no_want of_trace f = omega (arith, e, f)
 
   -- ---- the end
 
@@ -162,33 +151,13 @@ module _ (w quads : List ℕ) (s p : ℕ) (g : Standing) (t : Tried) (u v : ℕ)
         so_far = record { blocks = can.so_far.blocks; records = ap (λ z. z.records) f ∙ so_far.records; number = ap (λ z. z.quads) f ∙ so_far.number; text = can.so_far.text };
       }
 
-  -- an end has one sort
-  same_want : (wt wu : Want) → want_sort wt ≡ want_sort wu → wt ≡ wu
-  same_want of_points of_points e = refl
-  same_want of_points of_slots e = absurd (omega arith)
-  same_want of_points of_trace e = absurd (omega arith)
-  same_want of_slots of_points e = absurd (omega arith)
-  same_want of_slots of_slots e = refl
-  same_want of_slots of_trace e = absurd (omega arith)
-  same_want of_trace of_points e = absurd (omega arith)
-  same_want of_trace of_slots e = absurd (omega arith)
-  same_want of_trace of_trace e = refl
-
-  -- which is neither that of a quad nor of a refusal
-  want_late : (wt : Want) → 2 ≤ want_sort wt
-  want_late of_points = omega arith
-  want_late of_slots = omega arith
-  want_late of_trace = omega arith
-
-  pub end_settles : (wt : Want) (r : Step) → sort_of t.end ≡ want_sort wt → r.kind ≡ want_kind wt → r.standing ≡ h → SettleTo w w quads s p g t u v ever bl qs old r
-  end_settles wt r e k f =
+  pub end_settles : (short : Shortage) (r : Step) → t.end ≡ ends.Short short → r.kind ≡ goings.Short short → r.standing ≡ h → SettleTo w w quads s p g t u v ever bl qs old r
+  end_settles short r e k f =
+      let want = wanted short in
+      let is : t.end ≡ end_for want.0 = short_as t.end short want.0 e want.1 in
       record {
         kept = only_refl w (refused_at s p) ((refused_at s p) + (size (3 * s) p));
-        placed = λ z. absurd (omega (arith, e, want_late wt, ap sort_of z));
-        refused = λ why z. absurd (omega (arith, e, want_late wt, sort_of_refusal t.end why z));
-        ended = λ wu z. subst (λ (x : Want). Ending w quads s p g t x ever bl qs old r) (same_want wt wu (sym e ∙ sort_of_want t.end wu z)) (ends_as wt r k f);
+        placed = λ z a. absurd (placed_ended t.end z want.0 a is);
+        refused = λ why a. absurd (refused_ended t.end why want.0 a is);
+        ended = λ wu a. ends_as wu r (k ∙ ap goings.Short (same_short t.end short wu e a)) f;
       }
-
--- the last of the sorts
-pub sort_last : (e : End) → (sort_of e ≡ 0 → ⊥) → (sort_of e ≡ 1 → ⊥) → (sort_of e ≡ 2 → ⊥) → (sort_of e ≡ 3 → ⊥) → sort_of e ≡ 4
-sort_last e a b c d = omega (arith, sort_few e)

@@ -2,8 +2,8 @@
 use Rattle.std.specs.Prelude.{◌≡◌, ◌+◌}
 use Rattle.laws.specs.Kit.{◌∙◌, ap, ℕ, arith}
 use Rattle.definition.specs.Counts.{Counts, tally, ◌⊞◌, one_attempt, spending, at_limit, emptied, Refusal, Placement, Shape, Recovery, Region, OddRegion, refused_by}
-use Rattle.outcomes.specs.declared.End.{End}
-use Rattle.outcomes.specs.Ends.{end_of, spent}
+use Rattle.outcomes.specs.declared.Kind.{Kind}
+use Rattle.outcomes.specs.Ends.{kind_of, spent}
 use Rattle.settling.specs.declared.standing.Tally.{Tally}
 use Rattle.settling.specs.Standings.{tally_refused}
 
@@ -39,14 +39,14 @@ pub tried_counts : (t : Tally) (a b n k f : ℕ) → b ≡ a → tally t.front_e
 unfolding tally ◌⊞◌ spending
 tried_counts t a b n k f e = same_counts _ _ (omega arith) (omega arith) (omega arith) (omega arith) (omega arith) (omega arith) (omega arith) (omega arith) (omega arith) (omega arith)
 
-refusal_counts : (t : Tally) (a : ℕ) (why : Refusal) → counts_by (tally_refused (end_of why) t) a ≡ counts_by t a ⊞ refused_by why
-unfolding tally ◌⊞◌ refused_by end_of
+refusal_counts : (t : Tally) (a : ℕ) (why : Refusal) → counts_by (tally_refused (kind_of why) t) a ≡ counts_by t a ⊞ refused_by why
+unfolding tally ◌⊞◌ refused_by
 refusal_counts t a Placement = same_counts _ _ (omega arith) (omega arith) (omega arith) (omega arith) (omega arith) (omega arith) (omega arith) (omega arith) (omega arith) (omega arith)
 refusal_counts t a Shape = same_counts _ _ (omega arith) (omega arith) (omega arith) (omega arith) (omega arith) (omega arith) (omega arith) (omega arith) (omega arith) (omega arith)
 refusal_counts t a Recovery = same_counts _ _ (omega arith) (omega arith) (omega arith) (omega arith) (omega arith) (omega arith) (omega arith) (omega arith) (omega arith) (omega arith)
 refusal_counts t a Region = same_counts _ _ (omega arith) (omega arith) (omega arith) (omega arith) (omega arith) (omega arith) (omega arith) (omega arith) (omega arith) (omega arith)
 refusal_counts t a OddRegion = same_counts _ _ (omega arith) (omega arith) (omega arith) (omega arith) (omega arith) (omega arith) (omega arith) (omega arith) (omega arith) (omega arith)
 
--- a refusal under the name of the end
-pub refused_counts : (t t' : Tally) (a : ℕ) (end : End) (why : Refusal) → t' ≡ tally_refused end t → end ≡ end_of why → counts_by t' a ≡ counts_by t a ⊞ refused_by why
-refused_counts t t' a end why e f = ap (λ (z : Tally). counts_by z a) (e ∙ ap (λ (z : End). tally_refused z t) f) ∙ refusal_counts t a why
+-- a refusal under the kind
+pub refused_counts : (t t' : Tally) (a : ℕ) (kind : Kind) (why : Refusal) → t' ≡ tally_refused kind t → kind ≡ kind_of why → counts_by t' a ≡ counts_by t a ⊞ refused_by why
+refused_counts t t' a kind why e f = ap (λ (z : Tally). counts_by z a) (e ∙ ap (λ (z : Kind). tally_refused z t) f) ∙ refusal_counts t a why

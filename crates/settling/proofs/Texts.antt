@@ -11,23 +11,23 @@ use Rattle.definition.specs.Call.{onto, quad_words}
 use Rattle.laws.specs.Lists.{flat_map_append}
 use Rattle.laws.specs.Slices.{quads_length, put_middle}
 use Rattle.outcomes.specs.Ends.{quad_of}
-use Rattle.outcomes.specs.declared.Tried.{Tried}
+use Rattle.outcomes.specs.declared.Placed.{Placed}
 use Rattle.settling.specs.Settles.{eight, next_quad}
 
 -- eight stores
-pub written : (l : List ℕ) (t : Tried) (u v round : ℕ) → 8 ≤ length l
+pub written : (l : List ℕ) (t : Placed) (u v round : ℕ) → 8 ≤ length l
     → set (set (set (set (set (set (set (set l 0 t.n0) 1 t.n1) 2 t.n2) 3 t.n3) 4 u) 5 v) 6 round) 7 t.replaced ≡ eight t u v round ++ drop 8 l
 written l t u v round h = sets-eq (eight t u v round) l 0 (omega arith)
 
 -- the quad that the attempt placed, as eight numbers
-words_of : (t : Tried) (u v n round : ℕ) → key t.n0 t.n1 ≡ (u, v) → round ≡ n → quad_words (quad_of n t) ≡ eight t u v round
+words_of : (t : Placed) (u v n round : ℕ) → key t.n0 t.n1 ≡ (u, v) → round ≡ n → quad_words (quad_of n t) ≡ eight t u v round
 unfolding quad_words born new_quad
 words_of t u v n round e f =
     ap (λ (z : Edge). t.n0 ∷ t.n1 ∷ t.n2 ∷ t.n3 ∷ z.0 ∷ z.1 ∷ n ∷ t.replaced ∷ []) e
     ∙ ap (λ (z : ℕ). t.n0 ∷ t.n1 ∷ t.n2 ∷ t.n3 ∷ u ∷ v ∷ z ∷ t.replaced ∷ []) (sym f)
 
 -- the quad's numbers behind those of the quads
-pub put_text : (qs : List Quad) (old xs ys : List ℕ) (at : ℕ) (t : Tried) (u v round : ℕ) → key t.n0 t.n1 ≡ (u, v) → round ≡ suc (length qs)
+pub put_text : (qs : List Quad) (old xs ys : List ℕ) (at : ℕ) (t : Placed) (u v round : ℕ) → key t.n0 t.n1 ≡ (u, v) → round ≡ suc (length qs)
     → xs ≡ onto (flat_map quad_words qs) old → at ≡ 8 * length qs → at + 8 ≤ length xs
     → ys ≡ eight t u v round ++ drop 8 (mid_of at (length xs - at) xs)
     → put_mid at (length xs - at) xs ys ≡ onto (flat_map quad_words (qs ++ next_quad qs t ∷ [])) old

@@ -5,8 +5,8 @@ use Rattle.definition.specs.Counts.{Counts, ◌⊞◌, one_attempt, spending}
 use Rattle.cells.specs.Counting.{Attempted}
 use Rattle.outcomes.specs.Ends.{spent}
 use Rattle.cells.specs.declared.counters.Counters.{Counters}
-use Rattle.outcomes.specs.declared.End.{End}
-use Rattle.outcomes.specs.declared.End.TheVariants as ends
+use Rattle.outcomes.specs.declared.Kind.{Kind}
+use Rattle.outcomes.specs.declared.Kind.TheVariants as kinds
 use Rattle.settling.specs.declared.standing.Tally.{Tally}
 use Rattle.settling.specs.declared.standing.Standing.{Standing}
 use Rattle.settling.specs.declared.standing.Going.{Going}
@@ -28,26 +28,12 @@ counts_of g =
       trials = g.tally.trials;
     }
 
--- 0: a quad was placed; 1: refused; 2: no point is left; 3: too few slots are; 4: too little of the trace is
-abbrev pub sort_of : End → ℕ
-sort_of ends.Placed = 0
-sort_of ends.Placement = 1
-sort_of ends.Shape = 1
-sort_of ends.Recovery = 1
-sort_of ends.Region = 1
-sort_of ends.OddRegion = 1
-sort_of ends.NoPoint = 2
-sort_of ends.NoSlots = 3
-sort_of ends.NoTrace = 4
-
 -- the step ended without a quad, and the run goes on
 abbrev pub is_stuck : Going → Bool
 is_stuck goings.Stuck = true
 is_stuck goings.Progressed = false
 is_stuck goings.Limited = false
-is_stuck goings.NoPoint = false
-is_stuck goings.NoSlots = false
-is_stuck goings.NoTrace = false
+is_stuck (goings.Short short) = false
 
 -- every count is far from its type's end
 pub record FewTally (t : Tally) : Type 0 where
@@ -65,17 +51,13 @@ pub record FewTally (t : Tally) : Type 0 where
 abbrev pub FewCounts : Standing → Type 0
 FewCounts g = FewTally g.tally
 
--- one more refusal of the kind of the end
-abbrev pub tally_refused : End → Tally → Tally
-tally_refused ends.Placed t = t
-tally_refused ends.Placement t = record { front_empty = t.front_empty; placement = t.placement + 1; invalid_quad = t.invalid_quad; recovery = t.recovery; region = t.region; odd_region = t.odd_region; mismatch_insertions = t.mismatch_insertions; limit = t.limit; trials = t.trials }
-tally_refused ends.Shape t = record { front_empty = t.front_empty; placement = t.placement; invalid_quad = t.invalid_quad + 1; recovery = t.recovery; region = t.region; odd_region = t.odd_region; mismatch_insertions = t.mismatch_insertions; limit = t.limit; trials = t.trials }
-tally_refused ends.Recovery t = record { front_empty = t.front_empty; placement = t.placement; invalid_quad = t.invalid_quad; recovery = t.recovery + 1; region = t.region; odd_region = t.odd_region; mismatch_insertions = t.mismatch_insertions; limit = t.limit; trials = t.trials }
-tally_refused ends.Region t = record { front_empty = t.front_empty; placement = t.placement; invalid_quad = t.invalid_quad; recovery = t.recovery; region = t.region + 1; odd_region = t.odd_region; mismatch_insertions = t.mismatch_insertions; limit = t.limit; trials = t.trials }
-tally_refused ends.OddRegion t = record { front_empty = t.front_empty; placement = t.placement; invalid_quad = t.invalid_quad; recovery = t.recovery; region = t.region; odd_region = t.odd_region + 1; mismatch_insertions = t.mismatch_insertions; limit = t.limit; trials = t.trials }
-tally_refused ends.NoPoint t = t
-tally_refused ends.NoSlots t = t
-tally_refused ends.NoTrace t = t
+-- one more refusal of the kind
+abbrev pub tally_refused : Kind → Tally → Tally
+tally_refused kinds.Placement t = record { front_empty = t.front_empty; placement = t.placement + 1; invalid_quad = t.invalid_quad; recovery = t.recovery; region = t.region; odd_region = t.odd_region; mismatch_insertions = t.mismatch_insertions; limit = t.limit; trials = t.trials }
+tally_refused kinds.InvalidQuad t = record { front_empty = t.front_empty; placement = t.placement; invalid_quad = t.invalid_quad + 1; recovery = t.recovery; region = t.region; odd_region = t.odd_region; mismatch_insertions = t.mismatch_insertions; limit = t.limit; trials = t.trials }
+tally_refused kinds.Recovery t = record { front_empty = t.front_empty; placement = t.placement; invalid_quad = t.invalid_quad; recovery = t.recovery + 1; region = t.region; odd_region = t.odd_region; mismatch_insertions = t.mismatch_insertions; limit = t.limit; trials = t.trials }
+tally_refused kinds.Region t = record { front_empty = t.front_empty; placement = t.placement; invalid_quad = t.invalid_quad; recovery = t.recovery; region = t.region + 1; odd_region = t.odd_region; mismatch_insertions = t.mismatch_insertions; limit = t.limit; trials = t.trials }
+tally_refused kinds.OddRegion t = record { front_empty = t.front_empty; placement = t.placement; invalid_quad = t.invalid_quad; recovery = t.recovery; region = t.region; odd_region = t.odd_region + 1; mismatch_insertions = t.mismatch_insertions; limit = t.limit; trials = t.trials }
 
 -- an attempt more is counted
 pub record CountedOne (g r : Standing) : Type 0 where

@@ -12,8 +12,8 @@ use Rattle.definition.specs.Call.{quad_at, first_quads, onto}
 use Rattle.definition.specs.Account.{measures}
 use Rattle.definition.specs.Sheet.{Listed, place, places, counted, counts, values, worse, worst, worst_jacobian, worst_cosine, line, listed_points, listed_quads, all_metrics, sheet}
 use Rattle.laws.specs.Lists.{filter_append, flat_map_append, numbers_length, numbers_snoc, table_length}
-use Rattle.sheet_steps.specs.declared.Worst.{Worst}
-use Rattle.sheet_steps.specs.declared.Worst.TheVariants.{Absent}
+use Rattle.std.specs.Prelude as code
+use Rattle.definition.specs.Sheet.{Value}
 use Rattle.sheet_steps.specs.Counting.{counting, counting_none, place_small, counts_at, counts_length, counts_few}
 use Rattle.sheet_steps.specs.Values.{worst_in}
 use Rattle.sheet.specs.Promise.{listed, Fills}
@@ -109,7 +109,7 @@ onto_more xs ys old h =
 -- ---- the invariant
 
 -- the sheet of the first i quads
-pub record Filling (l : Listed) (i : ℕ) (cs : List ℕ) (a b : Worst) (now : List Float) : Type 0 where
+pub record Filling (l : Listed) (i : ℕ) (cs : List ℕ) (a b : code.Option Value) (now : List Float) : Type 0 where
   pub upto : i ≤ l.count
   pub counts : cs ≡ counts (rows_to l i)
   pub jacobian : worst_in a ≡ worst_jacobian (rows_to l i)
@@ -117,11 +117,11 @@ pub record Filling (l : Listed) (i : ℕ) (cs : List ℕ) (a b : Worst) (now : L
   pub lines : now ≡ onto (flat_map line (rows_to l i)) l.out
 
 module _ (l : Listed) where
-  pub filling_none : Filling l 0 (replicate 11 0) Absent Absent l.out
+  pub filling_none : Filling l 0 (replicate 11 0) code.None code.None l.out
   unfolding all_metrics listed_quads first_quads below numbers table counts counted places filter worst_in worst_jacobian worst_cosine worst values onto flat_map
   filling_none = record { upto = omega arith; counts = refl; jacobian = refl; cosine = refl; lines = refl }
 
-  module _ (i : ℕ) (cs : List ℕ) (a b : Worst) (now : List Float) (f : Filling l i cs a b now) where
+  module _ (i : ℕ) (cs : List ℕ) (a b : code.Option Value) (now : List Float) (f : Filling l i cs a b now) where
     -- a count stays small
     pub filling_few : (j : ℕ) → j < 11 → get_or cs j 0 ≤ i
     filling_few j h = rw f.counts (omega (arith, counts_few (rows_to l i) j h, rows_length l i))
@@ -129,13 +129,12 @@ module _ (l : Listed) where
     pub filling_length : length cs ≡ 11
     filling_length = ap length f.counts ∙ counts_length (rows_to l i)
 
-    pub filling_end : l.count ≤ i → Fills l (record { refusal = 0; counts = cs; jacobian = a; cosine = b }) now
+    pub filling_end : l.count ≤ i → Fills l (record { counts = cs; jacobian = a; cosine = b }) now
     unfolding sheet
     filling_end h =
         let e : i ≡ l.count = omega (arith, f.upto) in
         let r : rows_to l i ≡ all_metrics l = ap (rows_to l) e in
         record {
-          number = refl;
           sheet = rw (f.counts, f.jacobian, f.cosine, r);
           out = f.lines ∙ ap (λ z. onto (flat_map line z) l.out) r;
         }
@@ -152,7 +151,7 @@ module _ (l : Listed) where
         snoc : rows_to l (i + 1) ≡ ms ++ m ∷ []
         snoc = rows_snoc l i ∙ ap (λ z. ms ++ z ∷ []) (sym m_is)
 
-        pub filling_more : (cs' : List ℕ) (a' b' : Worst) (now' : List Float)
+        pub filling_more : (cs' : List ℕ) (a' b' : code.Option Value) (now' : List Float)
             → cs' ≡ set cs (place m) (get_or cs (place m) 0 + 1)
             → worst_in a' ≡ foldl (worse (λ x y. x ≺ y)) (worst_in a) (values (λ sj k. sj) i (m ∷ []))
             → worst_in b' ≡ foldl (worse (λ x y. y ≺ x)) (worst_in b) (values (λ sj k. k) i (m ∷ []))

@@ -1,5 +1,5 @@
 -- The code's arguments and answers in the definition's words, and what its functions promise.
-use Rattle.std.specs.Prelude.{◌≡◌, ◌+◌, ◌*◌, ◌<◌, ◌≤◌}
+use Rattle.std.specs.Prelude.{Result, Ok, Err, ◌≡◌, ◌+◌, ◌*◌, ◌<◌, ◌≤◌}
 use Rattle.laws.specs.Kit.{ℕ, List, length, get_or, Float}
 use Rattle.std.proofs.lemmas.List.Edits.{sets}
 use Rattle.definition.specs.Lists.{flat_map}
@@ -7,6 +7,8 @@ use Rattle.definition.specs.Metrics.{Metrics}
 use Rattle.definition.specs.Call.{onto}
 use Rattle.definition.specs.Sheet as defined
 use Rattle.definition.specs.Sheet.{Listed, Returned, filed, refusal, sheet_of, sheet, line, all_metrics}
+use Rattle.refusals.specs.declared.named.Refusal.{Refusal}
+use Rattle.refusals.specs.Numbers.{number}
 use Rattle.sheet_steps.specs.Values.{worst_in}
 use Rattle.sheet.specs.declared.answers.Sheet.{Sheet}
 
@@ -23,10 +25,14 @@ unfoldable pub number_of : defined.Answer → ℕ
 number_of (filed s) = 0
 number_of (refusal k) = k
 
+-- the code's answer in the definition's words
+abbrev pub answer_in : Result Sheet Refusal → defined.Answer
+answer_in (Ok r) = filed (sheet_in r)
+answer_in (Err r) = refusal (number r)
+
 -- what the definition's call returned is what came back: r, and `out` as it is at exit
-pub record Returns (x : Returned) (r : Sheet) (exit : List Float) : Type 0 where
-  pub number : r.refusal ≡ number_of x.answer
-  pub sheet : sheet_in r ≡ sheet_of x.answer
+pub record Returns (x : Returned) (r : Result Sheet Refusal) (exit : List Float) : Type 0 where
+  pub answer : answer_in r ≡ x.answer
   pub out : exit ≡ x.out
 
 -- the four corners of quad i are below n
@@ -46,7 +52,6 @@ pub record Readable (l : Listed) : Type 0 where
 
 -- the sheet of what no test refuses
 pub record Fills (l : Listed) (r : Sheet) (exit : List Float) : Type 0 where
-  pub number : r.refusal ≡ 0
   pub sheet : sheet_in r ≡ sheet (all_metrics l)
   pub out : exit ≡ onto (flat_map line (all_metrics l)) l.out
 

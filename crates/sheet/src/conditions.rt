@@ -1,11 +1,12 @@
 // The refusals 1, 4, 5 and 7 of a list: they read it, and touch nothing.
 ghost use Rattle.std.specs.Prelude.{◌≡◌, ◌+◌, ◌*◌, ◌≤◌, ◌<◌, length};
 ghost use Rattle.definition.specs.Sheet.{refused};
+ghost use Rattle.refusals.specs.Numbers.{number_or_0};
 ghost use Rattle.refusals.specs.Refusals.{number_of};
 ghost use Rattle.sheet.specs.Promise.{listed};
 ghost use Rattle.sheet.specs.Refusals.{unknown_in, Unknown};
 
-use refusals::{far_point, standard};
+use refusals::{Refusal, far_point, standard};
 use words::wide;
 
 // Quads that a call may state.
@@ -32,45 +33,50 @@ fn unknown_in(quads: &[u32], given: usize, i: usize) -> bool
 }
 
 // 5: a corner of a quad is none of the points.
+// Kept (6): the C interface lends slices that may be longer than `count` quads.
 fn unknown_corner(quads: &[u32], given: usize, count: usize) -> bool
     requires { 8 * count ≤ length quads.now }
     ensures { Unknown given count quads.now result }
 {
-    let mut i = 0;
-    while i < count {
+    for i in 0..count {
         if unknown_in(quads, given, i) {
             return true;
         }
-        i += 1;
     }
     false
 }
 
-// The number of the first refusal whose condition holds; 0 where none does.
-pub fn refusal(points: &[f64], quads: &[u32], out: &[f64], given: usize, count: usize) -> usize
-    ensures { result ≡ number_of (refused (listed given count points.now quads.now out.now)) }
+// The first refusal whose condition holds.
+pub fn check(
+    points: &[f64],
+    quads: &[u32],
+    out: &[f64],
+    given: usize,
+    count: usize,
+) -> Result<(), Refusal>
+    ensures { number_or_0 result ≡ number_of (refused (listed given count points.now quads.now out.now)) }
 {
     if count > MOST_QUADS {
-        return 1;
+        return Err(Refusal::OverLimit);
     }
     if given > MOST_POINTS {
-        return 1;
+        return Err(Refusal::OverLimit);
     }
     if points.len() < 3 * given {
-        return 4;
+        return Err(Refusal::TooShort);
     }
     if quads.len() < 8 * count {
-        return 4;
+        return Err(Refusal::TooShort);
     }
     if out.len() < 2 * count {
-        return 4;
+        return Err(Refusal::TooShort);
     }
     if unknown_corner(quads, given, count) {
-        return 5;
+        return Err(Refusal::UnknownNode);
     }
     let a = standard(given, given, 0, 0, 0.0, 0);
     if far_point(points, a) {
-        return 7;
+        return Err(Refusal::FarPoint);
     }
-    0
+    Ok(())
 }

@@ -10,24 +10,22 @@ ghost use Rattle.definition.specs.Sheet.{call};
 ghost use Rattle.sheet.specs.Promise.{listed, Returns};
 
 use crate::answers::Sheet;
-use crate::conditions::refusal;
+use crate::conditions::check;
 use crate::rows::fill;
-use sheet_steps::Worst;
+use refusals::Refusal;
 
 // The sheet of the first `count` quads over the first `given` points.
-// Each quad's scaled Jacobian and largest cosine stand in `out` then.
+// Each quad's scaled Jacobian and largest cosine stand in `out` then; a refusal leaves it as it was.
 // No precondition: the definition's call says what comes back.
-pub fn sheet(points: &[f64], quads: &[u32], out: &mut [f64], given: usize, count: usize) -> Sheet
+pub fn sheet(
+    points: &[f64],
+    quads: &[u32],
+    out: &mut [f64],
+    given: usize,
+    count: usize,
+) -> Result<Sheet, Refusal>
     ensures { Returns (call (listed given count points.now quads.now out.old)) result out.new }
 {
-    let k = refusal(points, quads, out, given, count);
-    if k != 0 {
-        return Sheet {
-            refusal: k,
-            counts: [0; 11],
-            jacobian: Worst::Absent,
-            cosine: Worst::Absent,
-        };
-    }
-    fill(points, quads, out, given, count)
+    check(points, quads, out, given, count)?;
+    Ok(fill(points, quads, out, given, count))
 }

@@ -12,7 +12,7 @@ use sheet_steps::places::place;
 use sheet_steps::values::{worst_cosine, worst_jacobian};
 
 // The metrics of quad i.
-fn metrics_at(points: &[f64], quads: &[u32], given: usize, i: usize) -> Metrics
+fn metrics_at(points: &[f64], quads: &[u32], given: usize, i: usize) -> Option<Metrics>
     requires { (3 * given ≤ length points.now) × (8 * i + 3 < length quads.now) × Corners given quads.now i }
     ensures { metrics_of_enum result ≡ measures (first_points given points.now) (quad_at quads.now i) }
 {
@@ -35,16 +35,16 @@ fn put(out: &mut [f64], i: usize, sj: f64, k: f64)
 }
 
 // The metrics of a quad stand in line i, two zeros where it has none.
-fn put_line(out: &mut [f64], i: usize, m: Metrics)
+fn put_line(out: &mut [f64], i: usize, m: Option<Metrics>)
     requires { 2 * i + 1 < length out.old }
     ensures { Line (metrics_of_enum m) i out.old out.new }
 {
     match m {
-        Metrics::Absent => {
+        None => {
             put(out, i, 0.0, 0.0);
         }
-        Metrics::Measured(sj, k) => {
-            put(out, i, sj, k);
+        Some(t) => {
+            put(out, i, t.jacobian, t.cosine);
         }
     }
 }
@@ -55,20 +55,17 @@ pub fn fill(points: &[f64], quads: &[u32], out: &mut [f64], given: usize, count:
     ensures { Fills (listed given count points.now quads.now out.old) result out.new }
 {
     let mut counts = [0; 11];
-    let mut jacobian = Worst::Absent;
-    let mut cosine = Worst::Absent;
-    let mut i = 0;
-    while i < count {
+    let mut jacobian: Worst = None;
+    let mut cosine: Worst = None;
+    for i in 0..count {
         let m = metrics_at(points, quads, given, i);
         put_line(out, i, m);
         let at = place(m);
         counts[at] += 1;
         jacobian = worst_jacobian(jacobian, i, m);
         cosine = worst_cosine(cosine, i, m);
-        i += 1;
     }
     Sheet {
-        refusal: 0,
         counts,
         jacobian,
         cosine,

@@ -1,13 +1,12 @@
 -- The worst so far in the definition's words, and the quad that has it.
+use Rattle.std.specs.Prelude as code
 use Rattle.laws.specs.Kit.{Option, none, some, ℕ}
 use Rattle.definition.specs.Sheet.{Value}
-use Rattle.sheet_steps.specs.declared.Worst.{Worst}
-use Rattle.sheet_steps.specs.declared.Worst.TheVariants.{Absent, At}
 
 -- the worst as the code has it
-unfoldable pub worst_in : Worst → Option Value
-worst_in Absent = none
-worst_in (At i x) = some (i, x)
+unfoldable pub worst_in : code.Option Value → Option Value
+worst_in code.None = none
+worst_in (code.Some v) = some v
 
 -- the quad that has the worst, and n where there is none
 unfoldable pub quad_of : ℕ → Option Value → ℕ

@@ -4,9 +4,5 @@
 pub mod places;
 pub mod values;
 
-// The worst value and the first quad that has it, or none.
-#[derive(Clone, Copy)]
-pub enum Worst {
-    Absent,
-    At(usize, f64),
-}
+// The first quad that has the worst value, and that value; `None` where no quad has a value.
+pub type Worst = Option<(usize, f64)>;

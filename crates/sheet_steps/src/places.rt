@@ -36,11 +36,11 @@ fn step(sj: f64) -> usize
 }
 
 // The place of a quad with these metrics.
-pub fn place(m: Metrics) -> usize
+pub fn place(m: Option<Metrics>) -> usize
     ensures { (result ≡ place (metrics_of_enum m)) × (result ≤ 10) }
 {
     match m {
-        Metrics::Absent => NO_METRICS,
-        Metrics::Measured(sj, _) => step(sj),
+        None => NO_METRICS,
+        Some(t) => step(t.jacobian),
     }
 }

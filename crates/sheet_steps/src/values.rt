@@ -1,5 +1,5 @@
 // The worst so far, and one quad more.
-ghost use Rattle.std.specs.Prelude.{◌≡◌};
+ghost use Rattle.std.specs.Prelude.{◌≡◌, Bool, Float};
 ghost use mathlib.Core.List.{[], ◌∷◌, foldl};
 ghost use Rattle.definition.specs.Floats.{◌≺◌};
 ghost use Rattle.definition.specs.Sheet.{values, worse};
@@ -9,62 +9,50 @@ ghost use Rattle.sheet_steps.specs.Values.{worst_in, quad_of};
 use crate::Worst;
 use plane::metrics::Metrics;
 
-// The lesser of two values, and the earlier one where they are equal.
-fn lesser(w: Worst, i: usize, x: f64) -> Worst
-    ensures { worst_in result ≡ worse (λ x y. x ≺ y) (worst_in w) (i, x) }
+// The worse of two values by a test, and the earlier one where it holds of neither.
+fn worse<F: FnOnce(f64, f64) -> bool>(w: Worst, i: usize, x: f64, than: F) -> Worst
+    requires { F.IsAlwaysCallable than }
+    ensures { (r : Float → Float → Bool) → ((a b : Float) (t : Bool) → F.post than a b t → t ≡ r a b) → worst_in result ≡ worse r (worst_in w) (i, x) }
 {
     match w {
-        Worst::Absent => Worst::At(i, x),
-        Worst::At(j, y) => {
-            if x < y {
-                return Worst::At(i, x);
+        Some((_, y)) => {
+            if than(x, y) {
+                return Some((i, x));
             }
-            Worst::At(j, y)
+            w
         }
-    }
-}
-
-// The larger of two values, and the earlier one where they are equal.
-fn larger(w: Worst, i: usize, x: f64) -> Worst
-    ensures { worst_in result ≡ worse (λ x y. y ≺ x) (worst_in w) (i, x) }
-{
-    match w {
-        Worst::Absent => Worst::At(i, x),
-        Worst::At(j, y) => {
-            if x > y {
-                return Worst::At(i, x);
-            }
-            Worst::At(j, y)
-        }
+        None => Some((i, x)),
     }
 }
 
 // The least scaled Jacobian after quad i.
-pub fn worst_jacobian(least: Worst, i: usize, m: Metrics) -> Worst
+pub fn worst_jacobian(least: Worst, i: usize, m: Option<Metrics>) -> Worst
     ensures { worst_in result ≡ foldl (worse (λ x y. x ≺ y)) (worst_in least) (values (λ sj k. sj) i (metrics_of_enum m ∷ [])) }
 {
     match m {
-        Metrics::Absent => least,
-        Metrics::Measured(sj, _) => lesser(least, i, sj),
+        None => least,
+        Some(t) => worse(least, i, t.jacobian, |x, y| x < y),
     }
 }
 
 // The largest cosine after quad i.
-pub fn worst_cosine(largest: Worst, i: usize, m: Metrics) -> Worst
+pub fn worst_cosine(largest: Worst, i: usize, m: Option<Metrics>) -> Worst
     ensures { worst_in result ≡ foldl (worse (λ x y. y ≺ x)) (worst_in largest) (values (λ sj k. k) i (metrics_of_enum m ∷ [])) }
 {
     match m {
-        Metrics::Absent => largest,
-        Metrics::Measured(_, k) => larger(largest, i, k),
+        None => largest,
+        Some(t) => worse(largest, i, t.cosine, |x, y| x > y),
     }
 }
 
 // The quad that has the worst, or another number where there is none.
+// Kept (1): the C interface has one number for a quad or none; within Rattle the worst is an Option.
+// Kept (4): `map_or` with a closure for two arms is no plainer.
 pub fn quad_of(w: Worst, none: usize) -> usize
     ensures { result ≡ quad_of none (worst_in w) }
 {
     match w {
-        Worst::Absent => none,
-        Worst::At(i, _) => i,
+        None => none,
+        Some((i, _)) => i,
     }
 }

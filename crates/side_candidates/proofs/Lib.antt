@@ -5,4 +5,3 @@ pub mod Aheads
 pub mod Monotone
 pub mod Boxing
 pub mod Skipping
-pub mod Putting

@@ -6,8 +6,9 @@ use Prim.Native.Nat.{ℕ, zero, suc, ◌+◌, ◌*◌, ◌≤◌, ◌<◌}
 use native.Mathlib.Nat.{mul-le-mul_right}
 use native.Mathlib.Decide.{dec_lt}
 use native.Mathlib.Omega.{arith}
-use lib.ListN.{length, get_or}
-use lib.Ieee.{Float}
+use lib.ListN.{length, get_or, set}
+use lib.Seq.{get_or-set_same, get_or-set_other}
+use lib.Ieee.{Float, nan}
 use Rattle.definition.specs.Cells.{Cell, tri, quad, Tri, Live, Mesh, new_live, node_at}
 use Rattle.laws.specs.Lists.{Stored}
 use Rattle.rings.specs.Rings.{Distinct}
@@ -18,7 +19,7 @@ use Rattle.plane.specs.Points.{node_of}
 use Rattle.cells.proofs.Slots.{out_has}
 use Rattle.live_regions.specs.Walls.{wall_mark}
 use Rattle.side_candidates.specs.Hand.{InHand, Ends}
-use Rattle.side_candidates.specs.Blocks.{slot_at, frame_at, FramedFrom, BoxedTo, PutTo, Scan, Boxed, Boxes, Leads, Beside, Passing, open_cell, Through, Framed}
+use Rattle.side_candidates.specs.Blocks.{slot_at, frame_at, FramedFrom, BoxedTo, Scan, Boxed, Boxes, Leads, Beside, Passing, open_cell, Through, Framed}
 use Rattle.side_candidates.specs.declared.blocks.Frame.{Frame}
 use Rattle.side_candidates.specs.declared.blocks.Line.{Line}
 use Rattle.side_candidates.proofs.Scans.{Spot, scan_start, scan_here, passing_more, passing_end, spot_open, spot_walls}
@@ -88,16 +89,22 @@ framed_more m b r region j i k f h u l e t =
       | no z ↦ let o : i ≡ u = omega arith in subst (λ (v : ℕ). (x : TriIn m (slot_at region v)) → Framed m r x.t) o f t
     ]
 
-module _ (h h' : List Float) (size : ℕ) (m : Mesh) (g : List Live) (j k n : ℕ) (e : k ≡ j * size) (c : n ≡ length g) where
+abbrev nothing : Frame
+nothing = record { x0 = nan; x1 = nan; y0 = nan; y1 = nan }
+
+module _ (h h' : List Frame) (size : ℕ) (m : Mesh) (g : List Live) (j k n : ℕ) (e : k ≡ j * size) (c : n ≡ length g) where
   -- one block more
-  pub boxed_more : (b : Frame) → PutTo h h' j b → ((u : ℕ) → u ≤ k + size → u ≤ n → FramedFrom m b g k u) → BoxedTo h size m g j → BoxedTo h' size m g (j + 1)
-  boxed_more b o f d i l r v x y z t =
+  pub boxed_more : (b : Frame) → j < length h → h' ≡ set h j b → ((u : ℕ) → u ≤ k + size → u ≤ n → FramedFrom m b g k u) → BoxedTo h size m g j → BoxedTo h' size m g (j + 1)
+  boxed_more b o s f d i l r v x y z t =
       elim (dec_lt i j) [
-        | yes q ↦ subst (λ (a : Frame). Framed m a t.t) (sym (o.others i q)) (d i q (omega (arith, o.len)) v x y z t)
+        | yes q ↦
+            let a : get_or h' i nothing ≡ get_or h i nothing = ap (λ (l : List Frame). get_or l i nothing) s ∙ get_or-set_other h j i b nothing (λ z. omega arith) in
+            subst (λ (a : Frame). Framed m a t.t) (sym a) (d i q (omega arith) v x y z t)
         | no q ↦
-            let s : i ≡ j = omega arith in
-            let p : i * size ≡ j * size = ap (λ (a : ℕ). a * size) s in
-            subst (λ (a : Frame). Framed m a t.t) (sym (ap (frame_at h') s ∙ o.here)) (f (v + 1) (omega arith) (omega arith) v (omega arith) (omega arith) t)
+            let u : i ≡ j = omega arith in
+            let p : i * size ≡ j * size = ap (λ (a : ℕ). a * size) u in
+            let a : get_or h' j nothing ≡ b = ap (λ (l : List Frame). get_or l j nothing) s ∙ get_or-set_same h j b nothing o in
+            subst (λ (a : Frame). Framed m a t.t) (sym (ap (frame_at h') u ∙ a)) (f (v + 1) (omega arith) (omega arith) v (omega arith) (omega arith) t)
       ]
 
   -- no more cells
@@ -109,7 +116,7 @@ module _ (h h' : List Float) (size : ℕ) (m : Mesh) (g : List Live) (j k n : �
       ]
 
   -- no more room
-  pub boxed_full : length h < 4 * j + 4 → BoxedTo h size m g j → Boxed h size m g
+  pub boxed_full : length h ≤ j → BoxedTo h size m g j → Boxed h size m g
   boxed_full l d i r v x y z t =
       elim (dec_lt i j) [
         | yes q ↦ d i q r v x y z t
@@ -118,8 +125,8 @@ module _ (h h' : List Float) (size : ℕ) (m : Mesh) (g : List Live) (j k n : �
 
 -- ---- cells passed over
 
-module _ (w : List ℕ) (q : List Float) (s p n : ℕ) (h : List Float) (size j : ℕ) (o : Line) (m : Mesh) (region : List Live) (a b : ℕ) (total : Bool) (y : InHand w q s p n m region) (x : Boxes h size n m region)
-    (e : Leads (node_at m a) (node_at m b) o) (r : 4 * j + 3 < length h) (z : Beside (frame_at h j) o) where
+module _ (w : List ℕ) (q : List Float) (s p n : ℕ) (h : List Frame) (size j : ℕ) (o : Line) (m : Mesh) (region : List Live) (a b : ℕ) (total : Bool) (y : InHand w q s p n m region) (x : Boxes h size n m region)
+    (e : Leads (node_at m a) (node_at m b) o) (r : j < length h) (z : Beside (frame_at h j) o) where
   -- one cell more
   skip_one : (k : ℕ) → j * size ≤ k → k < j * size + size → k < n → Passing w s p n k m (open_cell m a b) total → Passing w s p n (k + 1) m (open_cell m a b) total
   skip_one k f t l g =

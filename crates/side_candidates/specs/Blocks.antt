@@ -75,36 +75,30 @@ FramedFrom m b region j k = (i : ℕ) → j ≤ i → i < k → (t : TriIn m (sl
 
 -- ---- the lent boxes
 
--- box j of the lent ones, four numbers a box
-abbrev pub frame_at : List Float → ℕ → Frame
-frame_at h j = record { x0 = get_or h (4 * j) nan; x1 = get_or h (4 * j + 1) nan; y0 = get_or h (4 * j + 2) nan; y1 = get_or h (4 * j + 3) nan }
+-- box j of the lent ones; boxes beyond them do not occur
+abbrev pub frame_at : List Frame → ℕ → Frame
+frame_at h j = get_or h j (record { x0 = nan; x1 = nan; y0 = nan; y1 = nan })
 
 -- block i of so many cells has its walls in box i
-abbrev pub BlockIn : List Float → ℕ → Mesh → List Live → ℕ → Type 0
-BlockIn h size m region i = 4 * i + 3 < length h → (k : ℕ) → i * size ≤ k → k < i * size + size → k < length region → (t : TriIn m (slot_at region k)) → Framed m (frame_at h i) t.t
+abbrev pub BlockIn : List Frame → ℕ → Mesh → List Live → ℕ → Type 0
+BlockIn h size m region i = i < length h → (k : ℕ) → i * size ≤ k → k < i * size + size → k < length region → (t : TriIn m (slot_at region k)) → Framed m (frame_at h i) t.t
 
 -- so for each block
-abbrev pub Boxed : List Float → ℕ → Mesh → List Live → Type 0
+abbrev pub Boxed : List Frame → ℕ → Mesh → List Live → Type 0
 Boxed h size m region = (i : ℕ) → BlockIn h size m region i
 
 -- so for each before block j
-abbrev pub BoxedTo : List Float → ℕ → Mesh → List Live → ℕ → Type 0
+abbrev pub BoxedTo : List Frame → ℕ → Mesh → List Live → ℕ → Type 0
 BoxedTo h size m region j = (i : ℕ) → i < j → BlockIn h size m region i
 
--- box j is b now, and no other changed
-pub record PutTo (h h' : List Float) (j : ℕ) (b : Frame) : Type 0 where
-  pub len : length h' ≡ length h
-  pub here : frame_at h' j ≡ b
-  pub others : (i : ℕ) → i < j → frame_at h' i ≡ frame_at h i
-
 -- the region is in blocks of so many cells with a box each
-pub record Boxes (h : List Float) (size n : ℕ) (m : Mesh) (region : List Live) : Type 0 where
+pub record Boxes (h : List Frame) (size n : ℕ) (m : Mesh) (region : List Live) : Type 0 where
   pub some : 0 < size
   pub few : size ≤ n + 1
   pub boxed : Boxed h size m region
 
 -- and so the one in hand
-pub record Fence (w : List ℕ) (q : List Float) (s p n : ℕ) (h : List Float) (size : ℕ) (m : Mesh) (region : List Live) : Type 0 where
+pub record Fence (w : List ℕ) (q : List Float) (s p n : ℕ) (h : List Frame) (size : ℕ) (m : Mesh) (region : List Live) : Type 0 where
   pub hand : InHand w q s p n m region
   pub boxes : Boxes h size n m region
 
@@ -175,7 +169,7 @@ pub record CanPass (w : List ℕ) (q : List Float) (s p n k : ℕ) (m : Mesh) (r
   pub from : Passing w s p n k m (open_cell m a b) (segment_inside m a b (walls m region))
 
 -- the cells from place k on, the block with number j, may be gone through
-pub record CanSkip (w : List ℕ) (q : List Float) (s p n k : ℕ) (h : List Float) (size j : ℕ) (o : Line) (m : Mesh) (region : List Live) (a b : ℕ) : Type 0 where
+pub record CanSkip (w : List ℕ) (q : List Float) (s p n k : ℕ) (h : List Frame) (size j : ℕ) (o : Line) (m : Mesh) (region : List Live) (a b : ℕ) : Type 0 where
   pub boxes : Boxes h size n m region
   pub pass : CanPass w q s p n k m region a b
   pub leads : Leads (node_at m a) (node_at m b) o

@@ -6,10 +6,10 @@ ghost use Rattle.plane.specs.Points.{Within};
 ghost use Rattle.cells.specs.Rep.{Rep, Pts, TriIn};
 ghost use Rattle.live_regions.specs.Walls.{wall_mark};
 ghost use Rattle.side_candidates.specs.Hand.{InHand};
-ghost use Rattle.side_candidates.specs.Blocks.{Low, High, Bounded, Holds, WithinToo, Sided, FramedTo, FramedFrom, frame_at, Boxed, PutTo, Leads, Ordered, Beside};
+ghost use Rattle.side_candidates.specs.Blocks.{Low, High, Bounded, Holds, WithinToo, Sided, FramedTo, FramedFrom, Boxed, Leads, Ordered, Beside};
 
 use cells::find::node;
-use cells::layout::{list_at, marks_at};
+use cells::layout::Layout;
 use plane::points::at;
 use words::wide;
 
@@ -20,6 +20,13 @@ pub struct Frame {
     pub x1: f64,
     pub y0: f64,
     pub y1: f64,
+}
+
+// Boxes of blocks of the triangles in hand, so many triangles a block, from the first block on.
+#[derive(Clone, Copy)]
+pub struct Blocks<'a> {
+    pub boxes: &'a [Frame],
+    pub size: usize,
 }
 
 // The line through a node in a direction.
@@ -59,127 +66,114 @@ fn upper(b: f64, x: f64) -> f64
     0.0 / 0.0
 }
 
-// The box with the node v in it.
-fn widen(q: &[f64], b: Frame, v: usize) -> Frame
-    requires { Within q.now v }
-    ensures here { Holds result (point_at q.now v) }
-    ensures keeps { WithinToo b result }
-{
-    let t = at(q, v);
-    Frame {
-        x0: lower(b.x0, t.x),
-        x1: upper(b.x1, t.x),
-        y0: lower(b.y0, t.y),
-        y1: upper(b.y1, t.y),
+impl Frame {
+    // The box with the node v in it.
+    fn with_node(self, q: &[f64], v: usize) -> Frame
+        requires { Within q.now v }
+        ensures here { Holds result (point_at q.now v) }
+        ensures keeps { WithinToo self result }
+    {
+        let t = at(q, v);
+        Frame {
+            x0: lower(self.x0, t.x),
+            x1: upper(self.x1, t.x),
+            y0: lower(self.y0, t.y),
+            y1: upper(self.y1, t.y),
+        }
     }
-}
 
-// The box with the nodes u and v in it, where `wall` says so.
-fn with_side(q: &[f64], b: Frame, u: usize, v: usize, wall: bool) -> Frame
-    requires { Within q.now u × Within q.now v }
-    ensures { Sided b (point_at q.now u) (point_at q.now v) wall result }
-{
-    if !wall {
-        return b;
+    // The box with the nodes u and v in it, where `wall` says so.
+    // Kept (7): the three edges of a triangle are told in one chain; a test around each call is three tests.
+    fn with_side(self, q: &[f64], u: usize, v: usize, wall: bool) -> Frame
+        requires { Within q.now u × Within q.now v }
+        ensures { Sided self (point_at q.now u) (point_at q.now v) wall result }
+    {
+        if !wall {
+            return self;
+        }
+        self.with_node(q, u).with_node(q, v)
     }
-    let c = widen(q, b, u);
-    widen(q, c, v)
 }
 
 // The box with the walls of the triangle in slot i in it, by its mark f.
-fn with_cell(w: &[u32], q: &[f64], s: usize, p: usize, b: Frame, i: usize, f: u32) -> Frame
-    requires rep { (m : Mesh) × Rep w.now s p m × Pts q.now p m × TriIn m i }
-    requires i_lt_s { i < s }
-    ensures { (m : Mesh) → Rep w.now s p m → Pts q.now p m → (t : TriIn m i) → f ≡ wall_mark m (new_live i (tri t.t)) → FramedTo m b result t.t }
+fn with_cell(w: &[u32], q: &[f64], lay: Layout, b: Frame, i: usize, f: u32) -> Frame
+    requires rep { (m : Mesh) × Rep w.now lay.slots lay.points m × Pts q.now lay.points m × TriIn m i }
+    requires i_lt_s { i < lay.slots }
+    ensures { (m : Mesh) → Rep w.now lay.slots lay.points m → Pts q.now lay.points m → (t : TriIn m i) → f ≡ wall_mark m (new_live i (tri t.t)) → FramedTo m b result t.t }
 {
-    let x = node(w, s, i, 0);
-    let y = node(w, s, i, 1);
-    let z = node(w, s, i, 2);
-    let one = with_side(q, b, x, y, f % 2 != 0);
-    let two = with_side(q, one, y, z, f / 2 % 2 != 0);
-    with_side(q, two, z, x, f / 4 % 2 != 0)
+    let x = node(w, lay.slots, i, 0);
+    let y = node(w, lay.slots, i, 1);
+    let z = node(w, lay.slots, i, 2);
+    b.with_side(q, x, y, f % 2 != 0)
+        .with_side(q, y, z, f / 2 % 2 != 0)
+        .with_side(q, z, x, f / 4 % 2 != 0)
 }
 
 // The box around the walls of the cells in hand at the places from j up to k.
-fn block_box(w: &[u32], q: &[f64], s: usize, p: usize, n: usize, j: usize, k: usize) -> Frame
-    requires in_hand { (m : Mesh) × (region : List Live) × InHand w.now q.now s p n m region }
+fn block_box(w: &[u32], q: &[f64], lay: Layout, n: usize, j: usize, k: usize) -> Frame
+    requires in_hand { (m : Mesh) × (region : List Live) × InHand w.now q.now lay.slots lay.points n m region }
     requires j_le_k { (j ≤ k) × (k ≤ n) }
-    ensures { (m : Mesh) (region : List Live) → InHand w.now q.now s p n m region → FramedFrom m result region j k }
+    ensures { (m : Mesh) (region : List Live) → InHand w.now q.now lay.slots lay.points n m region → FramedFrom m result region j k }
 {
-    let list = list_at(s, p);
-    let marks = marks_at(s, p);
+    let list = lay.list_at();
+    let marks = lay.marks_at();
     let mut b = Frame {
         x0: 1.0 / 0.0,
         x1: -1.0 / 0.0,
         y0: 1.0 / 0.0,
         y1: -1.0 / 0.0,
     };
-    let mut i = j;
-    while i < k {
+    for i in j..k {
         let c = wide(w[list + i]);
-        b = with_cell(w, q, s, p, b, c, w[marks + c]);
-        i += 1;
+        b = with_cell(w, q, lay, b, c, w[marks + c]);
     }
     b
 }
 
 // The box of the block of so many cells that begins at place k.
-fn box_from(w: &[u32], q: &[f64], s: usize, p: usize, n: usize, k: usize, size: usize) -> Frame
-    requires in_hand { (m : Mesh) × (region : List Live) × InHand w.now q.now s p n m region }
+fn box_from(w: &[u32], q: &[f64], lay: Layout, n: usize, k: usize, size: usize) -> Frame
+    requires in_hand { (m : Mesh) × (region : List Live) × InHand w.now q.now lay.slots lay.points n m region }
     requires k_lt_n { (k < n) × (size ≤ n + 1) }
-    ensures { (m : Mesh) (region : List Live) → InHand w.now q.now s p n m region → (e : ℕ) → e ≤ k + size → e ≤ n → FramedFrom m result region k e }
+    ensures { (m : Mesh) (region : List Live) → InHand w.now q.now lay.slots lay.points n m region → (e : ℕ) → e ≤ k + size → e ≤ n → FramedFrom m result region k e }
 {
     if n - k < size {
-        return block_box(w, q, s, p, n, k, n);
+        return block_box(w, q, lay, n, k, n);
     }
-    block_box(w, q, s, p, n, k, k + size)
-}
-
-// Box j becomes b.
-fn put_box(h: &mut [f64], j: usize, b: Frame)
-    requires { 4 * j + 3 < length h.old }
-    ensures { PutTo h.old h.new j b }
-{
-    h[4 * j] = b.x0;
-    h[4 * j + 1] = b.x1;
-    h[4 * j + 2] = b.y0;
-    h[4 * j + 3] = b.y1;
+    block_box(w, q, lay, n, k, k + size)
 }
 
 // The boxes of the blocks of so many cells in hand, as many as there is room for.
-pub fn box_walls(w: &[u32], q: &[f64], s: usize, p: usize, n: usize, size: usize, h: &mut [f64])
-    requires in_hand { (m : Mesh) × (region : List Live) × InHand w.now q.now s p n m region }
+pub fn box_walls(w: &[u32], q: &[f64], lay: Layout, n: usize, size: usize, h: &mut [Frame])
+    requires in_hand { (m : Mesh) × (region : List Live) × InHand w.now q.now lay.slots lay.points n m region }
     requires size_nonzero { (0 < size) × (size ≤ n + 1) }
-    ensures { (m : Mesh) (region : List Live) → InHand w.now q.now s p n m region → Boxed h.new size m region }
+    ensures { (m : Mesh) (region : List Live) → InHand w.now q.now lay.slots lay.points n m region → Boxed h.new size m region }
 {
-    let room = h.len() / 4;
     let mut k: usize = 0;
-    let mut j: usize = 0;
-    while j < room {
+    for b in h.iter_mut() {
         if k >= n {
             return;
         }
-        let b = box_from(w, q, s, p, n, k, size);
-        put_box(h, j, b);
+        *b = box_from(w, q, lay, n, k, size);
         k += size;
-        j += 1;
     }
 }
 
 // ---- a box beside a line
 
-// The line from the node a to the node b.
-pub fn line_of(q: &[f64], a: usize, b: usize) -> Line
-    requires { Within q.now a × Within q.now b }
-    ensures { Leads (point_at q.now a) (point_at q.now b) result }
-{
-    let s = at(q, a);
-    let t = at(q, b);
-    Line {
-        x: s.x,
-        y: s.y,
-        dx: t.x - s.x,
-        dy: t.y - s.y,
+impl Line {
+    // The line from the node a to the node b.
+    pub fn through(q: &[f64], a: usize, b: usize) -> Line
+        requires { Within q.now a × Within q.now b }
+        ensures { Leads (point_at q.now a) (point_at q.now b) result }
+    {
+        let s = at(q, a);
+        let t = at(q, b);
+        Line {
+            x: s.x,
+            y: s.y,
+            dx: t.x - s.x,
+            dy: t.y - s.y,
+        }
     }
 }
 
@@ -187,27 +181,18 @@ pub fn line_of(q: &[f64], a: usize, b: usize) -> Line
 fn leftward(l: f64, r: f64, d: f64, u: f64) -> bool
     ensures { result ≡ true → Ordered l r d u }
 {
-    if l <= d {
-        if r <= d {
-            if l <= u {
-                return r <= u;
-            }
-        }
-    }
-    false
+    l <= d && r <= d && l <= u && r <= u
 }
 
-// Box j lies on one side of the line, by the cross products of its corners.
-pub fn is_beside(h: &[f64], j: usize, o: Line) -> bool
-    requires { 4 * j + 3 < length h.now }
-    ensures { result ≡ true → Beside (frame_at h.now j) o }
-{
-    let l = o.dy * (h[4 * j] - o.x);
-    let r = o.dy * (h[4 * j + 1] - o.x);
-    let d = o.dx * (h[4 * j + 2] - o.y);
-    let u = o.dx * (h[4 * j + 3] - o.y);
-    if leftward(l, r, d, u) {
-        return true;
+impl Frame {
+    // The box lies on one side of the line, by the cross products of its corners.
+    pub fn is_beside(self, o: Line) -> bool
+        ensures { result ≡ true → Beside self o }
+    {
+        let l = o.dy * (self.x0 - o.x);
+        let r = o.dy * (self.x1 - o.x);
+        let d = o.dx * (self.y0 - o.y);
+        let u = o.dx * (self.y1 - o.y);
+        leftward(l, r, d, u) || leftward(d, u, l, r)
     }
-    leftward(d, u, l, r)
 }

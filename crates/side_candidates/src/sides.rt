@@ -5,10 +5,12 @@ ghost use Rattle.definition.specs.Cells.{Live, Mesh, has_node};
 ghost use Rattle.definition.specs.Candidates.{ahead};
 ghost use Rattle.plane.specs.Vectors.{vec};
 ghost use Rattle.rules.specs.Settings.{quality_of};
-ghost use Rattle.side_candidates.specs.Hand.{InHand, fenced, Ends, in_view};
+ghost use Rattle.side_candidates.specs.Hand.{fenced, Ends, in_view};
 ghost use Rattle.side_candidates.specs.Blocks.{Fence};
 
-use crate::inside::{segment_inside, segment_inside_boxed};
+use crate::blocks::Blocks;
+use crate::inside::segment_inside_boxed;
+use cells::layout::Layout;
 use plane::floats::abs;
 use plane::vectors::{Vec, dot, norm};
 use rules::Quality;
@@ -37,45 +39,20 @@ pub fn ahead(y: Quality, n: Vec, d: Vec, target: f64) -> bool
     !(far > y.side_high * target)
 }
 
-// The node v of the region, of which the triangles with a wall are in hand, is another than the two ends,
-// and the segment from a stays inside.
-pub fn in_view(
-    w: &[u32],
-    q: &[f64],
-    s: usize,
-    p: usize,
-    k: usize,
-    a: usize,
-    other: usize,
-    v: usize,
-) -> bool
-    requires { (m : Mesh) × (region : List Live) × InHand w.now q.now s p k m (filter (fenced m) region) × Ends m a v }
-    ensures { (m : Mesh) (region : List Live) → InHand w.now q.now s p k m (filter (fenced m) region) → Ends m a v → any (has_node v) region ≡ true → result ≡ in_view m a other region v }
-{
-    if v == a {
-        return false;
-    }
-    if v == other {
-        return false;
-    }
-    segment_inside(w, q, s, p, k, a, v)
-}
-
-// Like `in_view`, for triangles in blocks with boxes.
+// The node v of the region, of which the triangles with a wall are in hand, in blocks with boxes,
+// is another than the two ends, and the segment from a stays inside.
 pub fn in_view_boxed(
     w: &[u32],
     q: &[f64],
-    s: usize,
-    p: usize,
+    lay: Layout,
     k: usize,
-    h: &[f64],
-    size: usize,
+    h: Blocks,
     a: usize,
     other: usize,
     v: usize,
 ) -> bool
-    requires { (m : Mesh) × (region : List Live) × Fence w.now q.now s p k h.now size m (filter (fenced m) region) × Ends m a v }
-    ensures { (m : Mesh) (region : List Live) → Fence w.now q.now s p k h.now size m (filter (fenced m) region) → Ends m a v → any (has_node v) region ≡ true → result ≡ in_view m a other region v }
+    requires { (m : Mesh) × (region : List Live) × Fence w.now q.now lay.slots lay.points k h.boxes.now h.size m (filter (fenced m) region) × Ends m a v }
+    ensures { (m : Mesh) (region : List Live) → Fence w.now q.now lay.slots lay.points k h.entry.boxes.now h.entry.size m (filter (fenced m) region) → Ends m a v → any (has_node v) region ≡ true → result ≡ in_view m a other region v }
 {
     if v == a {
         return false;
@@ -83,5 +60,5 @@ pub fn in_view_boxed(
     if v == other {
         return false;
     }
-    segment_inside_boxed(w, q, s, p, k, h, size, a, v)
+    segment_inside_boxed(w, q, lay, k, h, a, v)
 }

@@ -1,9 +1,9 @@
 -- What an insertion's answer says of the side nodes.
-use Rattle.std.specs.Prelude.{◌≡◌, ◌+◌, ◌*◌, ◌^◌, ◌<◌, ◌≤◌, ◌∷◌}
+use Rattle.std.specs.Prelude.{◌≡◌, ◌+◌, ◌*◌, ◌^◌, ◌<◌, ◌≤◌, ◌∷◌, Some, None, Ok, Err}
 use Rattle.laws.specs.Kit.{refl, sym, ◌∙◌, ap, subst, Bool, true, false, ℕ, zero, suc, arith, not-suc-le-zero, List, [], length, get_or, set, take, drop, length-set, get_or-set_same, get_or-set_other, Float}
 use native.Mathlib.Nat.{le_of_suc-le-suc}
 use native.Mathlib.Numerals.{add-one}
-use Rattle.definition.specs.Counts.{of_points, of_slots, of_trace, Spent, inserting}
+use Rattle.definition.specs.Counts.{Want, Spent, inserting}
 use Rattle.definition.specs.Numbers.{Settings, Turn}
 use Rattle.definition.specs.Plane.{Vec}
 use Rattle.definition.specs.Cells.{Mesh, node_at}
@@ -22,14 +22,13 @@ use Rattle.cells.specs.declared.counters.Counters.{Counters}
 use Rattle.cells.proofs.Frames.{rep_under}
 use Rattle.live_regions.specs.Stack.{Lent}
 use Rattle.traces.specs.Log.{Logged}
-use Rattle.outcomes.specs.Ends.{only_inserted}
+use Rattle.outcomes.specs.Ends.{only_inserted, shortage_of}
+use Rattle.outcomes.specs.declared.Shortage.{Shortage}
 use Rattle.outcomes.specs.Ready.{Ready}
 use Rattle.insertion.specs.Insert.{CanInsert, Grown, Same, Beyond}
 use Rattle.insertion.specs.Places.{PlaceIs}
-use Rattle.insertion.specs.declared.insert.Place.TheVariants as places
 use Rattle.candidates.specs.Choice.{CanChoose, Spare}
 use Rattle.side_nodes.specs.Sides.{CanSeek, Goes, ListedAt, LeftAt, sides_mesh, SidesAre, SidesTo}
-use Rattle.side_nodes.specs.declared.side.Found.TheVariants as founds
 use Rattle.side_nodes.specs.declared.side.Side.{Side}
 
 -- one element of a list
@@ -41,41 +40,21 @@ take_one (x ∷ l) (suc i) a h e = take_one l i a (le_of_suc-le-suc h) e
 -- ---- which of the definition's answers it is
 
 module _ (w' : List ℕ) (q q' : List Float) (base t t' : List ℕ) (s p used n : ℕ) (bucket : Float) (m : Mesh) where
-  pub at_nowhere : (x : Inserted) → PlaceIs w' q q' base t t' s p used n bucket m x places.Nowhere → (x ≡ nowhere) × Same w' q q' t t' s p m
+  pub at_nowhere : (x : Inserted) → PlaceIs w' q q' base t t' s p used n bucket m x (Ok None) → (x ≡ nowhere) × Same w' q q' t t' s p m
   at_nowhere nowhere h = (refl, h.1)
   at_nowhere (inserted v m') h = clash (let e = h.is in cc)
-  at_nowhere (full of_points) h = clash (let e = h.0 in cc)
-  at_nowhere (full of_slots) h = clash (let e = h.0 in cc)
-  at_nowhere (full of_trace) h = clash (let e = h.0 in cc)
+  at_nowhere (full wt) h = clash (let e = h.0 in cc)
 
-  pub at_point : (x : Inserted) → PlaceIs w' q q' base t t' s p used n bucket m x places.NoPoint → (x ≡ full of_points) × Same w' q q' t t' s p m
-  at_point nowhere h = clash (let e = h.0 in cc)
-  at_point (inserted v m') h = clash (let e = h.is in cc)
-  at_point (full of_points) h = (refl, h.1)
-  at_point (full of_slots) h = clash (let e = h.0 in cc)
-  at_point (full of_trace) h = clash (let e = h.0 in cc)
+  pub at_full : (x : Inserted) (e : Shortage) → PlaceIs w' q q' base t t' s p used n bucket m x (Err e) → (wt : Want) × (x ≡ full wt) × (e ≡ shortage_of wt) × Same w' q q' t t' s p m
+  at_full nowhere e h = clash (let z = h.0 in cc)
+  at_full (inserted v m') e h = clash (let z = h.is in cc)
+  at_full (full wt) e h = (wt, refl, (let z = h.0 in cc), h.1)
 
-  pub at_slots : (x : Inserted) → PlaceIs w' q q' base t t' s p used n bucket m x places.NoSlots → (x ≡ full of_slots) × Same w' q q' t t' s p m
-  at_slots nowhere h = clash (let e = h.0 in cc)
-  at_slots (inserted v m') h = clash (let e = h.is in cc)
-  at_slots (full of_points) h = clash (let e = h.0 in cc)
-  at_slots (full of_slots) h = (refl, h.1)
-  at_slots (full of_trace) h = clash (let e = h.0 in cc)
-
-  pub at_trace : (x : Inserted) → PlaceIs w' q q' base t t' s p used n bucket m x places.NoTrace → (x ≡ full of_trace) × Same w' q q' t t' s p m
-  at_trace nowhere h = clash (let e = h.0 in cc)
-  at_trace (inserted v m') h = clash (let e = h.is in cc)
-  at_trace (full of_points) h = clash (let e = h.0 in cc)
-  at_trace (full of_slots) h = clash (let e = h.0 in cc)
-  at_trace (full of_trace) h = (refl, h.1)
-
-  pub at_node : (x : Inserted) (at : ℕ) → PlaceIs w' q q' base t t' s p used n bucket m x (places.Inserted at)
+  pub at_node : (x : Inserted) (at : ℕ) → PlaceIs w' q q' base t t' s p used n bucket m x (Ok (Some at))
       → (m' : Mesh) × (x ≡ inserted n m') × Grown w' q q' s p used n bucket m m' × Logged base t' at m'
   at_node nowhere at h = clash (let e = h.0 in cc)
   at_node (inserted v m') at h = (m', ap (λ (k : ℕ). inserted k m') h.node, h.grown, subst (λ (k : ℕ). Logged base t' k m') (sym (let e = h.is in cc)) h.log)
-  at_node (full of_points) at h = clash (let e = h.0 in cc)
-  at_node (full of_slots) at h = clash (let e = h.0 in cc)
-  at_node (full of_trace) at h = clash (let e = h.0 in cc)
+  at_node (full wt) at h = clash (let e = h.0 in cc)
 
 -- the same words and the same mesh
 log_as : (base t : List ℕ) (at at' : ℕ) (m m' : Mesh) → Logged base t at m → at' ≡ at → m' ≡ m → Logged base t at' m'
@@ -84,10 +63,10 @@ log_as base t at at' m m' g f o = subst (λ (z : ℕ). Logged base t z m') (sym 
 -- ---- what is asked
 
 module _ (w : List ℕ) (q : List Float) (rules : Rules) (c : Counters) (near a other seed k : ℕ) (m : Mesh) (h : CanSeek w q rules c near a other seed k m) where
-  pub lent_is : Lent w q rules.slots rules.capacity c.used m
+  pub lent_is : Lent w q rules.lay.slots rules.lay.points c.used m
   lent_is = record { rep = h.ready.rep; pts = h.ready.pts; given = h.ready.counted.used }
 
-  pub can_insert : CanInsert w q rules.slots rules.capacity c.used c.points rules.bucket seed a m
+  pub can_insert : CanInsert w q rules.lay.slots rules.lay.points c.used c.points rules.bucket seed a m
   can_insert = record { lent = lent_is; count = h.ready.counted.points; side = h.ready.side; seeded = h.seeded; first = h.first }
 
   pub few_counters : Few c
@@ -104,12 +83,12 @@ module _ (w : List ℕ) (q : List Float) (rules : Rules) (c : Counters) (near a 
       }
 
   -- the mesh stayed
-  module _ (w' : List ℕ) (q' : List Float) (t t' : List ℕ) (b : Beyond w w' rules.slots rules.capacity) (y : Same w' q q' t t' rules.slots rules.capacity m) (r : Side) (n : r.inserted ≡ k) (e : r.counters ≡ c) where
+  module _ (w' : List ℕ) (q' : List Float) (t t' : List ℕ) (b : Beyond w w' rules.lay.slots rules.lay.points) (y : Same w' q q' t t' rules.lay.slots rules.lay.points m) (r : Side) (n : r.inserted ≡ k) (e : r.counters ≡ c) where
     ready_same : Ready w' q' rules r.counters m
     ready_same =
         let o = h.ready in
         subst (λ (d : Counters). Ready w' q' rules d m) (sym e)
-        (record { rep = y.rep; pts = subst (λ (z : List Float). Pts z rules.capacity m) (sym y.text) o.pts; side = o.side; counted = o.counted; live = o.live; attempts = o.attempts; small = o.small })
+        (record { rep = y.rep; pts = subst (λ (z : List Float). Pts z rules.lay.points m) (sym y.text) o.pts; side = o.side; counted = o.counted; live = o.live; attempts = o.attempts; small = o.small })
 
     pub left_same : LeftAt w' q q' rules c (only_inserted k) m r
     left_same =
@@ -131,7 +110,7 @@ module _ (w : List ℕ) (q : List Float) (rules : Rules) (c : Counters) (near a 
         }
 
   -- a node was inserted
-  module _ (w' : List ℕ) (q' : List Float) (b : Beyond w w' rules.slots rules.capacity) (m' : Mesh) (g : Grown w' q q' rules.slots rules.capacity c.used c.points rules.bucket m m') (d : Counters) (sp : Split c d) where
+  module _ (w' : List ℕ) (q' : List Float) (b : Beyond w w' rules.lay.slots rules.lay.points) (m' : Mesh) (g : Grown w' q q' rules.lay.slots rules.lay.points c.used c.points rules.bucket m m') (d : Counters) (sp : Split c d) where
     abbrev put : List ℕ
     put = set w' near c.points
 
@@ -142,7 +121,7 @@ module _ (w : List ℕ) (q : List Float) (rules : Rules) (c : Counters) (near a 
     ready_grown =
         let y = h.ready in
         record {
-          rep = rep_under w' put rules.slots rules.capacity (under_set w' (mesh_end rules.slots rules.capacity) near c.points (omega (arith, h.from))) m' g.rep;
+          rep = rep_under w' put rules.lay.slots rules.lay.points (under_set w' (mesh_end rules.lay.slots rules.lay.points) near c.points (omega (arith, h.from))) m' g.rep;
           pts = g.pts;
           side = g.side;
           counted = record {
@@ -158,7 +137,7 @@ module _ (w : List ℕ) (q : List Float) (rules : Rules) (c : Counters) (near a 
     put_here : get_or put near 0 ≡ c.points
     put_here = get_or-set_same w' near c.points 0 at_in
 
-    module _ (r : Side) (f : r.found ≡ founds.Found) (one : r.count ≡ 1) (n : r.inserted ≡ k + 1) (e : r.counters ≡ d) where
+    module _ (r : Side) (f : r.found ≡ Ok (Some 1)) (n : r.inserted ≡ k + 1) (e : r.counters ≡ d) where
       pub left_grown : LeftAt put q q' rules c (inserting (only_inserted k)) m' r
       unfolding inserting
       left_grown =
@@ -170,20 +149,20 @@ module _ (w : List ℕ) (q : List Float) (rules : Rules) (c : Counters) (near a 
             behind = record { len = g.len; rest = subst (λ (z : ℕ). drop (3 * z) q' ≡ drop (3 * z) q) (sym g.count) g.rest };
           }
 
-      listed_one : ListedAt put near r.count r.counters.points (c.points ∷ [])
+      listed_one : ListedAt put near 1 r.counters.points (c.points ∷ [])
       listed_one =
           let o = take_one put near c.points (subst (λ (z : ℕ). near < z) (sym (length-set w' near c.points)) at_in) put_here in
           let many : r.counters.points ≡ c.points + 1 = ap (λ (z : Counters). z.points) e ∙ sp.points in
           record {
-            are = subst (λ (z : ℕ). take z (drop near put) ≡ c.points ∷ []) (sym one) o;
-            few = omega (arith, one, many);
-            below = λ i u. subst (λ (z : ℕ). get_or put z 0 < r.counters.points) (omega (arith, one)) (subst (λ (z : ℕ). z < r.counters.points) (sym put_here) (omega (arith, many)));
+            are = o;
+            few = omega (arith, many);
+            below = λ i u. subst (λ (z : ℕ). get_or put z 0 < r.counters.points) (omega arith) (subst (λ (z : ℕ). z < r.counters.points) (sym put_here) (omega (arith, many)));
           }
 
       pub grown_to : (base t' : List ℕ) → Logged base t' r.at m' → SidesTo w put q q' base t' rules near c (found (c.points ∷ []) (inserting (only_inserted k)) m') r
       grown_to base t' v =
           record {
-            is = (f, listed_one, left_grown);
+            is = ((1, f, listed_one), left_grown);
             len = length-set w' near c.points ∙ b.len;
             before = λ j l u. get_or-set_other w' near j c.points 0 (omega arith) ∙ b.same j l (omega (arith, h.to));
             log = v;
@@ -218,15 +197,15 @@ insertion_of g f m a seed normal target off h = rw (h.from, h.along, h.far)
 -- ---- after the candidates were looked for
 
 module _ (w : List ℕ) (q : List Float) (rules : Rules) (c : Counters) (near a other seed k : ℕ) (m : Mesh) (h : CanSeek w q rules c near a other seed k m) where
-  pub can_choose : CanChoose w q rules.slots rules.capacity c.used c.points near a other seed m
+  pub can_choose : CanChoose w q rules.lay.slots rules.lay.points c.used c.points near a other seed m
   can_choose =
       record { lent = lent_is w q rules c near a other seed k m h; count = h.ready.counted.points; first = h.first; second = h.second; apart = h.apart; seeded = h.seeded; from = h.from; to = h.to }
 
-  module _ (w' : List ℕ) (z : Spare w w' rules.slots rules.capacity near) where
+  module _ (w' : List ℕ) (z : Spare w w' rules.lay.slots rules.lay.points near) where
     pub ready_spare : Ready w' q rules c m
     ready_spare =
         let y = h.ready in
-        record { rep = rep_under w w' rules.slots rules.capacity (record { len = z.len; low = z.mesh }) m y.rep; pts = y.pts; side = y.side; counted = y.counted; live = y.live; attempts = y.attempts; small = y.small }
+        record { rep = rep_under w w' rules.lay.slots rules.lay.points (record { len = z.len; low = z.mesh }) m y.rep; pts = y.pts; side = y.side; counted = y.counted; live = y.live; attempts = y.attempts; small = y.small }
 
     pub seek_again : CanSeek w' q rules c near a other seed k m
     seek_again = record { ready = ready_spare; first = h.first; second = h.second; apart = h.apart; seeded = h.seeded; from = h.from; to = h.to; few = h.few }

@@ -1,7 +1,7 @@
 -- What is said of the side nodes at one end.
-use Rattle.std.specs.Prelude.{◌≡◌, ◌+◌, ◌^◌, ◌<◌, ◌≤◌}
+use Rattle.std.specs.Prelude.{◌≡◌, ◌+◌, ◌^◌, ◌<◌, ◌≤◌, Some, None, Ok, Err}
 use Rattle.laws.specs.Kit.{Bool, ℕ, List, length, get_or, take, drop, Float}
-use Rattle.definition.specs.Counts.{Spent, of_points, of_slots, of_trace}
+use Rattle.definition.specs.Counts.{Spent}
 use Rattle.definition.specs.Plane.{Vec}
 use Rattle.definition.specs.Cells.{Mesh}
 use Rattle.definition.specs.Attempt.{Stance, Sides, found, missing, overfull}
@@ -10,9 +10,7 @@ use Rattle.cells.specs.Layout.{refused_at, near_at, stack_at}
 use Rattle.cells.specs.declared.counters.Counters.{Counters}
 use Rattle.traces.specs.Log.{Logged}
 use Rattle.outcomes.specs.Ready.{Ready, Behind}
-use Rattle.outcomes.specs.Ends.{only_inserted}
-use Rattle.side_nodes.specs.declared.side.Found.{Found}
-use Rattle.side_nodes.specs.declared.side.Found.TheVariants as founds
+use Rattle.outcomes.specs.Ends.{only_inserted, shortage_of}
 use Rattle.side_nodes.specs.declared.side.Side.{Side}
 use Rattle.side_nodes.specs.declared.side.Stance as sides
 use Rattle.plane.specs.Vectors.{vec}
@@ -24,9 +22,9 @@ pub record CanSeek (w : List ℕ) (q : List Float) (rules : Rules) (c : Counters
   pub first : a < c.points
   pub second : other < c.points
   pub apart : a ≡ other → ⊥
-  pub seeded : seed < rules.slots
-  pub from : near_at rules.slots rules.capacity ≤ near
-  pub to : near + rules.capacity ≤ stack_at rules.slots rules.capacity
+  pub seeded : seed < rules.lay.slots
+  pub from : near_at rules.lay.slots rules.lay.points ≤ near
+  pub to : near + rules.lay.points ≤ stack_at rules.lay.slots rules.lay.points
   pub few : inserted < 2 ^ 32
 
 -- what an attempt goes by
@@ -63,15 +61,13 @@ sides_mesh (overfull w n m) = m
 -- by cases
 abbrev pub SidesAre : List ℕ → List Float → List Float → Rules → ℕ → Counters → Sides → Side → Type 0
 SidesAre w' q q' rules near c (found cs n m) r =
-    (r.found ≡ founds.Found) × ListedAt w' near r.count r.counters.points cs × LeftAt w' q q' rules c n m r
-SidesAre w' q q' rules near c (missing n m) r = (r.found ≡ founds.Missing) × LeftAt w' q q' rules c n m r
-SidesAre w' q q' rules near c (overfull of_points n m) r = (r.found ≡ founds.NoPoint) × LeftAt w' q q' rules c n m r
-SidesAre w' q q' rules near c (overfull of_slots n m) r = (r.found ≡ founds.NoSlots) × LeftAt w' q q' rules c n m r
-SidesAre w' q q' rules near c (overfull of_trace n m) r = (r.found ≡ founds.NoTrace) × LeftAt w' q q' rules c n m r
+    ((k : ℕ) × (r.found ≡ Ok (Some k)) × ListedAt w' near k r.counters.points cs) × LeftAt w' q q' rules c n m r
+SidesAre w' q q' rules near c (missing n m) r = (r.found ≡ Ok None) × LeftAt w' q q' rules c n m r
+SidesAre w' q q' rules near c (overfull wt n m) r = (r.found ≡ Err (shortage_of wt)) × LeftAt w' q q' rules c n m r
 
 -- the refused edges, the front's areas and all up to `near` are as they were; what happened to the mesh is in the trace
 pub record SidesTo (w w' : List ℕ) (q q' : List Float) (base t' : List ℕ) (rules : Rules) (near : ℕ) (c : Counters) (x : Sides) (r : Side) : Type 0 where
   pub is : SidesAre w' q q' rules near c x r
   pub len : length w' ≡ length w
-  pub before : (i : ℕ) → refused_at rules.slots rules.capacity ≤ i → i < near → get_or w' i 0 ≡ get_or w i 0
+  pub before : (i : ℕ) → refused_at rules.lay.slots rules.lay.points ≤ i → i < near → get_or w' i 0 ≡ get_or w i 0
   pub log : Logged base t' r.at (sides_mesh x)

@@ -14,7 +14,8 @@ ghost use Rattle.side_nodes.specs.Sides.{CanSeek, GoesBy, SidesTo};
 use candidates::aim::Aim;
 use candidates::candidates;
 use cells::counters::Counters;
-use insertion::insert::{Place, insert_along};
+use insertion::insert::insert_along;
+use outcomes::Shortage;
 use plane::vectors::Vec;
 use rules::Rules;
 
@@ -48,38 +49,14 @@ pub struct Seat {
     pub near: usize,
 }
 
-// Side nodes at an end: some are found; none;
-// or no point, too few slots or no room in the trace are left and the run ends.
-#[derive(Clone, Copy)]
-pub enum Found {
-    Found,
-    Missing,
-    NoPoint,
-    NoSlots,
-    NoTrace,
-}
-
-// What was found, how many nodes, the insertions so far, the counters then, and where the trace's next entry goes.
+// How many side nodes were found at an end, if any, or what is left too little of and the run ends;
+// the insertions so far, the counters then, and where the trace's next entry goes.
 #[derive(Clone, Copy)]
 pub struct Side {
-    pub found: Found,
-    pub count: usize,
+    pub found: Result<Option<usize>, Shortage>,
     pub inserted: usize,
     pub counters: Counters,
     pub at: usize,
-}
-
-// The answer where no side node is found.
-fn no_node(found: Found, inserted: usize, counters: Counters, at: usize) -> Side
-    ensures { (result.found ≡ found) × (result.inserted ≡ inserted) × (result.counters ≡ counters) × (result.at ≡ at) }
-{
-    Side {
-        found,
-        count: 0,
-        inserted,
-        counters,
-        at,
-    }
 }
 
 // A node inserted along the normal is the only side node.
@@ -105,8 +82,7 @@ fn by_insertion(
         w,
         q,
         t,
-        rules.slots,
-        rules.capacity,
+        rules.lay,
         used,
         n,
         rules.bucket,
@@ -116,26 +92,37 @@ fn by_insertion(
         normal,
         stance.target,
     );
-    match place {
-        Place::Nowhere => no_node(Found::Missing, inserted, c, at),
-        Place::NoPoint => no_node(Found::NoPoint, inserted, c, at),
-        Place::NoSlots => no_node(Found::NoSlots, inserted, c, at),
-        Place::NoTrace => no_node(Found::NoTrace, inserted, c, at),
-        Place::Inserted(next) => {
-            w[near] = n as u32;
-            Side {
-                found: Found::Found,
-                count: 1,
-                inserted: inserted + 1,
-                counters: c.split(),
-                at: next,
-            }
+    let place = match place {
+        Ok(place) => place,
+        Err(short) => {
+            return Side {
+                found: Err(short),
+                inserted,
+                counters: c,
+                at,
+            };
         }
+    };
+    let Some(next) = place else {
+        return Side {
+            found: Ok(None),
+            inserted,
+            counters: c,
+            at,
+        };
+    };
+    w[near] = n as u32;
+    Side {
+        found: Ok(Some(1)),
+        inserted: inserted + 1,
+        counters: c.split(),
+        at: next,
     }
 }
 
 // The side nodes at an end of the edge: the candidates,
 // or, where there is none and the edge's length is off the target, a node inserted.
+// Kept (4): the aim is drawn from the seat, the stance and the rules at once, so a From of all three is no plainer.
 pub fn side_nodes(
     w: &mut [u32],
     q: &mut [f64],
@@ -162,21 +149,10 @@ pub fn side_nodes(
         target: stance.target,
         quality,
     };
-    let k = candidates(
-        w,
-        q,
-        rules.slots,
-        rules.capacity,
-        used,
-        n,
-        seat.near,
-        stance.seed,
-        aim,
-    );
+    let k = candidates(w, q, rules.lay, used, n, seat.near, stance.seed, aim);
     if k > 0 {
         return Side {
-            found: Found::Found,
-            count: k,
+            found: Ok(Some(k)),
             inserted,
             counters: c,
             at,
@@ -184,7 +160,12 @@ pub fn side_nodes(
     }
     let mismatch = stance.mismatch;
     if !mismatch {
-        return no_node(Found::Missing, inserted, c, at);
+        return Side {
+            found: Ok(None),
+            inserted,
+            counters: c,
+            at,
+        };
     }
     by_insertion(w, q, t, rules, c, at, stance, seat, inserted)
 }

@@ -1,10 +1,13 @@
 -- A list in a lent slice: its stores, and the answer to a caller whose slice is too short.
 use Rattle.std.specs.Prelude.{◌≡◌, ◌+◌, ◌<◌, ◌≤◌, ◌∷◌, ◌++◌}
-use Rattle.laws.specs.Kit.{refl, sym, ◌∙◌, ap, subst, ℕ, arith, lt-ltb, le-ltb, List, [], length, set, drop}
+use Rattle.laws.specs.Kit.{refl, sym, ◌∙◌, ap, subst, ℕ, arith, inl, inr, ltb, lt-ltb, le-ltb, List, [], length, set, drop}
 use lib.Seq.{sets, sets-eq}
 use Rattle.definition.specs.Call.{onto}
-use Rattle.small.specs.Small.{Answer, mesh, ended, refused}
-use Rattle.small.specs.Lent.{numbers, number, handed, shortened, in_slice, Short, Written}
+use Rattle.laws.specs.Bools.{which}
+use Rattle.std.specs.Prelude as code
+use Rattle.small.specs.declared.Mesh.{Mesh}
+use Rattle.small.specs.Small.{Answer, mesh, ended, refused, said}
+use Rattle.small.specs.Lent.{numbers, number, handed, shortened, in_slice, Written}
 
 -- ---- the stores, in a slice with room for the longest list
 
@@ -21,11 +24,6 @@ pub none_stored : {a : Answer} (xs : List ℕ) → a ≡ ended → 10 ≤ length
 unfolding number handed
 none_stored xs e room = subst (λ a. Written a xs 0 (set xs 0 0)) (sym e) (record { returned = refl; list = stores (0 ∷ []) xs (omega arith) room })
 
--- a refusal
-pub none_touched : {a : Answer} (xs : List ℕ) (k : ℕ) → a ≡ refused k → Written a xs k xs
-unfolding number handed
-none_touched xs k e = subst (λ a. Written a xs k xs) (sym e) (record { returned = refl; list = refl })
-
 -- ---- the answer with a slice
 
 -- a refusal leaves the slice as it was
@@ -35,11 +33,36 @@ refusal_leaves (mesh l) xs = refl
 refusal_leaves ended xs = refl
 refusal_leaves (refused k) xs = refl
 
-pub too_short : {said a : Answer} {xs : List ℕ} {k : ℕ} → said ≡ a → Short said k → length xs < 10 → Written (in_slice xs a) xs k xs
+-- a refusal that comes before 4, of whatever slice
+pub refused_first : {a : Answer} (k : ℕ) (xs : List ℕ) → refused k ≡ a → Written (in_slice xs a) xs k xs
+unfolding in_slice number handed shortened
+refused_first k xs e =
+    subst (λ b. Written (in_slice xs b) xs k xs) e (elim (which (ltb (length xs) 10)) [
+      | inl t ↦ rw t (record { returned = refl; list = refl })
+      | inr t ↦ rw t (record { returned = refl; list = refl })
+    ])
+
+-- 4, of a slice that is too short for any list
+abbrev NotRefused : Answer → Type 0
+NotRefused (mesh l) = Unit {0}
+NotRefused ended = Unit {0}
+NotRefused (refused k) = ⊥
+
+short_number : (a : Answer) → NotRefused a → 4 ≡ number (shortened a)
+unfolding number shortened
+short_number (mesh l) h = refl
+short_number ended h = refl
+short_number (refused k) h = absurd h
+
+pub not_refused : (l : code.Option Mesh) → NotRefused (said (code.Ok l))
+not_refused code.None = tt
+not_refused (code.Some l) = tt
+
+pub too_short : {b a : Answer} {xs : List ℕ} → b ≡ a → NotRefused b → length xs < 10 → Written (in_slice xs a) xs 4 xs
 unfolding in_slice
-too_short {said} {a} {xs} {k} e h l =
-    subst (λ b. Written b xs k xs) (let t = lt-ltb (length xs) 10 l in rw t refl)
-    (record { returned = h ∙ ap (λ b. number (shortened b)) e; list = refusal_leaves a xs })
+too_short {b} {a} {xs} e h l =
+    subst (λ z. Written z xs 4 xs) (let t = lt-ltb (length xs) 10 l in rw t refl)
+    (record { returned = short_number a (subst NotRefused e h); list = refusal_leaves a xs })
 
 pub long_enough : {said a : Answer} {xs ys : List ℕ} {k : ℕ} → said ≡ a → Written said xs k ys → 10 ≤ length xs → Written (in_slice xs a) xs k ys
 unfolding in_slice

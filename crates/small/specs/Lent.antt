@@ -32,10 +32,6 @@ shortened (refused k) = refused k
 unfoldable pub in_slice : List ℕ → Answer → Answer
 in_slice old a = cond (ltb (length old) 10) (shortened a) a
 
--- k is returned of a slice that is too short
-abbrev pub Short : Answer → ℕ → Type 0
-Short a k = k ≡ number (shortened a)
-
 -- k is returned of the answer a, and the slice that held `old` holds `new`
 pub record Written (a : Answer) (old : List ℕ) (k : ℕ) (new : List ℕ) : Type 0 where
   pub returned : k ≡ number a

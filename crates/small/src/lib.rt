@@ -4,11 +4,10 @@
 pub mod lent;
 
 ghost use Rattle.std.specs.Prelude.{◌≡◌, ◌≤◌};
-ghost use Rattle.small.specs.Small.{answer, said};
+ghost use Rattle.small.specs.Small.{answer, mesh, said, triangles_of};
 ghost use Rattle.small.specs.Counts.{Counted, HasPlace, PairThere, TripleThere, Listed};
 
-// The refusal of other numbers of points than 3, 4 and 5.
-const OTHER_POINTS: u32 = 1;
+use refusals::Refusal;
 
 // Three nodes, ascending.
 #[derive(Clone, Copy)]
@@ -18,21 +17,12 @@ pub struct Triangle {
     pub n2: u32,
 }
 
-// The list at a place; that the order has ended; or a refusal's number.
+// One to three triangles.
 #[derive(Clone, Copy)]
-pub enum Found {
+pub enum Mesh {
     One(Triangle),
     Two(Triangle, Triangle),
     Three(Triangle, Triangle, Triangle),
-    Ended,
-    Refused(u32),
-}
-
-// Two numbers, ascending.
-#[derive(Clone, Copy)]
-struct Pair {
-    first: u32,
-    second: u32,
 }
 
 // How many pairs n things have.
@@ -57,24 +47,23 @@ fn triples(n: u32) -> u32
     n * (n - 1) * (n - 2) / 6
 }
 
-// The pair at a place among the n numbers from `from`.
+// The pair at a place among the n numbers from `from`, ascending.
 // The pairs that start with a number are as many as the numbers after it.
-fn pair_at(from: u32, n: u32, place: u32) -> Pair
+fn pair_at(from: u32, n: u32, place: u32) -> (u32, u32)
     requires { HasPlace 2 from n place }
     ensures { PairThere from n place result }
 {
     let mut first = from;
     let mut after = n - 1;
     let mut left = place;
+    // Kept (3): in a `for` over the first numbers the count of those after it runs beside it all the same,
+    // and something would stand behind its end, which is never reached.
     while left >= after {
         left -= after;
         after -= 1;
         first += 1;
     }
-    Pair {
-        first,
-        second: first + 1 + left,
-    }
+    (first, first + 1 + left)
 }
 
 // The triple at a place among the numbers below n.
@@ -87,57 +76,59 @@ fn triple_at(n: u32, place: u32) -> Triangle
     let mut after = n - 1;
     let mut left = place;
     let mut block = pairs(after);
+    // Kept (3): as in `pair_at`.
     while left >= block {
         left -= block;
         after -= 1;
         first += 1;
         block = pairs(after);
     }
-    let p = pair_at(first + 1, after, left);
+    let (second, third) = pair_at(first + 1, after, left);
     Triangle {
         n0: first,
-        n1: p.first,
-        n2: p.second,
+        n1: second,
+        n2: third,
     }
 }
 
 // The list at a place of the order for 3, 4 or 5 points: the m triangles one by one, then their pairs,
 // then their triples.
-fn list_at(points: u32, m: u32, place: u32) -> Found
+fn list_at(points: u32, m: u32, place: u32) -> Mesh
     requires { Listed points m place }
-    ensures { said result ≡ answer points place }
+    ensures { mesh (triangles_of result) ≡ answer points place }
 {
     if place < m {
-        return Found::One(triple_at(points, place));
+        return Mesh::One(triple_at(points, place));
     }
     let beyond = place - m;
     let two = pairs(m);
     if beyond < two {
-        let p = pair_at(0, m, beyond);
-        return Found::Two(triple_at(points, p.first), triple_at(points, p.second));
+        let (first, second) = pair_at(0, m, beyond);
+        return Mesh::Two(triple_at(points, first), triple_at(points, second));
     }
     let t = triple_at(m, beyond - two);
-    Found::Three(
+    Mesh::Three(
         triple_at(points, t.n0),
         triple_at(points, t.n1),
         triple_at(points, t.n2),
     )
 }
 
-// The list at a place of the order, from 0; other numbers of points are refused, whatever the place.
-pub fn small_mesh(points: u32, place: usize) -> Found
+// The list at a place of the order, from 0; `None` where the order has ended.
+// Other numbers of points than 3, 4 and 5 are refused, whatever the place.
+pub fn small_mesh(points: u32, place: usize) -> Result<Option<Mesh>, Refusal>
     ensures { said result ≡ answer points place }
 {
     if points < 3 {
-        return Found::Refused(OTHER_POINTS);
+        return Err(Refusal::OverLimit);
     }
     if points > 5 {
-        return Found::Refused(OTHER_POINTS);
+        return Err(Refusal::OverLimit);
     }
     let m = triples(points);
     let last = m + pairs(m) + triples(m) - 1;
     if place > last as usize {
-        return Found::Ended;
+        return Ok(None);
     }
-    list_at(points, m, place as u32)
+    Ok(Some(list_at(points, m, place as u32)))
 }

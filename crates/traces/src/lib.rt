@@ -95,17 +95,14 @@ fn write_quad(t: &mut [u32], g: Grown, n: usize)
     t[8] = n as u32;
 }
 
+// Kept (6): w holds all the mesh's words, and only n of them are copied.
 // The n words of w from `from` on come to the front of t.
 pub fn copy_words(t: &mut [u32], w: &[u32], from: usize, n: usize)
     requires n_in_bounds { n ≤ length t.old }
     requires n_in_bounds_2 { from + n ≤ length w.now }
     ensures { t.new ≡ take n (drop from w.now) ++ drop n t.old }
 {
-    let mut k = 0;
-    while k < n {
-        t[k] = w[from + k];
-        k += 1;
-    }
+    t[..n].copy_from_slice(&w[from..from + n]);
 }
 
 // The entry of a flip of the edge u-v comes to `at`; where the next one goes.

@@ -1,19 +1,18 @@
 -- The scaled Jacobian at the first corner bounds the score, and does not turn on the node across.
 use mathlib.Core.Path.{◌≡◌, refl, ap, sym, ◌∙◌}
-use mathlib.Core.Bool.{Bool, true, false, not, ◌||◌}
-use mathlib.Core.Logic.{inl, inr}
+use mathlib.Core.Bool.{true, false, not, ◌||◌}
 use mathlib.Core.List.{List, [], ◌∷◌, map}
 use Prim.Native.Nat.{ℕ, ◌<◌}
 use lib.Dec.{T}
 use lib.ListN.{length, get_or}
-use lib.Ieee.{Float, nan, inf, is_nan, binary64, fits, to_bits, of_bits, div, neg}
+use lib.Ieee.{Float, nan, inf, is_nan, binary64, fits, to_bits, of_bits, div}
 use lib.Ieee.Bits.{of_bits-to_bits}
 use Rattle.definition.specs.Account.{All}
 use Rattle.definition.specs.Call.{point_at}
 use Rattle.definition.specs.Cells.{Quad, new_quad}
-use Rattle.definition.specs.Floats.{◌⊕◌, ◌⊗◌, ◌≺◌, ◌≼◌, lesser, 0·0}
+use Rattle.definition.specs.Floats.{◌≺◌, ◌≼◌, lesser, 0·0}
 use Rattle.definition.specs.Lists.{any, contains, flat_map}
-use Rattle.definition.specs.Metrics.{Metrics, absent, measured, Weights, weights, c0, d0, d1, corner, weighted, scaled, jacobian_at, min_scaled_jacobian, quad_metrics, corners, not_convex, angle_of, largest_cosine, passes, score}
+use Rattle.definition.specs.Metrics.{Metrics, absent, measured, weights, c0, d0, d1, corner, weighted, scaled, jacobian_at, min_scaled_jacobian, quad_metrics, corners, not_convex, angle_of, largest_cosine, passes, score}
 use Rattle.definition.specs.Numbers.{Quality, tiny_cross}
 use Rattle.definition.specs.Plane.{Node, flat, twice_area}
 use Rattle.plane.specs.Points.{ground, node, spot_x, spot_y}
@@ -87,10 +86,6 @@ node_below y q a b c ds z n h = all_flat_map (λ t. (t.score ≺ z) ≡ true) (t
 pub zero_over_zero : div binary64 (of_bits binary64 0) (of_bits binary64 0) ≡ nan
 unfolding div of_bits
 zero_over_zero = refl
-
-pub minus_one_over_zero : div binary64 (neg (of_bits binary64 0x3ff0000000000000)) (of_bits binary64 0) ≡ inf true
-unfolding div neg of_bits
-minus_one_over_zero = refl
 
 -- floats with the same bits are the same
 pub same_float : (x y : Float) → fits binary64 x ≡ true → fits binary64 y ≡ true → to_bits binary64 x ≡ to_bits binary64 y → x ≡ y

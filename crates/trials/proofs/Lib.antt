@@ -1,5 +1,4 @@
 pub mod Insertion
-pub mod Order
 pub mod Steps
 pub mod Rating
 pub mod Rounds

@@ -1,10 +1,10 @@
 -- The trials that reach a floor: what insertion, the first n and appending leave of them;
 -- and that the best are among them.
 use mathlib.Core.Path.{◌≡◌, refl, ap, sym, subst, ◌∙◌}
-use mathlib.Core.Bool.{Bool, true, false, not, cond}
-use mathlib.Core.Logic.{◌⊎◌, inl, inr}
+use mathlib.Core.Bool.{Bool, true, false, not}
+use mathlib.Core.Logic.{inl, inr}
 use mathlib.Core.List.{List, [], ◌∷◌, ◌++◌}
-use Prim.Native.Nat.{ℕ, zero, suc, ◌+◌, ◌-◌, ◌≤◌, ◌<◌}
+use Prim.Native.Nat.{ℕ, zero, suc, ◌-◌, ◌≤◌, ◌<◌}
 use native.Mathlib.Nat.{le_of_suc-le-suc, not-suc-le-zero}
 use native.Mathlib.Omega.{arith}
 use borrow.Author.Tests.{not-true}
@@ -267,13 +267,6 @@ fair_last s v pairs k i f xs u n e p h =
     let few : length (take pairs (onto trial_before (reaching z xs') [])) ≤ length (onto trial_before (reaching z xs') []) = length_take_most pairs (onto trial_before (reaching z xs') []) in
     let many : pairs ≤ length (reaching z xs') = omega (arith, ap length taken, ap length each, length_listed s v k, few, length_onto (reaching z xs'), e) in
     inr (let g = part_reaches z f xs i u in omega (arith, g, many))
-
--- nothing is below minus infinity, by whatever it was made
-pub fair_low : (z : Float) → z ≡ inf true → (pairs : ℕ) (xs : List Trial) → Fair z pairs xs
-fair_low z e pairs xs = rw e (fair_none pairs xs)
-
-pub none_below : {A : Type 0} (z x : Float) → z ≡ inf true → (x ≺ z) ≡ true → A
-none_below z x e h = never (x ≺ z) h (ap (λ (t : Float). x ≺ t) e ∙ all_above x)
 
 -- ---- what is kept
 

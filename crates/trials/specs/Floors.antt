@@ -1,5 +1,6 @@
 -- A floor under the scores: trials below it are left out, where so many as are wanted reach it or every score does.
-use Rattle.std.specs.Prelude.{◌≡◌, Bool, true, not, ◌⊎◌, List, ℕ, ◌+◌, ◌≤◌, ◌<◌, length, get_or, Float}
+use Rattle.std.specs.Prelude.{◌≡◌, Bool, true, not, ◌⊎◌, List, ℕ, ◌+◌, ◌≤◌, ◌<◌, length, get_or, Float, Option, Some, None}
+use Rattle.std.specs.Float.{inf}
 use Rattle.definition.specs.Call.{point_at}
 use Rattle.definition.specs.Floats.{◌⊕◌, ◌⊗◌, ◌≺◌, 0·0}
 use Rattle.definition.specs.Lists.{filter}
@@ -8,6 +9,11 @@ use Rattle.definition.specs.Plane.{Node, dist}
 use Rattle.definition.specs.Trials.{Trial}
 use Rattle.plane.specs.Points.{Within}
 use Rattle.trials.specs.Kept.{Falling, listed}
+
+-- a floor, which is minus infinity where there is none
+abbrev pub bar : Option Float → Float
+bar (Some z) = z
+bar None = inf true
 
 -- its score is not below the floor
 unfoldable pub reaches : Float → Trial → Bool
@@ -48,9 +54,10 @@ pub record Neutral (a b d : Node) : Type 0 where
 abbrev pub AllNeutral : List ℕ → List Float → ℕ → ℕ → ℕ → ℕ → Type 0
 AllNeutral w q far_at fars a b = (j : ℕ) → j < fars → Neutral (point_at q a) (point_at q b) (point_at q (get_or w (far_at + j) 0))
 
--- where anything is below the floor
-abbrev pub NeutralBelow : Float → List ℕ → List Float → ℕ → ℕ → ℕ → ℕ → Type 0
-NeutralBelow z w q far_at fars a b = (x : Float) → (x ≺ z) ≡ true → AllNeutral w q far_at fars a b
+-- so where there is a floor
+abbrev pub NeutralUnder : Option Float → List ℕ → List Float → ℕ → ℕ → ℕ → ℕ → Type 0
+NeutralUnder (Some z) w q far_at fars a b = AllNeutral w q far_at fars a b
+NeutralUnder None w q far_at fars a b = Unit {0}
 
 -- the edge's ends are in the slice of points, and its length is theirs
 pub record Ended (q : List Float) (a b : ℕ) (ab : Float) : Type 0 where

@@ -11,6 +11,13 @@ use plane::points::{Spot, at};
 use plane::vectors::{Vec, norm};
 use words::bits_of;
 
+// The side nodes at one end: so many from a place on.
+#[derive(Clone, Copy)]
+pub struct Part {
+    pub at: usize,
+    pub count: usize,
+}
+
 // ---- sums
 
 // The sum of the first column up to its third node.
@@ -67,20 +74,18 @@ fn is_neutral(a: Spot, b: Spot, d: Spot) -> bool
 }
 
 // For each side node d at b, every sum is with d what it is with a in its place.
-pub fn all_neutral(w: &[u32], q: &[f64], far_at: usize, fars: usize, a: usize, b: usize) -> bool
-    requires far { Far w.now q.now far_at fars }
+pub fn all_neutral(w: &[u32], q: &[f64], far: Part, a: usize, b: usize) -> bool
+    requires far { Far w.now q.now far.at far.count }
     requires within { Within q.now a × Within q.now b }
-    ensures { result ≡ true → AllNeutral w.now q.now far_at fars a b }
+    ensures { result ≡ true → AllNeutral w.now q.now far.at far.count a b }
 {
     let u = at(q, a);
     let v = at(q, b);
-    let mut j = 0;
-    while j < fars {
-        let d = w[far_at + j] as usize;
+    for j in 0..far.count {
+        let d = w[far.at + j] as usize;
         if !is_neutral(u, v, at(q, d)) {
             return false;
         }
-        j += 1;
     }
     true
 }

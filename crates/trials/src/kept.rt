@@ -28,19 +28,11 @@ pub struct Trial {
 fn nodes_before(l: Trial, r: Trial) -> bool
     ensures { result ≡ numbers_before (quad_nodes (quad_of l)) (quad_nodes (quad_of r)) }
 {
-    if l.n0 != r.n0 {
-        return l.n0 < r.n0;
-    }
-    if l.n1 != r.n1 {
-        return l.n1 < r.n1;
-    }
-    if l.n2 != r.n2 {
-        return l.n2 < r.n2;
-    }
-    l.n3 < r.n3
+    (l.n0, l.n1, l.n2, l.n3) < (r.n0, r.n1, r.n2, r.n3)
 }
 
 // The better score first, then by node numbers.
+// Kept (4): scores that do not compare fall to the node numbers, so this is no Ord; `trial_before` says the same.
 pub fn before(l: Trial, r: Trial) -> bool
     ensures { result ≡ trial_before (trial_of l) (trial_of r) }
 {
@@ -88,14 +80,12 @@ fn place(scores: &[f64; ROOM], nodes: &[usize; NODES], count: usize, t: Trial) -
     requires { count ≤ room }
     ensures { Place (trial_of t) (listed scores.now nodes.now count) count result }
 {
-    let mut p = 0;
-    while p < count {
+    for p in 0..count {
         if !before(get(scores, nodes, p), t) {
             return p;
         }
-        p += 1;
     }
-    p
+    count
 }
 
 // t after the first p, the others pushed back, one beyond the pairs dropped; how many are kept then.
@@ -111,12 +101,10 @@ fn put(
     ensures { Keeps scores.new nodes.new pairs result (take pairs (put p (trial_of t) (listed scores.old nodes.old count))) }
 {
     let mut carried = t;
-    let mut i = p;
-    while i < count {
+    for i in p..count {
         let next = get(scores, nodes, i);
         store(scores, nodes, i, carried);
         carried = next;
-        i += 1;
     }
     if count == pairs {
         return count;

@@ -7,13 +7,13 @@ ghost use Rattle.definition.specs.Trials.{rated, trial_before, trials};
 ghost use Rattle.plane.specs.Points.{Within};
 ghost use Rattle.rules.specs.Settings.{quality_of};
 ghost use Rattle.trials.specs.Kept.{Falling, Keeps, listed, onto, room};
-ghost use Rattle.trials.specs.Floors.{Fair, KeepsAbove, NeutralBelow, reaching, Ended};
+ghost use Rattle.trials.specs.Floors.{Fair, KeepsAbove, NeutralUnder, bar, reaching, Ended};
 ghost use Rattle.trials.specs.Ranked.{Far, HalfAt, Named, metrics_at, part, trial_at};
 
-use crate::first_corner::{all_neutral, corner_at};
+use crate::first_corner::{Part, all_neutral, corner_at};
 use crate::kept::{NODES, ROOM, Trial, insert, outdone};
 use plane::floats::greater;
-use plane::metrics::{Metrics, passes, quad_metrics_by, score};
+use plane::metrics::{passes, quad_metrics_by, score};
 use plane::vectors::length;
 use rules::Quality;
 
@@ -66,10 +66,10 @@ fn rate(
     ensures { Keeps scores.new nodes.new y.pairs result (take y.pairs (onto trial_before (rated (quality_of y) (new_quad h.a h.b d h.c) (metrics_at q.now h.a h.b d h.c)) (listed scores.old nodes.old count))) }
 {
     let m = quad_metrics_by(q, h.a, h.b, d, h.c, h.ab, h.ca);
-    let Metrics::Measured(sj, _) = m else {
+    let Some(found) = m else {
         return count;
     };
-    if outdone(scores, count, y.pairs, sj) {
+    if outdone(scores, count, y.pairs, found.jacobian) {
         return count;
     }
     if !passes(m, y.least_jacobian, y.largest_cosine) {
@@ -113,25 +113,23 @@ fn with_node(
     y: Quality,
     w: &[u32],
     q: &[f64],
-    far_at: usize,
-    fars: usize,
+    far: Part,
     h: Half,
 ) -> usize
     requires count_le_pairs { (count ≤ y.pairs) × (y.pairs ≤ room) × Falling (listed scores.old nodes.old count) }
-    requires far { Far w.now q.now far_at fars × HalfAt q.now h }
-    ensures { Keeps scores.new nodes.new y.pairs result (take y.pairs (onto trial_before (flat_map (trial_at (quality_of y) q.now h.a h.b h.c) (part w.now far_at fars)) (listed scores.old nodes.old count))) }
+    requires far { Far w.now q.now far.at far.count × HalfAt q.now h }
+    ensures { Keeps scores.new nodes.new y.pairs result (take y.pairs (onto trial_before (flat_map (trial_at (quality_of y) q.now h.a h.b h.c) (part w.now far.at far.count)) (listed scores.old nodes.old count))) }
 {
     let mut k = count;
-    let mut j = fars;
-    while 0 < j {
-        j -= 1;
-        let d = w[far_at + j] as usize;
+    for j in (0..far.count).rev() {
+        let d = w[far.at + j] as usize;
         k = with_pair(scores, nodes, k, y, q, h, d);
     }
     k
 }
 
 // i or r.
+// Kept (7): `first` picks one of two places, and no step to run.
 fn either(first: bool, i: usize, r: usize) -> usize
     ensures { (n : ℕ) → i < n → r < n → result < n }
 {
@@ -142,63 +140,59 @@ fn either(first: bool, i: usize, r: usize) -> usize
 }
 
 // The place of a side node at a from whose corner much is hoped: the last with the greatest scaled Jacobian there.
-fn steepest(w: &[u32], q: &[f64], near_at: usize, nears: usize, a: usize, b: usize) -> usize
-    requires far { Far w.now q.now near_at nears }
+fn steepest(w: &[u32], q: &[f64], near: Part, a: usize, b: usize) -> usize
+    requires far { Far w.now q.now near.at near.count }
     requires within { Within q.now a × Within q.now b }
-    requires nears_nonzero { 0 < nears }
-    ensures { result < nears }
+    requires nears_nonzero { 0 < near.count }
+    ensures { result < near.count }
 {
     let mut top = -1.0 / 0.0;
     let mut r = 0;
-    let mut i = 0;
-    while i < nears {
-        let x = corner_at(q, a, b, w[near_at + i] as usize);
+    for i in 0..near.count {
+        let x = corner_at(q, a, b, w[near.at + i] as usize);
         r = either(x >= top, i, r);
         top = greater(top, x);
-        i += 1;
     }
     r
 }
 
 // A score that so many pairs as are wanted reach: the last one kept of those with one side node at a.
-// Minus infinity where none is found, or few nodes are to be gone through.
+// None where none is found, or few nodes are to be gone through.
 fn floor_of(
     scores: &mut [f64; ROOM],
     nodes: &mut [usize; NODES],
     y: Quality,
     w: &[u32],
     q: &[f64],
-    near_at: usize,
-    nears: usize,
-    far_at: usize,
-    fars: usize,
+    near: Part,
+    far: Part,
     a: usize,
     b: usize,
     ab: f64,
-) -> f64
+) -> Option<f64>
     requires pairs_le_room { y.pairs ≤ room }
-    requires far { Far w.now q.now near_at nears × Far w.now q.now far_at fars × Ended q.now a b ab }
-    ensures fair { Fair result y.pairs (flat_map (λ c. flat_map (trial_at (quality_of y) q.now a b c) (part w.now far_at fars)) (part w.now near_at nears)) }
-    ensures neutral { NeutralBelow result w.now q.now far_at fars a b }
+    requires far { Far w.now q.now near.at near.count × Far w.now q.now far.at far.count × Ended q.now a b ab }
+    ensures fair { Fair (bar result) y.pairs (flat_map (λ c. flat_map (trial_at (quality_of y) q.now a b c) (part w.now far.at far.count)) (part w.now near.at near.count)) }
+    ensures neutral { NeutralUnder result w.now q.now far.at far.count a b }
 {
-    if nears < FEW {
-        return -1.0 / 0.0;
+    if near.count < FEW {
+        return None;
     }
-    if !all_neutral(w, q, far_at, fars, a, b) {
-        return -1.0 / 0.0;
+    if !all_neutral(w, q, far, a, b) {
+        return None;
     }
-    let i = steepest(w, q, near_at, nears, a, b);
-    let c = w[near_at + i] as usize;
+    let i = steepest(w, q, near, a, b);
+    let c = w[near.at + i] as usize;
     let ca = length(q, c, a);
     let h = Half { a, b, c, ab, ca };
-    let k = with_node(scores, nodes, 0, y, w, q, far_at, fars, h);
+    let k = with_node(scores, nodes, 0, y, w, q, far, h);
     if k < y.pairs {
-        return -1.0 / 0.0;
+        return None;
     }
     if k == 0 {
-        return -1.0 / 0.0;
+        return None;
     }
-    scores[k - 1]
+    Some(scores[k - 1])
 }
 
 // With the pairs of c, but where its corner is below the floor, or below the last score kept where no more are
@@ -210,20 +204,19 @@ fn with_reaching(
     y: Quality,
     w: &[u32],
     q: &[f64],
-    far_at: usize,
-    fars: usize,
+    far: Part,
     a: usize,
     b: usize,
     ab: f64,
     c: usize,
-    floor: f64,
+    floor: Option<f64>,
 ) -> usize
     requires count_le_pairs { (count ≤ y.pairs) × (y.pairs ≤ room) × Falling (listed scores.old nodes.old count) }
-    requires far { Far w.now q.now far_at fars × Ended q.now a b ab × Within q.now c }
-    requires neutral_below { NeutralBelow floor w.now q.now far_at fars a b }
-    ensures { KeepsAbove floor scores.new nodes.new y.pairs result (take y.pairs (onto trial_before (reaching floor (flat_map (trial_at (quality_of y) q.now a b c) (part w.now far_at fars))) (reaching floor (listed scores.old nodes.old count)))) }
+    requires far { Far w.now q.now far.at far.count × Ended q.now a b ab × Within q.now c }
+    requires neutral_below { NeutralUnder floor w.now q.now far.at far.count a b }
+    ensures { KeepsAbove (bar floor) scores.new nodes.new y.pairs result (take y.pairs (onto trial_before (reaching (bar floor) (flat_map (trial_at (quality_of y) q.now a b c) (part w.now far.at far.count))) (reaching (bar floor) (listed scores.old nodes.old count)))) }
 {
-    if -1.0 / 0.0 < floor {
+    if let Some(floor) = floor {
         let x = corner_at(q, a, b, c);
         if x < floor {
             return count;
@@ -234,7 +227,7 @@ fn with_reaching(
     }
     let ca = length(q, c, a);
     let h = Half { a, b, c, ab, ca };
-    with_node(scores, nodes, count, y, w, q, far_at, fars, h)
+    with_node(scores, nodes, count, y, w, q, far, h)
 }
 
 // The best pairs, and how many; those whose corner is below a floor that enough pairs reach are not gone through.
@@ -256,16 +249,20 @@ pub fn best(
     requires by_index { (n : ℕ) × Named n w.now q.now near_at nears far_at fars a b }
     ensures { (m : Mesh) (n : ℕ) → m.points ≡ first_points n q.now → Named n w.now q.now near_at nears far_at fars a b → Keeps scores.new nodes.new y.pairs result (trials (quality_of y) m a b (part w.now near_at nears) (part w.now far_at fars)) }
 {
+    let near = Part {
+        at: near_at,
+        count: nears,
+    };
+    let far = Part {
+        at: far_at,
+        count: fars,
+    };
     let ab = length(q, a, b);
-    let floor = floor_of(
-        scores, nodes, y, w, q, near_at, nears, far_at, fars, a, b, ab,
-    );
+    let floor = floor_of(scores, nodes, y, w, q, near, far, a, b, ab);
     let mut k = 0;
-    let mut i = nears;
-    while 0 < i {
-        i -= 1;
-        let c = w[near_at + i] as usize;
-        k = with_reaching(scores, nodes, k, y, w, q, far_at, fars, a, b, ab, c, floor);
+    for i in (0..near.count).rev() {
+        let c = w[near.at + i] as usize;
+        k = with_reaching(scores, nodes, k, y, w, q, far, a, b, ab, c, floor);
     }
     k
 }

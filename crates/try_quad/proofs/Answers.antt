@@ -8,7 +8,8 @@ use native.Mathlib.Omega.{arith}
 use lib.ListN.{length, get_or, drop}
 use lib.Seq.{drop-drop}
 use lib.Ieee.{Float}
-use Rattle.definition.specs.Counts.{Spent, Placement, of_points, of_slots, of_trace, Want}
+use Rattle.std.specs.Prelude.{Some, None, Ok, Err}
+use Rattle.definition.specs.Counts.{Spent, Placement, Want}
 use Rattle.definition.specs.Numbers.{Settings, second_turn}
 use Rattle.definition.specs.Cells.{Mesh, this_round}
 use Rattle.definition.specs.Call.{first_points}
@@ -29,12 +30,13 @@ use Rattle.trials.specs.Kept.{Stands as StandsAt, Keeps as KeepsTrials}
 use Rattle.trials.specs.Ranked.{part, length_part, part_at, Named}
 use Rattle.trials.specs.Nodes.{Sound, names_of, sound}
 use Rattle.outcomes.specs.Ready.{Ready, Behind}
-use Rattle.outcomes.specs.Ends.{only_inserted, Plain, Left, AttemptTo, attempt_mesh, end_of, end_for}
+use Rattle.outcomes.specs.Ends.{only_inserted, Plain, Left, AttemptTo, attempt_mesh, shortage_of, end_of, end_for}
+use Rattle.outcomes.specs.declared.Kind.TheVariants as kinds
+use Rattle.outcomes.specs.declared.Shortage.{Shortage}
 use Rattle.outcomes.specs.declared.End.{End}
 use Rattle.outcomes.specs.declared.End.TheVariants as ends
 use Rattle.outcomes.specs.declared.Tried.{Tried}
 use Rattle.side_nodes.specs.Sides.{CanSeek, ListedAt, LeftAt, SidesAre, SidesTo, sides_mesh}
-use Rattle.side_nodes.specs.declared.side.Found.TheVariants as founds
 use Rattle.side_nodes.specs.declared.side.Side.{Side}
 use Rattle.pairs.specs.Pair.{CanPair, PairsTo}
 use Rattle.pairs.proofs.Orders.{spent_is}
@@ -76,20 +78,20 @@ behind_both q q1 q2 n a b = record { len = b.len ∙ a.len; rest = b.rest ∙ a.
 -- ---- which of the definition's answers it is
 
 module _ (w : List ℕ) (q q' : List Float) (rules : Rules) (at : ℕ) (c : Counters) (r : Side) where
-  pub record IsFound (x : Sides) : Type 0 where
+  pub record IsFound (k : ℕ) (x : Sides) : Type 0 where
     pub cs : List ℕ
     pub n : Spent
     pub m : Mesh
     pub is : x ≡ found cs n m
-    pub listed : ListedAt w at r.count r.counters.points cs
+    pub listed : ListedAt w at k r.counters.points cs
     pub left : LeftAt w q q' rules c n m r
 
-  pub at_found : (x : Sides) → SidesAre w q q' rules at c x r → r.found ≡ founds.Found → IsFound x
-  at_found (found cs n m) h e = record { cs = cs; n = n; m = m; is = refl; listed = h.1; left = h.2 }
-  at_found (missing n m) h e = clash (let a = h.0 in cc)
-  at_found (overfull of_points n m) h e = clash (let a = h.0 in cc)
-  at_found (overfull of_slots n m) h e = clash (let a = h.0 in cc)
-  at_found (overfull of_trace n m) h e = clash (let a = h.0 in cc)
+  pub at_found : (k : ℕ) (x : Sides) → SidesAre w q q' rules at c x r → r.found ≡ Ok (Some k) → IsFound k x
+  at_found k (found cs n m) h e =
+      let same : h.0.0 ≡ k = (let a = h.0.1 in cc) in
+      record { cs = cs; n = n; m = m; is = refl; listed = subst (λ (z : ℕ). ListedAt w at z r.counters.points cs) same h.0.2; left = h.1 }
+  at_found k (missing n m) h e = clash (let a = h.0 in cc)
+  at_found k (overfull wt n m) h e = clash (let a = h.0 in cc)
 
   left_plain : (n : Spent) (m : Mesh) (e : End) (t : Tried) → LeftAt w q q' rules c n m r → Plain e r.counters r.at r.inserted 0 0 t → Left w q q' rules c n m t
   left_plain n m e t l h =
@@ -108,41 +110,23 @@ module _ (w : List ℕ) (q q' : List Float) (rules : Rules) (at : ℕ) (c : Coun
     at_once x y e i same l k z =
         subst (λ (o : Attempt). TriedTo w w q q' base tr rules c o t) (sym i) (record {
           is = z;
-          beyond = stays_refl w (refused_at rules.slots rules.capacity) (near_at rules.slots rules.capacity);
+          beyond = stays_refl w (refused_at rules.lay.slots rules.lay.points) (near_at rules.lay.slots rules.lay.points);
           log = subst (λ (m : Mesh). Logged base tr t.at m) same (subst (λ (n : ℕ). Logged base tr n (sides_mesh x)) (sym k.at) l);
         })
 
-    pub if_missing : (x : Sides) → SidesAre w q q' rules at c x r → Logged base tr r.at (sides_mesh x) → r.found ≡ founds.Missing → Plain ends.Placement r.counters r.at r.inserted 0 0 t → TriedTo w w q q' base tr rules c (A x) t
+    pub if_missing : (x : Sides) → SidesAre w q q' rules at c x r → Logged base tr r.at (sides_mesh x) → r.found ≡ Ok None → Plain (ends.Refused kinds.Placement) r.counters r.at r.inserted 0 0 t → TriedTo w w q q' base tr rules c (A x) t
     unfolding end_of
-    if_missing (found cs n m) h l e k = clash (let a = h.0 in cc)
-    if_missing (missing n m) h l e k = at_once (missing n m) (refused Placement n m) ends.Placement (am n m) refl l k (k.end, left_plain n m ends.Placement t h.1 k)
-    if_missing (overfull of_points n m) h l e k = clash (let a = h.0 in cc)
-    if_missing (overfull of_slots n m) h l e k = clash (let a = h.0 in cc)
-    if_missing (overfull of_trace n m) h l e k = clash (let a = h.0 in cc)
+    if_missing (found cs n m) h l e k = clash (let a = h.0.1 in cc)
+    if_missing (missing n m) h l e k = at_once (missing n m) (refused Placement n m) (ends.Refused kinds.Placement) (am n m) refl l k (k.end, left_plain n m (ends.Refused kinds.Placement) t h.1 k)
+    if_missing (overfull wt n m) h l e k = clash (let a = h.0 in cc)
 
-    pub if_no_point : (x : Sides) → SidesAre w q q' rules at c x r → Logged base tr r.at (sides_mesh x) → r.found ≡ founds.NoPoint → Plain ends.NoPoint r.counters r.at r.inserted 0 0 t → TriedTo w w q q' base tr rules c (A x) t
+    pub if_short : (x : Sides) (short : Shortage) → SidesAre w q q' rules at c x r → Logged base tr r.at (sides_mesh x) → r.found ≡ Err short → Plain (ends.Short short) r.counters r.at r.inserted 0 0 t → TriedTo w w q q' base tr rules c (A x) t
     unfolding end_for
-    if_no_point (found cs n m) h l e k = clash (let a = h.0 in cc)
-    if_no_point (missing n m) h l e k = clash (let a = h.0 in cc)
-    if_no_point (overfull of_points n m) h l e k = at_once (overfull of_points n m) (ended of_points n m) ends.NoPoint (ao of_points n m) refl l k (k.end, left_plain n m ends.NoPoint t h.1 k)
-    if_no_point (overfull of_slots n m) h l e k = clash (let a = h.0 in cc)
-    if_no_point (overfull of_trace n m) h l e k = clash (let a = h.0 in cc)
-
-    pub if_no_slots : (x : Sides) → SidesAre w q q' rules at c x r → Logged base tr r.at (sides_mesh x) → r.found ≡ founds.NoSlots → Plain ends.NoSlots r.counters r.at r.inserted 0 0 t → TriedTo w w q q' base tr rules c (A x) t
-    unfolding end_for
-    if_no_slots (found cs n m) h l e k = clash (let a = h.0 in cc)
-    if_no_slots (missing n m) h l e k = clash (let a = h.0 in cc)
-    if_no_slots (overfull of_points n m) h l e k = clash (let a = h.0 in cc)
-    if_no_slots (overfull of_slots n m) h l e k = at_once (overfull of_slots n m) (ended of_slots n m) ends.NoSlots (ao of_slots n m) refl l k (k.end, left_plain n m ends.NoSlots t h.1 k)
-    if_no_slots (overfull of_trace n m) h l e k = clash (let a = h.0 in cc)
-
-    pub if_no_trace : (x : Sides) → SidesAre w q q' rules at c x r → Logged base tr r.at (sides_mesh x) → r.found ≡ founds.NoTrace → Plain ends.NoTrace r.counters r.at r.inserted 0 0 t → TriedTo w w q q' base tr rules c (A x) t
-    unfolding end_for
-    if_no_trace (found cs n m) h l e k = clash (let a = h.0 in cc)
-    if_no_trace (missing n m) h l e k = clash (let a = h.0 in cc)
-    if_no_trace (overfull of_points n m) h l e k = clash (let a = h.0 in cc)
-    if_no_trace (overfull of_slots n m) h l e k = clash (let a = h.0 in cc)
-    if_no_trace (overfull of_trace n m) h l e k = at_once (overfull of_trace n m) (ended of_trace n m) ends.NoTrace (ao of_trace n m) refl l k (k.end, left_plain n m ends.NoTrace t h.1 k)
+    if_short (found cs n m) short h l e k = clash (let a = h.0.1 in cc)
+    if_short (missing n m) short h l e k = clash (let a = h.0 in cc)
+    if_short (overfull wt n m) short h l e k =
+        let same : short ≡ shortage_of wt = (let a = h.0 in cc) in
+        at_once (overfull wt n m) (ended wt n m) (ends.Short short) (ao wt n m) refl l k (k.end ∙ ap ends.Short same, left_plain n m (ends.Short short) t h.1 k)
 
 module _ (g : Settings) (f : Stance) where
   pub both_missing : (cs : List ℕ) (n : Spent) (m : Mesh) → try_both g f cs (missing n m) ≡ refused Placement n m
@@ -174,10 +158,10 @@ first_eq rules f cs n k m a b ea eb en = rw (ea, eb, en)
 
 -- ---- with the side nodes at both ends
 
-module _ {w : List ℕ} {q₀ q : List Float} {rules : Rules} {c₀ : Counters} {u v a b nears : ℕ} {far : Side} {cs : List ℕ} {x : Sides}
-    (h : Both w q₀ q rules c₀ u v a b nears far cs x) (e : far.found ≡ founds.Found) where
-  abbrev pub both_found : IsFound w q₀ q rules (far_at rules.slots rules.capacity) c₀ far x
-  both_found = at_found w q₀ q rules (far_at rules.slots rules.capacity) c₀ far x h.is e
+module _ {w : List ℕ} {q₀ q : List Float} {rules : Rules} {c₀ : Counters} {u v a b nears : ℕ} {far : Side} {cs : List ℕ} {x : Sides} {many : ℕ}
+    (h : Both w q₀ q rules c₀ u v a b nears far cs x) (e : far.found ≡ Ok (Some many)) where
+  abbrev pub both_found : IsFound w q₀ q rules (far_at rules.lay.slots rules.lay.points) c₀ far many x
+  both_found = at_found w q₀ q rules (far_at rules.lay.slots rules.lay.points) c₀ far many x h.is e
 
   pub both_lock : {j : List ℕ} → LocksIn j x → Locks j both_found.m.locked
   both_lock l = rw both_found.is at l
@@ -188,16 +172,16 @@ module _ {w : List ℕ} {q₀ q : List Float} {rules : Rules} {c₀ : Counters} 
   pub both_round : {base tr : List ℕ} {at round : ℕ} → LogsIn base tr at round x → round ≡ this_round both_found.m
   both_round l = l.in_round ∙ ap (λ y. this_round (sides_mesh y)) both_found.is
 
-  pub both_sizes : Sizes rules.slots rules.capacity
-  both_sizes = sizes w rules.slots rules.capacity both_found.left.ready.rep.room
+  pub both_sizes : Sizes rules.lay.slots rules.lay.points
+  both_sizes = sizes w rules.lay.slots rules.lay.points both_found.left.ready.rep.room
 
   points_are : both_found.m.points ≡ first_points far.counters.points q
   points_are = both_found.left.ready.pts.are ∙ ap (λ (z : ℕ). first_points z q) (sym both_found.left.ready.counted.points)
 
-  named : Named far.counters.points w q (near_at rules.slots rules.capacity) nears (far_at rules.slots rules.capacity) far.count a b
+  named : Named far.counters.points w q (near_at rules.lay.slots rules.lay.points) nears (far_at rules.lay.slots rules.lay.points) many a b
   named =
       let y = both_found.left.ready in
-      let n : far.counters.points ≤ rules.capacity = omega (arith, y.counted.points, y.rep.points) in
+      let n : far.counters.points ≤ rules.lay.points = omega (arith, y.counted.points, y.rep.points) in
       record {
         points = omega (arith, n, y.pts.fits);
         a_below = h.ends.first;
@@ -209,23 +193,23 @@ module _ {w : List ℕ} {q₀ q : List Float} {rules : Rules} {c₀ : Counters} 
       }
 
   -- with the offsets that were computed
-  module _ {na fa : ℕ} (en : na ≡ near_at rules.slots rules.capacity) (ef : fa ≡ far_at rules.slots rules.capacity) where
-    pub both_named : Named far.counters.points w q na nears fa far.count a b
+  module _ {na fa : ℕ} (en : na ≡ near_at rules.lay.slots rules.lay.points) (ef : fa ≡ far_at rules.lay.slots rules.lay.points) where
+    pub both_named : Named far.counters.points w q na nears fa many a b
     both_named =
-        subst (λ (z : ℕ). Named far.counters.points w q z nears fa far.count a b) (sym en)
-        (subst (λ (z : ℕ). Named far.counters.points w q (near_at rules.slots rules.capacity) nears z far.count a b) (sym ef) named)
+        subst (λ (z : ℕ). Named far.counters.points w q z nears fa many a b) (sym en)
+        (subst (λ (z : ℕ). Named far.counters.points w q (near_at rules.lay.slots rules.lay.points) nears z many a b) (sym ef) named)
 
     abbrev pub kept_list : List Trial
     kept_list = trials (quality_of rules.quality) both_found.m a b cs both_found.cs
 
-    lists : trials (quality_of rules.quality) both_found.m a b (part w na nears) (part w fa far.count) ≡ kept_list
+    lists : trials (quality_of rules.quality) both_found.m a b (part w na nears) (part w fa many) ≡ kept_list
     lists =
-        ap (λ (l : List ℕ). trials (quality_of rules.quality) both_found.m a b l (part w fa far.count)) (ap (λ (z : ℕ). part w z nears) en ∙ h.near.are)
-        ∙ ap (λ (l : List ℕ). trials (quality_of rules.quality) both_found.m a b cs l) (ap (λ (z : ℕ). part w z far.count) ef ∙ both_found.listed.are)
+        ap (λ (l : List ℕ). trials (quality_of rules.quality) both_found.m a b l (part w fa many)) (ap (λ (z : ℕ). part w z nears) en ∙ h.near.are)
+        ∙ ap (λ (l : List ℕ). trials (quality_of rules.quality) both_found.m a b cs l) (ap (λ (z : ℕ). part w z many) ef ∙ both_found.listed.are)
 
     module _ (scores : List Float) (nodes : List ℕ) (count : ℕ)
-        (k : (m : Mesh) (n : ℕ) → m.points ≡ first_points n q → Named n w q na nears fa far.count a b
-        → KeepsTrials scores nodes rules.quality.pairs count (trials (quality_of rules.quality) m a b (part w na nears) (part w fa far.count))) where
+        (k : (m : Mesh) (n : ℕ) → m.points ≡ first_points n q → Named n w q na nears fa many a b
+        → KeepsTrials scores nodes rules.quality.pairs count (trials (quality_of rules.quality) m a b (part w na nears) (part w fa many))) where
       pub can_pair : CanPair w q rules far.counters u v a b nodes count both_found.m kept_list
       can_pair =
           let y = quality_of rules.quality in
@@ -236,7 +220,7 @@ module _ {w : List ℕ} {q₀ q : List Float} {rules : Rules} {c₀ : Counters} 
             known = h.ends.known;
             kept = names_of scores nodes rules.quality.pairs count kept_list (subst (λ (l : List Trial). KeepsTrials scores nodes rules.quality.pairs count l) lists kept) h.pairs;
             sound = subst (λ (l : List Trial). (i : ℕ) (x : Trial) → i < length l → StandsAt l i x → Sound far.counters.points a b x) lists
-                (sound y both_found.m far.counters.points w q na nears fa far.count a b both_named);
+                (sound y both_found.m far.counters.points w q na nears fa many a b both_named);
             first = h.ends.first;
             second = h.ends.second;
             apart = h.ends.apart;
@@ -252,7 +236,7 @@ module _ {w : List ℕ} {q₀ q : List Float} {rules : Rules} {c₀ : Counters} 
       }
 
   attempt_after : (w' : List ℕ) (y : Attempt) (t : Tried) → AttemptOn both_found.m.points y → AttemptTo w' q q rules far.counters y t → AttemptTo w' q₀ q rules c₀ y t
-  attempt_after w' (placed n m k) t o z = (z.0, z.1, left_after w' n m t o z.2)
+  attempt_after w' (placed n m k) t o z = (z.0, left_after w' n m t o z.1)
   attempt_after w' (refused why n m) t o z = (z.0, left_after w' n m t o z.1)
   attempt_after w' (ended wt n m) t o z = (z.0, left_after w' n m t o z.1)
 
@@ -275,10 +259,10 @@ module _ {w : List ℕ} {q₀ q : List Float} {rules : Rules} {c₀ : Counters} 
 
 -- ---- with the side nodes at the first end
 
-module _ {w : List ℕ} {q₀ q : List Float} {rules : Rules} {c₀ : Counters} {u v a b seed : ℕ} {near : Side} {x : Sides}
-    (h : First w q₀ q rules c₀ u v a b seed near x) (e : near.found ≡ founds.Found) where
-  abbrev pub first_found : IsFound w q₀ q rules (near_at rules.slots rules.capacity) c₀ near x
-  first_found = at_found w q₀ q rules (near_at rules.slots rules.capacity) c₀ near x h.is e
+module _ {w : List ℕ} {q₀ q : List Float} {rules : Rules} {c₀ : Counters} {u v a b seed : ℕ} {near : Side} {x : Sides} {many : ℕ}
+    (h : First w q₀ q rules c₀ u v a b seed near x) (e : near.found ≡ Ok (Some many)) where
+  abbrev pub first_found : IsFound w q₀ q rules (near_at rules.lay.slots rules.lay.points) c₀ near many x
+  first_found = at_found w q₀ q rules (near_at rules.lay.slots rules.lay.points) c₀ near many x h.is e
 
   pub first_lock : {j : List ℕ} → LocksIn j x → Locks j first_found.m.locked
   first_lock l = rw first_found.is at l
@@ -290,10 +274,10 @@ module _ {w : List ℕ} {q₀ q : List Float} {rules : Rules} {c₀ : Counters} 
   first_round l = l.in_round ∙ ap (λ y. this_round (sides_mesh y)) first_found.is
 
   pub first_valid : Valid first_found.m
-  first_valid = valid w rules.slots rules.capacity first_found.m first_found.left.ready.rep
+  first_valid = valid w rules.lay.slots rules.lay.points first_found.m first_found.left.ready.rep
 
-  pub first_sizes : Sizes rules.slots rules.capacity
-  first_sizes = sizes w rules.slots rules.capacity first_found.left.ready.rep.room
+  pub first_sizes : Sizes rules.lay.slots rules.lay.points
+  first_sizes = sizes w rules.lay.slots rules.lay.points first_found.left.ready.rep.room
 
   ends_on : (n : ℕ) → c₀.points ≤ n → Ends n u v a b
   ends_on n l =
@@ -301,7 +285,7 @@ module _ {w : List ℕ} {q₀ q : List Float} {rules : Rules} {c₀ : Counters} 
       record { up = k.up; known = omega (arith, l, k.known); first = omega (arith, l, k.first); second = omega (arith, l, k.second); apart = k.apart }
 
   -- with the offset that was computed
-  pub seek_far : {fa : ℕ} → fa ≡ far_at rules.slots rules.capacity → CanSeek w q rules near.counters fa b a seed near.inserted first_found.m
+  pub seek_far : {fa : ℕ} → fa ≡ far_at rules.lay.slots rules.lay.points → CanSeek w q rules near.counters fa b a seed near.inserted first_found.m
   seek_far ef =
       let k = ends_on near.counters.points first_found.left.more in
       subst (λ (z : ℕ). CanSeek w q rules near.counters z b a seed near.inserted first_found.m) (sym ef) (record {
@@ -328,46 +312,42 @@ module _ {w : List ℕ} {q₀ q : List Float} {rules : Rules} {c₀ : Counters} 
       }
 
   sides_both : (w' : List ℕ) (q' : List Float) (at : ℕ) (y : Sides) (r : Side) → SidesAre w' q q' rules at near.counters y r → SidesAre w' q₀ q' rules at c₀ y r
-  sides_both w' q' at (found ds n m) r z = (z.0, z.1, left_both w' q' n m r z.2)
+  sides_both w' q' at (found ds n m) r z = (z.0, left_both w' q' n m r z.1)
   sides_both w' q' at (missing n m) r z = (z.0, left_both w' q' n m r z.1)
-  sides_both w' q' at (overfull of_points n m) r z = (z.0, left_both w' q' n m r z.1)
-  sides_both w' q' at (overfull of_slots n m) r z = (z.0, left_both w' q' n m r z.1)
-  sides_both w' q' at (overfull of_trace n m) r z = (z.0, left_both w' q' n m r z.1)
+  sides_both w' q' at (overfull wt n m) r z = (z.0, left_both w' q' n m r z.1)
 
   sides_more : (w' : List ℕ) (q' : List Float) (at : ℕ) (y : Sides) (r : Side) → SidesAre w' q q' rules at near.counters y r → near.counters.points ≤ r.counters.points
-  sides_more w' q' at (found ds n m) r z = z.2.more
+  sides_more w' q' at (found ds n m) r z = z.1.more
   sides_more w' q' at (missing n m) r z = z.1.more
-  sides_more w' q' at (overfull of_points n m) r z = z.1.more
-  sides_more w' q' at (overfull of_slots n m) r z = z.1.more
-  sides_more w' q' at (overfull of_trace n m) r z = z.1.more
+  sides_more w' q' at (overfull wt n m) r z = z.1.more
 
-  module _ {fa : ℕ} {w' : List ℕ} {q' : List Float} {base t' : List ℕ} {y : Sides} {far : Side} (ef : fa ≡ far_at rules.slots rules.capacity) (z₀ : SidesTo w w' q q' base t' rules fa near.counters y far) where
-    z : SidesTo w w' q q' base t' rules (far_at rules.slots rules.capacity) near.counters y far
+  module _ {fa : ℕ} {w' : List ℕ} {q' : List Float} {base t' : List ℕ} {y : Sides} {far : Side} (ef : fa ≡ far_at rules.lay.slots rules.lay.points) (z₀ : SidesTo w w' q q' base t' rules fa near.counters y far) where
+    z : SidesTo w w' q q' base t' rules (far_at rules.lay.slots rules.lay.points) near.counters y far
     z = subst (λ (n : ℕ). SidesTo w w' q q' base t' rules n near.counters y far) ef z₀
 
-    near_in : near_at rules.slots rules.capacity + near.count ≤ far_at rules.slots rules.capacity
+    near_in : near_at rules.lay.slots rules.lay.points + many ≤ far_at rules.lay.slots rules.lay.points
     near_in = let k = first_found.left.ready in omega (arith, first_found.listed.few, k.counted.points, k.rep.points)
 
-    near_still : ListedAt w' (near_at rules.slots rules.capacity) near.count far.counters.points first_found.cs
+    near_still : ListedAt w' (near_at rules.lay.slots rules.lay.points) many far.counters.points first_found.cs
     near_still =
         let l = first_found.listed in
         let k = first_found.left.ready.rep.room.fits in
-        let more = sides_more w' q' (far_at rules.slots rules.capacity) y far z.is in
+        let more = sides_more w' q' (far_at rules.lay.slots rules.lay.points) y far z.is in
         record {
-          are = same_part w w' (near_at rules.slots rules.capacity) near.count z.len (omega (arith, near_in, k)) (λ i o t. z.before i (omega (arith, o)) (omega (arith, t, near_in))) ∙ l.are;
+          are = same_part w w' (near_at rules.lay.slots rules.lay.points) many z.len (omega (arith, near_in, k)) (λ i o t. z.before i (omega (arith, o)) (omega (arith, t, near_in))) ∙ l.are;
           few = omega (arith, l.few, more);
           below = λ i t.
-              let o = z.before (near_at rules.slots rules.capacity + i) (omega arith) (omega (arith, t, near_in)) in
+              let o = z.before (near_at rules.lay.slots rules.lay.points + i) (omega arith) (omega (arith, t, near_in)) in
               let g = l.below i t in
               omega (arith, o, g, more);
         }
 
-    pub both_of : Both w' q₀ q' rules c₀ u v a b near.count far first_found.cs y
+    pub both_of : Both w' q₀ q' rules c₀ u v a b many far first_found.cs y
     both_of =
         record {
-          is = sides_both w' q' (far_at rules.slots rules.capacity) y far z.is;
+          is = sides_both w' q' (far_at rules.lay.slots rules.lay.points) y far z.is;
           near = near_still;
-          ends = ends_on far.counters.points (omega (arith, first_found.left.more, sides_more w' q' (far_at rules.slots rules.capacity) y far z.is));
+          ends = ends_on far.counters.points (omega (arith, first_found.left.more, sides_more w' q' (far_at rules.lay.slots rules.lay.points) y far z.is));
           pairs = h.pairs;
         }
 
@@ -384,6 +364,6 @@ module _ {w : List ℕ} {q₀ q : List Float} {rules : Rules} {c₀ : Counters} 
           let same = sym (first_is ∙ ap (try_both (settings_of rules) f first_found.cs) (sym ey)) in
           record {
             is = subst (λ (o : Attempt). AttemptTo w2 q₀ q' rules c₀ o t) same k.is;
-            beyond = stays_trans w w' w2 (refused_at rules.slots rules.capacity) (near_at rules.slots rules.capacity) (record { len = z.len; same = λ i l o. z.before i l (omega (arith, o)) }) k.beyond;
+            beyond = stays_trans w w' w2 (refused_at rules.lay.slots rules.lay.points) (near_at rules.lay.slots rules.lay.points) (record { len = z.len; same = λ i l o. z.before i l (omega (arith, o)) }) k.beyond;
             log = subst (λ (o : Attempt). Logged base t2 t.at (attempt_mesh o)) same k.log;
           }

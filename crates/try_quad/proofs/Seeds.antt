@@ -52,13 +52,13 @@ unfolding try_seed
 seed_right g m u v seed t h = rw (h, try_seed)
 
 module _ (w : List ℕ) (q : List Float) (rules : Rules) (c : Counters) (u v : ℕ) (m : Mesh) (h : CanAttempt w q rules c u v m)
-    (seed : ℕ) (e : seed ≡ slot_or rules.slots (tri_owner m (key u v))) where
-  e' : seed ≡ slot_or rules.slots (tri_owner m (u, v))
-  e' = e ∙ ap (λ k. slot_or rules.slots (tri_owner m k)) (key_up u v h.up)
+    (seed : ℕ) (e : seed ≡ slot_or rules.lay.slots (tri_owner m (key u v))) where
+  e' : seed ≡ slot_or rules.lay.slots (tri_owner m (u, v))
+  e' = e ∙ ap (λ k. slot_or rules.lay.slots (tri_owner m k)) (key_up u v h.up)
 
-  pub no_seed : (g : Settings) → rules.slots ≤ seed → try_quad g m (u, v) ≡ refused Placement nothing_spent m
+  pub no_seed : (g : Settings) → rules.lay.slots ≤ seed → try_quad g m (u, v) ≡ refused Placement nothing_spent m
   unfolding try_quad try_owner
-  no_seed g l = rw (owner_none w rules.slots rules.capacity m h.ready.rep (u, v) seed e' l)
+  no_seed g l = rw (owner_none w rules.lay.slots rules.lay.points m h.ready.rep (u, v) seed e' l)
 
   pub up_ends : Ends c.points u v u v
   up_ends = record { up = h.up; known = h.known; first = omega (arith, h.up, h.known); second = h.known; apart = λ z. omega (arith, h.up, z) }
@@ -66,22 +66,22 @@ module _ (w : List ℕ) (q : List Float) (rules : Rules) (c : Counters) (u v : �
   pub down_ends : Ends c.points u v v u
   down_ends = record { up = h.up; known = h.known; first = h.known; second = omega (arith, h.up, h.known); apart = λ z. omega (arith, h.up, z) }
 
-  module _ (hs : seed < rules.slots) where
-    abbrev own : Found w rules.slots rules.capacity m h.ready.rep (u, v) seed
-    own = owner_found w rules.slots rules.capacity m h.ready.rep (u, v) seed e' hs
+  module _ (hs : seed < rules.lay.slots) where
+    abbrev own : Found w rules.lay.slots rules.lay.points m h.ready.rep (u, v) seed
+    own = owner_found w rules.lay.slots rules.lay.points m h.ready.rep (u, v) seed e' hs
 
-    seed_read : tri_read w rules.slots seed ≡ own.t
+    seed_read : tri_read w rules.lay.slots seed ≡ own.t
     unfolding new_live
-    seed_read = tri_path w rules.slots seed own.t (read_tri w rules.slots seed own.t (rep_held w rules.slots rules.capacity m h.ready.rep own.has).at)
+    seed_read = tri_path w rules.lay.slots seed own.t (read_tri w rules.lay.slots seed own.t (rep_held w rules.lay.slots rules.lay.points m h.ready.rep own.has).at)
 
-    module _ (apex : ℕ) (ea : apex ≡ third (tri_read w rules.slots seed) (u, v)) where
+    module _ (apex : ℕ) (ea : apex ≡ third (tri_read w rules.lay.slots seed) (u, v)) where
       apex_is : apex ≡ third own.t (u, v)
       apex_is = ea ∙ ap (λ t. third t (u, v)) seed_read
 
       pub apex_known : apex < c.points
       unfolding new_live
       apex_known =
-          let l = third_below (length m.points) own.t (u, v) (rep_held w rules.slots rules.capacity m h.ready.rep own.has).shape in
+          let l = third_below (length m.points) own.t (u, v) (rep_held w rules.lay.slots rules.lay.points m h.ready.rep own.has).shape in
           omega (arith, apex_is, l, h.ready.counted.points)
 
       left_is : (0·0 ≺ cross (point_at q u) (point_at q v) (point_at q apex)) ≡ lies_left m (u, v) own.t

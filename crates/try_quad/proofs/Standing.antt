@@ -5,7 +5,7 @@ use mathlib.Core.List.{List, [], ◌∷◌}
 use Prim.Native.Nat.{ℕ, suc, ◌<◌, ◌≤◌}
 use native.Mathlib.Omega.{arith}
 use lib.Ieee.{Float}
-use Rattle.definition.specs.Counts.{Spent, nothing_spent, inserting, Placement, of_points, of_slots, of_trace}
+use Rattle.definition.specs.Counts.{Spent, nothing_spent, inserting, Placement}
 use Rattle.definition.specs.Floats.{◌≼◌}
 use Rattle.definition.specs.Numbers.{Settings, Turn, first_turn, tiny_length}
 use Rattle.definition.specs.Plane.{Vec, from_to, norm, dist, edge_length, size_mismatch}
@@ -24,6 +24,7 @@ use Rattle.edge_candidates.specs.Wanted.{turn}
 use Rattle.traces.specs.Log.{Logged}
 use Rattle.outcomes.specs.Ready.{Ready}
 use Rattle.outcomes.specs.Ends.{only_inserted, Plain, AttemptTo, attempt_mesh, end_of}
+use Rattle.outcomes.specs.declared.Kind.TheVariants as kinds
 use Rattle.outcomes.specs.declared.End.TheVariants as ends
 use Rattle.outcomes.specs.declared.Tried.{Tried}
 use Rattle.side_nodes.specs.Sides.{CanSeek, SidesAre, SidesTo}
@@ -61,16 +62,14 @@ unfolding side_nodes
 sides_few g t f n m a other = from_few g f n m a (candidates g.quality t m a other f.seed f.normal f.target)
 
 counted_by : (w : List ℕ) (q q' : List Float) (rules : Rules) (at : ℕ) (c : Counters) (x : Sides) (r : Side) → SidesAre w q q' rules at c x r → r.inserted ≡ count_of x
-counted_by w q q' rules at c (found cs n m) r h = ap (λ z. z.insertions) h.2.spent
+counted_by w q q' rules at c (found cs n m) r h = ap (λ z. z.insertions) h.1.spent
 counted_by w q q' rules at c (missing n m) r h = ap (λ z. z.insertions) h.1.spent
-counted_by w q q' rules at c (overfull of_points n m) r h = ap (λ z. z.insertions) h.1.spent
-counted_by w q q' rules at c (overfull of_slots n m) r h = ap (λ z. z.insertions) h.1.spent
-counted_by w q q' rules at c (overfull of_trace n m) r h = ap (λ z. z.insertions) h.1.spent
+counted_by w q q' rules at c (overfull wt n m) r h = ap (λ z. z.insertions) h.1.spent
 
 -- ---- an attempt that ends before anything is done
 
 pub refused_at_once : (w : List ℕ) (q : List Float) (base tr : List ℕ) (at : ℕ) (rules : Rules) (c : Counters) (m : Mesh) → Ready w q rules c m → Logged base tr at m
-    → (t : Tried) → Plain ends.Placement c at 0 0 0 t
+    → (t : Tried) → Plain (ends.Refused kinds.Placement) c at 0 0 0 t
     → (x : Attempt) → x ≡ refused Placement nothing_spent m → TriedTo w w q q base tr rules c x t
 unfolding end_of nothing_spent
 refused_at_once w q base tr at rules c m y l t k x e =
@@ -84,7 +83,7 @@ refused_at_once w q base tr at rules c m y l t k x e =
           behind = record { len = refl; rest = refl };
         },
       );
-      beyond = stays_refl w (refused_at rules.slots rules.capacity) (near_at rules.slots rules.capacity);
+      beyond = stays_refl w (refused_at rules.lay.slots rules.lay.points) (near_at rules.lay.slots rules.lay.points);
       log = subst (λ (z : ℕ). Logged base tr z m) (sym k.at) l;
     })
 
@@ -103,9 +102,9 @@ module _ (w : List ℕ) (q : List Float) (rules : Rules) (c : Counters) (u v : �
   pub known_within : (x : ℕ) → x < c.points → Within q x
   known_within x l = let y = h.ready in omega (arith, l, y.counted.points, y.pts.few, y.pts.fits)
 
-  module _ (a b seed : ℕ) (d : Ends c.points u v a b) (hs : seed < rules.slots) where
+  module _ (a b seed : ℕ) (d : Ends c.points u v a b) (hs : seed < rules.lay.slots) where
     -- with the offset that was computed
-    pub seek_near : {na : ℕ} → na ≡ near_at rules.slots rules.capacity → CanSeek w q rules c na a b seed 0 m
+    pub seek_near : {na : ℕ} → na ≡ near_at rules.lay.slots rules.lay.points → CanSeek w q rules c na a b seed 0 m
     seek_near en =
         subst (λ (z : ℕ). CanSeek w q rules c z a b seed 0 m) (sym en)
         (record { ready = h.ready; first = d.first; second = d.second; apart = d.apart; seeded = hs; from = omega arith; to = omega arith; few = omega arith })
@@ -158,9 +157,9 @@ module _ (w : List ℕ) (q : List Float) (rules : Rules) (c : Counters) (u v : �
           rw (ef, z, long_is, y)
 
     -- the first end's side nodes
-    module _ (f : Stance) {na : ℕ} {w' : List ℕ} {q' : List Float} {base t' : List ℕ} {near : Side} (en : na ≡ near_at rules.slots rules.capacity)
+    module _ (f : Stance) {na : ℕ} {w' : List ℕ} {q' : List Float} {base t' : List ℕ} {near : Side} (en : na ≡ near_at rules.lay.slots rules.lay.points)
         (z₀ : SidesTo w w' q q' base t' rules na c (side_nodes (settings_of rules) (turn true) f (only_inserted 0) m a b) near) where
-      z : SidesTo w w' q q' base t' rules (near_at rules.slots rules.capacity) c (side_nodes (settings_of rules) (turn true) f (only_inserted 0) m a b) near
+      z : SidesTo w w' q q' base t' rules (near_at rules.lay.slots rules.lay.points) c (side_nodes (settings_of rules) (turn true) f (only_inserted 0) m a b) near
       z = subst (λ (n : ℕ). SidesTo w w' q q' base t' rules n c (side_nodes (settings_of rules) (turn true) f (only_inserted 0) m a b) near) en z₀
 
       pub first_of : First w' q q' rules c u v a b seed near (side_nodes (settings_of rules) (turn true) f (only_inserted 0) m a b)
@@ -169,17 +168,17 @@ module _ (w : List ℕ) (q : List Float) (rules : Rules) (c : Counters) (u v : �
             is = z.is;
             ends = d;
             seeded = hs;
-            few = omega (arith, counted_by w' q q' rules (near_at rules.slots rules.capacity) c (side_nodes (settings_of rules) (turn true) f (only_inserted 0) m a b) near z.is, sides_few (settings_of rules) (turn true) f (only_inserted 0) m a b);
+            few = omega (arith, counted_by w' q q' rules (near_at rules.lay.slots rules.lay.points) c (side_nodes (settings_of rules) (turn true) f (only_inserted 0) m a b) near z.is, sides_few (settings_of rules) (turn true) f (only_inserted 0) m a b);
             pairs = h.pairs;
           }
 
       pub first_log : {round : ℕ} → round ≡ this_round m → LogsIn base t' near.at round (side_nodes (settings_of rules) (turn true) f (only_inserted 0) m a b)
-      first_log e = sides_log (settings_of rules) m (valid w rules.slots rules.capacity m h.ready.rep) (turn true) f (only_inserted 0) a b z.log e
+      first_log e = sides_log (settings_of rules) m (valid w rules.lay.slots rules.lay.points m h.ready.rep) (turn true) f (only_inserted 0) a b z.log e
 
       pub along_to : {w2 : List ℕ} {q2 : List Float} {t2 : List ℕ} {t : Tried} {x y : Attempt} → x ≡ y → TriedTo w' w2 q q2 base t2 rules c y t → TriedTo w w2 q q2 base t2 rules c x t
       along_to {w2} {q2} {t2} {t} e k =
           record {
             is = subst (λ (o : Attempt). AttemptTo w2 q q2 rules c o t) (sym e) k.is;
-            beyond = stays_trans w w' w2 (refused_at rules.slots rules.capacity) (near_at rules.slots rules.capacity) (record { len = z.len; same = z.before }) k.beyond;
+            beyond = stays_trans w w' w2 (refused_at rules.lay.slots rules.lay.points) (near_at rules.lay.slots rules.lay.points) (record { len = z.len; same = z.before }) k.beyond;
             log = subst (λ (o : Attempt). Logged base t2 t.at (attempt_mesh o)) (sym e) k.log;
           }

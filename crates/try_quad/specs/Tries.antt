@@ -27,7 +27,7 @@ pub record CanAttempt (w : List ℕ) (q : List Float) (rules : Rules) (c : Count
 -- what happened to the mesh is in the trace
 pub record TriedTo (w w' : List ℕ) (q q' : List Float) (base t' : List ℕ) (rules : Rules) (c : Counters) (x : Attempt) (r : Tried) : Type 0 where
   pub is : AttemptTo w' q q' rules c x r
-  pub beyond : Beyond w w' rules.slots rules.capacity
+  pub beyond : Beyond w w' rules.lay.slots rules.lay.points
   pub log : Logged base t' r.at (attempt_mesh x)
 
 -- the edge u-v and its ends a and b, two nodes below n
@@ -48,16 +48,16 @@ pub record Stands (f : Stance) (u v a b seed : ℕ) (normal : Vec) (target : Flo
 -- the side nodes cs at a are listed, and those at b are x;
 -- q₀ and c₀ were the points and the counters before the attempt
 pub record Both (w : List ℕ) (q₀ q : List Float) (rules : Rules) (c₀ : Counters) (u v a b nears : ℕ) (far : Side) (cs : List ℕ) (x : Sides) : Type 0 where
-  pub is : SidesAre w q₀ q rules (far_at rules.slots rules.capacity) c₀ x far
-  pub near : ListedAt w (near_at rules.slots rules.capacity) nears far.counters.points cs
+  pub is : SidesAre w q₀ q rules (far_at rules.lay.slots rules.lay.points) c₀ x far
+  pub near : ListedAt w (near_at rules.lay.slots rules.lay.points) nears far.counters.points cs
   pub ends : Ends far.counters.points u v a b
   pub pairs : rules.quality.pairs ≤ room
 
 -- the side nodes at a are x; the seed is a slot
 pub record First (w : List ℕ) (q₀ q : List Float) (rules : Rules) (c₀ : Counters) (u v a b seed : ℕ) (near : Side) (x : Sides) : Type 0 where
-  pub is : SidesAre w q₀ q rules (near_at rules.slots rules.capacity) c₀ x near
+  pub is : SidesAre w q₀ q rules (near_at rules.lay.slots rules.lay.points) c₀ x near
   pub ends : Ends c₀.points u v a b
-  pub seeded : seed < rules.slots
+  pub seeded : seed < rules.lay.slots
   pub few : near.inserted < 2
   pub pairs : rules.quality.pairs ≤ room
 

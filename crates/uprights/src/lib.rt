@@ -9,6 +9,7 @@ ghost use Rattle.definition.specs.Cells.{new_tri};
 ghost use Rattle.accept.specs.Accept.{above};
 ghost use Rattle.uprights.specs.Promise.{turn_at, upright_at, Near, Readable, FirstFlat};
 
+use exact_tests::corners::Corner;
 use exact_tests::turns::turns_left;
 use plane::points::at;
 use words::wide;
@@ -21,7 +22,11 @@ pub fn runs_left(points: &[f64], a: u32, b: u32, c: u32) -> bool
     let here = at(points, wide(a));
     let after = at(points, wide(b));
     let before = at(points, wide(c));
-    turns_left(before, here, after)
+    turns_left(Corner {
+        before,
+        here,
+        after,
+    })
 }
 
 // Whether the triangle a, b, c runs counterclockwise once it is upright: it has an area.
@@ -29,26 +34,21 @@ fn has_area(points: &[f64], a: u32, b: u32, c: u32) -> bool
     requires { Near points.now a × Near points.now b × Near points.now c }
     ensures { result ≡ above (turn_at points.now (upright_at points.now (new_tri a b c))) }
 {
-    if runs_left(points, a, b, c) {
-        return true;
-    }
-    runs_left(points, a, c, b)
+    runs_left(points, a, b, c) || runs_left(points, a, c, b)
 }
 
-// The first of n triangles that has no area; n where all have one.
-pub fn first_flat(points: &[f64], triangles: &[u32], n: usize) -> usize
+// The first of n triangles that has no area; None where all have one.
+pub fn first_flat(points: &[f64], triangles: &[u32], n: usize) -> Option<usize>
     requires { Readable points.now triangles.now n }
     ensures { FirstFlat points.now triangles.now n result }
 {
-    let mut i = 0;
-    while i < n {
+    for i in 0..n {
         let a = triangles[3 * i];
         let b = triangles[3 * i + 1];
         let c = triangles[3 * i + 2];
         if !has_area(points, a, b, c) {
-            return i;
+            return Some(i);
         }
-        i += 1;
     }
-    i
+    None
 }

@@ -8,7 +8,6 @@ ghost use Rattle.uprights.specs.Promise.{upright_at};
 ghost use Rattle.uprights.specs.Sides.{upright_words, Corner, Puttable, Readable};
 
 use crate::runs_left;
-use balance::Answer;
 use balance::places::put_sides;
 use balance::runs::first_uneven;
 use sorting::sort_digits;
@@ -35,19 +34,17 @@ fn put_uprights(points: &[f64], triangles: &[u32], n: usize, turned: bool, w: &m
     requires { Puttable points.now triangles.now n w.old at }
     ensures { Placed (upright_words points.now triangles.now n) 3 n turned w.old w.new at }
 {
-    let mut i = 0;
-    while i < n {
+    for i in 0..n {
         let a = triangles[3 * i];
         let b = triangles[3 * i + 1];
         let c = triangles[3 * i + 2];
         put_upright(points, a, b, c, turned, w, at + 3 * i);
-        i += 1;
     }
 }
 
 // Whether the sides of the given triangles, upright by the given points, and those of the quads and of the leftover
 // triangles, upright by the points, balance between every two nodes.
-// The answer is the least edge where they do not.
+// The answer is the least edge where they do not, its lesser node first.
 // The work slice w has four words for each side.
 pub fn balance_upright(
     given_points: &[f64],
@@ -59,7 +56,7 @@ pub fn balance_upright(
     left: &[u32],
     left_count: usize,
     w: &mut [u32],
-) -> Answer
+) -> Option<(usize, usize)>
     requires { Readable given_points.now given.now count points.now quads.now quad_count left.now left_count w.old }
     ensures { Answers (given_sides (upright_words given_points.now given.now count) count) (result_sides quads.now quad_count (upright_words points.now left.now left_count) left_count) result }
 {

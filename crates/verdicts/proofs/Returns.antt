@@ -1,18 +1,18 @@
 -- The answer read back is the definition's.
 use mathlib.Core.Path.{◌≡◌, refl, sym, ap, ap₂, ◌∙◌}
-use mathlib.Core.Logic.{◌≢◌}
 use mathlib.Core.List.{List, ◌++◌}
-use mathlib.Core.Option.{Option, none, some}
-use Prim.Native.Nat.{ℕ, ◌+◌, ◌-◌, ◌≤◌, ◌<◌}
-use native.Mathlib.Decide.{dec_lt}
+use Rattle.std.specs.Prelude.{Option, None, Some, Ok, Err}
+use Rattle.std.proofs.Math.Option as definition
+use Prim.Native.Nat.{ℕ, ◌+◌, ◌-◌, ◌≤◌}
 use native.Mathlib.Omega.{arith}
 use lib.ListN.{length, get_or, take, drop, take-append-drop, length-drop}
 use lib.Seq.{length-take-le, get_or-drop, ext_get_or}
-use borrow.Author.Tests.{eq-eqb, ne_eqb, lt-ltb, le-ltb}
 use Rattle.definition.specs.Call.{first_points, onto, all_of}
 use Rattle.laws.specs.Cells.{points_length}
 use Rattle.laws.specs.Slices.{cleared}
+use Rattle.refusals.specs.Numbers.{number, number_positive}
 use Rattle.refusals.specs.Refusals.{number_of, some_found}
+use Rattle.refusals.specs.declared.named.Refusal.{Refusal}
 use Rattle.uprights.specs.Promise.{FirstFlat}
 use Rattle.accept.specs.Accept.{uprights, moved, verdict}
 use Rattle.accept.specs.Call.{Handed, judged, refused, found, refusal}
@@ -25,33 +25,26 @@ use Rattle.accept_refusals.specs.Passed.{Passed, passed, none_holds}
 use Rattle.verdicts.specs.declared.leaves.Found.{Found}
 use Rattle.verdicts.specs.Leaves.{Finds, finds_says}
 use Rattle.verdicts.specs.Flat.{flat_given, flat_left}
-use Rattle.verdicts.specs.Sides.{option}
-use Rattle.lost_joints.specs.Promise as joints
+use Rattle.lost_joints.specs.Promise.{option}
 use Rattle.verdicts.specs.declared.Answered.{Answered}
-use Rattle.verdicts.specs.Promise.{place, verdict_of, returned, Answers}
+use Rattle.verdicts.specs.Promise.{verdict_of, Answers}
 use Rattle.verdicts.proofs.Rooms.{known, distinct}
 
 -- ---- a refusal
 
-pub refused_so : (h : Handed) (r : Answered) → r.refusal ≡ number_of (refused h) → r.refusal ≢ 0 → Answers h r h.components h.work h.parents
-unfolding returned number_of
-refused_so h r e d =
-    let s = some_found (refused h) (λ z. d (e ∙ z)) in
-    let f : r.refusal ≡ s.0.0 = e ∙ ap number_of s.1 in
-    rw (ne_eqb r.refusal 0 d) (ap (λ k. record { answer = refusal k; components = h.components; work = h.work; parents = h.parents }) f) ∙ sym (call_refused h s.0 s.1)
+pub refused_so : (h : Handed) (e : Refusal) → number e ≡ number_of (refused h) → Answers h (Err e) h.components h.work h.parents
+unfolding number_of
+refused_so h e f =
+    let s = some_found (refused h) (λ z. let p = number_positive e in omega (arith, f, z)) in
+    let g : number e ≡ s.0.0 = f ∙ ap number_of s.1 in
+    ap (λ k. record { answer = refusal k; components = h.components; work = h.work; parents = h.parents }) g ∙ sym (call_refused h s.0 s.1)
 
 -- ---- an answer
 
 -- a place found
-place_is : (n r : ℕ) (o : Option ℕ) → r ≤ n → (r < n → o ≡ some r) → (r ≡ n → o ≡ none) → place n r ≡ o
-unfolding place
-place_is n r o l f g = elim (dec_lt r n) [
-  | yes m ↦ rw (lt-ltb r n m) (sym (f m))
-  | no m ↦ rw (le-ltb r n (omega arith)) (sym (g (omega arith)))
-]
-
-found_place : (n : ℕ) (o : Option ℕ) (r : ℕ) → search.Finds n o r → place n r ≡ o
-found_place n o r f = place_is n r o f.within f.at f.nowhere
+found_place : (n : ℕ) (o : definition.Option ℕ) (r : Option ℕ) → search.Finds n o r → option r ≡ o
+found_place n o None f = sym f
+found_place n o (Some r) f = sym f.1
 
 -- what stands behind the sizes stays
 onto_is : (old new : List ℕ) (m : ℕ) → length new ≡ length old → m ≤ length new → ((i : ℕ) → m ≤ i → get_or new i 0 ≡ get_or old i 0) → new ≡ onto (take m new) old
@@ -63,7 +56,6 @@ onto_is old new m e l h =
 
 -- what the parts answered
 pub record Parts (h : Handed) (r : Answered) (components : List ℕ) (f : Found) (work work' parents parents' : List ℕ) : Type 0 where
-  pub clear : r.refusal ≡ 0
   pub moved_found : search.Finds h.given (moved 0 (first_points h.given h.given_slice) (first_points h.points h.point_slice)) r.moved
   pub added_found : r.added ≡ h.points - h.given
   pub folded_found : FirstFolded h.point_slice h.quad_slice h.quads r.folded
@@ -86,7 +78,7 @@ module _ (h : Handed) (zero_is : number_of (refused h) ≡ 0) where
   pass = passed h zero_is
 
   module _ (r : Answered) (components : List ℕ) (f : Found) (work work' parents parents' : List ℕ) (t : Parts h r components f work work' parents parents') where
-    verdict_is : verdict_of h r components ≡ verdict (uprights (judged h))
+    verdict_is : verdict_of r components ≡ verdict (uprights (judged h))
     unfolding verdict_of verdict judged
     verdict_is =
         let j = uprights (judged h) in
@@ -98,11 +90,11 @@ module _ (h : Handed) (zero_is : number_of (refused h) ≡ 0) where
         let e_added : r.added ≡ (verdict j).added = t.added_found ∙ ap₂ (λ m n. m - n) (sym (points_length h.points h.point_slice)) (sym (points_length h.given h.given_slice)) in
         let e_folded = found_place h.quads (verdict j).folded r.folded (t.folded_found h.points p.quads j refl) in
         let e_sharp = found_place h.quads (verdict j).sharp r.sharp (t.sharp_found h.points p.quads j refl refl) in
-        let e_given = place_is h.count r.given_turned (verdict j).given_turned t.given_found.within g.some_is g.none_is in
-        let e_left = place_is h.left r.left_turned (verdict j).left_turned t.left_found.within l.some_is l.none_is in
+        let e_given = sym g in
+        let e_left = sym l in
         let e_thin = found_place h.left (verdict (judged h)).thin r.thin (t.thin_found h.points p.left (judged h) refl refl) ∙ sym (same_thin (judged h)) in
         let e_uneven = ap option t.uneven_is ∙ sym s.uneven_is in
-        let e_lost = ap joints.option t.lost_is ∙ sym s.lost_is in
+        let e_lost = ap option t.lost_is ∙ sym s.lost_is in
         let e_sizes = ap (λ m. take m components) t.groups_is ∙ s.sizes_are in
         let e_odd = t.odd_is ∙ s.odd_is in
         λ i. record {
@@ -125,14 +117,10 @@ module _ (h : Handed) (zero_is : number_of (refused h) ≡ 0) where
         let s = finds_says h h.components components f (known h pass) (distinct h pass) t.judged_found in
         onto_is h.components components f.components g.size g.room g.behind ∙ ap (λ l. onto l h.components) s.sizes_are
 
-    read_back : returned h r components work' parents' ≡ record { answer = found (verdict_of h r components); components = components; work = work'; parents = parents' }
-    unfolding returned
-    read_back = rw (eq-eqb r.refusal 0 t.clear) refl
-
-    pub answered_so : Answers h r components work' parents'
+    pub answered_so : Answers h (Ok r) components work' parents'
     answered_so =
         let v = verdict_is in
         let c = components_are in
         let w = t.work_clear ∙ cleared 0 work h.work t.work_long in
         let q = t.parents_clear ∙ cleared 0 parents h.parents t.parents_long in
-        read_back ∙ (λ i. record { answer = found (v i); components = c i; work = w i; parents = q i }) ∙ sym (call_answers h (none_holds h zero_is))
+        (λ i. record { answer = found (v i); components = c i; work = w i; parents = q i }) ∙ sym (call_answers h (none_holds h zero_is))

@@ -11,7 +11,6 @@ use Rattle.accept.specs.Accept.{uprights, verdict}
 use Rattle.accept.specs.Call.{Handed, judged}
 use Rattle.verdicts.specs.declared.leaves.Found.{Found}
 use Rattle.verdicts.specs.Odd.{OddOf}
-use Rattle.verdicts.specs.Sides.{option}
 use Rattle.verdicts.specs.Turned.{Known, uneven_read, lost_upright, sizes_upright, odd_upright}
 
 -- cells whose nodes are below 2^20, those of triangles points within 8;
@@ -40,7 +39,7 @@ pub record Finds (p : List Float) (given : List ℕ) (n : ℕ) (q : List Float) 
 
 -- Of what an acceptance is handed, they are fields of the verdict on its mesh with the triangles upright.
 pub record Says (h : Handed) (components : List ℕ) (f : Found) : Type 0 where
-  pub uneven_is : (verdict (uprights (judged h))).uneven ≡ option f.uneven
+  pub uneven_is : (verdict (uprights (judged h))).uneven ≡ joints.option f.uneven
   pub lost_is : (verdict (uprights (judged h))).lost ≡ joints.option f.lost
   pub sizes_are : take f.components components ≡ (verdict (uprights (judged h))).sizes
   pub odd_is : f.odd ≡ (verdict (uprights (judged h))).odd

@@ -1,8 +1,7 @@
 -- What `balance_upright`, `lost_joint` and `groups` found of what an acceptance is handed is what the verdict says.
-use Rattle.std.specs.Prelude.{◌≡◌, refl, true, List, ℕ, ◌+◌, ◌<◌, take}
+use Rattle.std.specs.Prelude.{◌≡◌, refl, true, List, ℕ, ◌+◌, ◌<◌, take, Option, None, Some}
 use Rattle.std.proofs.Common.{sym, ◌∙◌}
 use Rattle.std.proofs.Math.Path.{subst}
-use Rattle.std.proofs.Math.Option.{Option, none, some}
 use Rattle.std.proofs.Math.Decide.{dec_lt}
 use native.Mathlib.Omega.{arith}
 use Rattle.definition.specs.Plane.{Edge}
@@ -11,23 +10,15 @@ use Rattle.definition.specs.Call.{tri_at}
 use Rattle.laws.specs.Bools.{fails}
 use Rattle.laws.specs.Cells.{key_up, key_back}
 use Rattle.account.specs.Triangles.{Distinct}
-use Rattle.balance.specs.declared.Answer.{Answer}
-use Rattle.balance.specs.declared.Answer.TheVariants.{Balanced, Uneven}
 use Rattle.balance.specs.Sides as sides
 use Rattle.balance.specs.Promise as balance
 use Rattle.groups.specs.Promise.{Grouped}
-use Rattle.lost_joints.specs.declared.Lost.{Lost}
 use Rattle.lost_joints.specs.Promise as joints
 use Rattle.accept.specs.Accept.{tri_sides, quad_sides, given_sides, cell_sides, times, walked, Level, verdict}
 use Rattle.accept.proofs.Balance.{times_walked}
 use Rattle.accept.specs.Call.{Handed, judged, corners_at}
 use Rattle.accept.proofs.Least.{names_least}
 use Rattle.accept.proofs.Unique.{sizes_are, first_distinct}
-
--- the least edge that does not balance
-abbrev pub option : Answer → Option Edge
-option Balanced = none
-option (Uneven u v) = some (u, v)
 
 module _ (h : Handed) where
   abbrev G : List Edge
@@ -47,23 +38,23 @@ module _ (h : Handed) where
   balances u v l = sym (walked_is u v) ∙ l ∙ walked_is v u
 
   -- an answer on the sides is the verdict's uneven edge
-  pub uneven_is : (r : Answer) → balance.Answers G R r → (verdict (judged h)).uneven ≡ option r
+  pub uneven_is : (r : Option Edge) → balance.Answers G R r → (verdict (judged h)).uneven ≡ joints.option r
   unfolding verdict
-  uneven_is Balanced a = (names_least (judged h)).holds_none (λ u v. level u v (a u v))
-  uneven_is (Uneven u v) a = (names_least (judged h)).first_only (u, v) (record {
+  uneven_is None a = (names_least (judged h)).holds_none (λ u v. level u v (a u v))
+  uneven_is (Some e) a = (names_least (judged h)).first_only e (record {
     ordered = a.in_order;
-    not_level = λ l. a.fails (balances u v l);
-    least = λ x y n. fails (edge_before (key x y) (u, v)) (λ e. elim (dec_lt x y) [
-      | yes l ↦ n (level x y (a.least x y l (subst (λ d. edge_before d (u, v) ≡ true) (key_up x y l) e)))
+    not_level = λ l. a.fails (balances e.0 e.1 l);
+    least = λ x y n. fails (edge_before (key x y) e) (λ q. elim (dec_lt x y) [
+      | yes l ↦ n (level x y (a.least x y l (subst (λ d. edge_before d e ≡ true) (key_up x y l) q)))
       | no l ↦ elim (dec_lt y x) [
-        | yes m ↦ n (sym (level y x (a.least y x m (subst (λ d. edge_before d (u, v) ≡ true) (key_back x y (omega arith)) e))))
-        | no m ↦ n (let q : y ≡ x = omega arith in subst (λ z. Level (judged h) x z) (sym q) refl)
+        | yes m ↦ n (sym (level y x (a.least y x m (subst (λ d. edge_before d e ≡ true) (key_back x y (omega arith)) q))))
+        | no m ↦ n (let s : y ≡ x = omega arith in subst (λ z. Level (judged h) x z) (sym s) refl)
       ]
     ]);
   })
 
   -- that of `lost_joint` is its lost joint
-  pub lost_is : (r : Lost) → joints.Answers h.triangle_slice h.count h.quad_slice h.quads h.left_slice h.left h.joint_slice h.joints r
+  pub lost_is : (r : Option ℕ) → joints.Answers h.triangle_slice h.count h.quad_slice h.quads h.left_slice h.left h.joint_slice h.joints r
       → (verdict (judged h)).lost ≡ joints.option r
   unfolding verdict
   lost_is r a = joints.lost_is h r a

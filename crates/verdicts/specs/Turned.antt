@@ -1,15 +1,13 @@
 -- An acceptance over triangles turned upright: their slices in place of those handed in.
-use Rattle.std.specs.Prelude.{◌≡◌, List, [], ◌∷◌, map, take, ℕ, ◌<◌}
+use Rattle.std.specs.Prelude.{◌≡◌, List, [], ◌∷◌, map, take, ℕ, ◌<◌, Option}
 use Rattle.std.proofs.Common.{sym, ap, ◌∙◌}
 use Prim.{tt}
 use Rattle.definition.specs.Call.{tri_at, first_tris, first_points}
 use Rattle.definition.specs.Plane.{Edge}
 use Rattle.laws.specs.Bools.{same_bool}
 use Rattle.account.specs.Triangles.{Distinct}
-use Rattle.balance.specs.declared.Answer.{Answer}
 use Rattle.balance.specs.Promise as balance
 use Rattle.groups.specs.Promise.{Grouped}
-use Rattle.lost_joints.specs.declared.Lost.{Lost}
 use Rattle.lost_joints.specs.Promise as joints
 use Rattle.uprights.specs.Promise as turned
 use Rattle.uprights.specs.Sides.{upright_words}
@@ -20,7 +18,7 @@ use Rattle.accept.specs.Call.{Handed, judged}
 use Rattle.accept.proofs.Upright.{upright_stands, stands_upright}
 use Rattle.accept.proofs.Wound.{same_sizes}
 use Rattle.verdicts.specs.Odd.{OddOf}
-use Rattle.verdicts.specs.Sides.{option, uneven_is, lost_is, sizes_is}
+use Rattle.verdicts.specs.Sides.{uneven_is, lost_is, sizes_is}
 
 -- the triangles of two other slices
 abbrev pub with_slices : Handed → List ℕ → List ℕ → Handed
@@ -89,15 +87,15 @@ judged_upright h tris left u =
 -- ---- the verdict on the mesh with its triangles upright
 
 -- what is answered of slices that hold them
-pub uneven_upright : (h : Handed) (tris left : List ℕ) → Uprighted h tris left → (r : Answer)
+pub uneven_upright : (h : Handed) (tris left : List ℕ) → Uprighted h tris left → (r : Option Edge)
     → balance.Answers (balance.given_sides tris h.count) (balance.result_sides h.quad_slice h.quads left h.left) r
-    → (verdict (uprights (judged h))).uneven ≡ option r
+    → (verdict (uprights (judged h))).uneven ≡ joints.option r
 uneven_upright h tris left u r a = sym (ap (λ j. (verdict j).uneven) (judged_upright h tris left u)) ∙ uneven_is (with_slices h tris left) r a
 
 -- what `balance_upright` answers of the slices handed in is the verdict's uneven edge
-pub uneven_read : (h : Handed) → Known h → (r : Answer)
+pub uneven_read : (h : Handed) → Known h → (r : Option Edge)
     → balance.Answers (balance.given_sides (tris_upright h) h.count) (balance.result_sides h.quad_slice h.quads (left_upright h) h.left) r
-    → (verdict (uprights (judged h))).uneven ≡ option r
+    → (verdict (uprights (judged h))).uneven ≡ joints.option r
 uneven_read h k r a = uneven_upright h (tris_upright h) (left_upright h) (read_upright h k) r a
 
 -- a joint stands whichever way the triangles are wound
@@ -112,7 +110,7 @@ same_stands j e =
     (λ x. (stands_decides (uprights j)).complete e (stands_upright (alone j e) (record { joints_found = ((stands_decides j).sound e x, tt) })).joints_found.0)
 
 -- what `lost_joint` answers of the slices handed in is the verdict's lost joint
-pub lost_upright : (h : Handed) (r : Lost) → joints.Answers h.triangle_slice h.count h.quad_slice h.quads h.left_slice h.left h.joint_slice h.joints r
+pub lost_upright : (h : Handed) (r : Option ℕ) → joints.Answers h.triangle_slice h.count h.quad_slice h.quads h.left_slice h.left h.joint_slice h.joints r
     → (verdict (uprights (judged h))).lost ≡ joints.option r
 unfolding verdict
 lost_upright h r a = (λ i. failing (λ e. same_stands (judged h) e i) 0 (judged h).joints) ∙ lost_is h r a

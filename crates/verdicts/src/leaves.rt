@@ -1,34 +1,30 @@
 // The clauses of an acceptance that go by nodes: sides, joints, components.
-ghost use Rattle.std.specs.Prelude.{◌≤◌, length};
+ghost use Rattle.std.specs.Prelude.{length};
 ghost use Rattle.verdicts.specs.Odd.{OddOf};
 ghost use Rattle.verdicts.specs.Leaves.{Judgeable, Finds};
 
-use balance::Answer;
 use groups::groups;
-use lost_joints::{Lost, lost_joint};
+use lost_joints::lost_joint;
 use uprights::sides::balance_upright;
 use words::wide;
 
-// The least edge whose sides do not balance, the first joint that is lost,
+// The least edge whose sides do not balance and the first joint that is lost, None where there is none;
 // how many components the leftover triangles have, and how many of these are odd.
 #[derive(Clone, Copy)]
 pub struct Found {
-    pub uneven: Answer,
-    pub lost: Lost,
+    pub uneven: Option<(usize, usize)>,
+    pub lost: Option<usize>,
     pub components: usize,
     pub odd: usize,
 }
 
-// How many of the first m sizes are odd.
-pub fn count_odd(sizes: &[u32], m: usize) -> usize
-    requires { m ≤ length sizes.now }
-    ensures { OddOf sizes.now m result }
+// How many of the sizes are odd.
+pub fn count_odd(sizes: &[u32]) -> usize
+    ensures { OddOf sizes.now (length sizes.now) result }
 {
     let mut n = 0;
-    let mut i = 0;
-    while i < m {
-        n += wide(sizes[i]) % 2;
-        i += 1;
+    for x in sizes {
+        n += wide(*x) % 2;
     }
     n
 }
@@ -69,7 +65,7 @@ pub fn judge(
         given, count, quads, quad_count, left, left_count, joints, n, w,
     );
     let m = groups(left, left_count, w, parents, components);
-    let odd = count_odd(components, m);
+    let odd = count_odd(&components[..m]);
     Found {
         uneven,
         lost,

@@ -3,7 +3,7 @@
 
 pub mod leaves;
 
-ghost use Rattle.std.specs.Prelude.{◌≡◌, ◌-◌};
+ghost use Rattle.std.specs.Prelude.{◌≡◌};
 ghost use Rattle.refusals.specs.Refusals.{number_of};
 ghost use Rattle.accept.specs.Call.{refused};
 ghost use Rattle.accept_refusals.specs.Stated.{handed};
@@ -11,44 +11,32 @@ ghost use Rattle.verdicts.specs.Promise.{Answers};
 
 use crate::leaves::judge;
 use accept_refusals::{Stated, refusal};
-use balance::Answer;
-use cells::clear::clear_words;
-use lost_joints::Lost;
+use cells::clear::clear;
 use offenders::points::first_moved;
 use offenders::quads::{first_folded, first_sharp};
 use offenders::triangles::first_thin;
+use refusals::Refusal;
 use uprights::first_flat;
 
-// The refusal's number, 0 where none holds; then of each clause the first offender,
-// or how many entries there are where none offends; how many points were added;
+// Of each clause the first offender, None where none offends; how many points were added;
 // the least edge that is not level and the first joint that is lost; how many components there are,
 // and how many are odd.
 #[derive(Clone, Copy)]
 pub struct Answered {
-    pub refusal: usize,
-    pub moved: usize,
+    pub moved: Option<usize>,
     pub added: usize,
-    pub folded: usize,
-    pub sharp: usize,
-    pub given_turned: usize,
-    pub left_turned: usize,
-    pub thin: usize,
-    pub uneven: Answer,
-    pub lost: Lost,
+    pub folded: Option<usize>,
+    pub sharp: Option<usize>,
+    pub given_turned: Option<usize>,
+    pub left_turned: Option<usize>,
+    pub thin: Option<usize>,
+    pub uneven: Option<(usize, usize)>,
+    pub lost: Option<usize>,
     pub groups: usize,
     pub odd: usize,
 }
 
-// The difference m - n, or 0 where m is the lesser.
-fn surplus(m: usize, n: usize) -> usize
-    ensures { result ≡ m - n }
-{
-    if m < n {
-        return 0;
-    }
-    m - n
-}
-
+// Kept (4): the fields are what ten searches found, and no copy of one struct.
 // The verdict on a mesh that no condition refuses.
 fn answer(
     given: &[f64],
@@ -63,10 +51,10 @@ fn answer(
     a: Stated,
 ) -> Answered
     requires { number_of (refused (handed given.now triangles.now points.now quads.now left.now joints.now components.old work.old parents.old a)) ≡ 0 }
-    ensures { Answers (handed given.now triangles.now points.now quads.now left.now joints.now components.old work.old parents.old a) result components.new work.new parents.new }
+    ensures { Answers (handed given.now triangles.now points.now quads.now left.now joints.now components.old work.old parents.old a) (Ok result) components.new work.new parents.new }
 {
     let moved = first_moved(given, a.given, points, a.points);
-    let added = surplus(a.points, a.given);
+    let added = a.points.saturating_sub(a.given);
     let folded = first_folded(points, quads, a.quads);
     let sharp = first_sharp(points, quads, a.quads, a.cosine);
     let given_turned = first_flat(given, triangles, a.count);
@@ -76,12 +64,9 @@ fn answer(
         given, triangles, a.count, points, quads, a.quads, left, a.left, joints, a.joints, work,
         parents, components,
     );
-    let uneven = found.uneven;
-    let lost = found.lost;
-    clear_words(work);
-    clear_words(parents);
+    clear(work, 0);
+    clear(parents, 0);
     Answered {
-        refusal: 0,
         moved,
         added,
         folded,
@@ -89,8 +74,8 @@ fn answer(
         given_turned,
         left_turned,
         thin,
-        uneven,
-        lost,
+        uneven: found.uneven,
+        lost: found.lost,
         groups: found.components,
         odd: found.odd,
     }
@@ -109,29 +94,13 @@ pub fn accept(
     work: &mut [u32],
     parents: &mut [u32],
     a: Stated,
-) -> Answered
+) -> Result<Answered, Refusal>
     ensures { Answers (handed given.now triangles.now points.now quads.now left.now joints.now components.old work.old parents.old a) result components.new work.new parents.new }
 {
-    let k = refusal(
+    refusal(
         given, triangles, points, quads, left, joints, components, work, parents, a,
-    );
-    if k != 0 {
-        return Answered {
-            refusal: k,
-            moved: 0,
-            added: 0,
-            folded: 0,
-            sharp: 0,
-            given_turned: 0,
-            left_turned: 0,
-            thin: 0,
-            uneven: Answer::Balanced,
-            lost: Lost::Nothing,
-            groups: 0,
-            odd: 0,
-        };
-    }
-    answer(
+    )?;
+    Ok(answer(
         given, triangles, points, quads, left, joints, components, work, parents, a,
-    )
+    ))
 }

@@ -1,7 +1,7 @@
-// A word as an index, the lesser and the greater of two numbers, and a double with its bits.
+// A word as an index, and a double with its bits.
 #![tactic(auto)]
 
-ghost use Rattle.std.specs.Prelude.{◌≡◌, min, max};
+ghost use Rattle.std.specs.Prelude.{◌≡◌};
 ghost use Rattle.std.specs.Float.{binary64};
 ghost use Rattle.std.specs.Float.Ieee.{to_bits};
 ghost use Rattle.definition.specs.Floats.{f64};
@@ -12,50 +12,11 @@ const INFINITY: u64 = 0x7ff0000000000000;
 const SIGN: u64 = 0x8000000000000000;
 
 // A word as an index.
+// Kept (4): `x as usize` in its place is no plainer, for an `as` may cut digits off, and `wide` says that none go.
 pub fn wide(x: u32) -> usize
     ensures { result ≡ x }
 {
     x as usize
-}
-
-// The lesser of two numbers.
-pub fn lesser(x: usize, y: usize) -> usize
-    ensures { result ≡ min x y }
-{
-    if x < y {
-        return x;
-    }
-    y
-}
-
-// The greater of two numbers.
-pub fn greater(x: usize, y: usize) -> usize
-    ensures { result ≡ max x y }
-{
-    if x < y {
-        return y;
-    }
-    x
-}
-
-// The lesser of two words.
-pub fn lesser_word(x: u32, y: u32) -> u32
-    ensures { result ≡ min x y }
-{
-    if x < y {
-        return x;
-    }
-    y
-}
-
-// The greater of two words.
-pub fn greater_word(x: u32, y: u32) -> u32
-    ensures { result ≡ max x y }
-{
-    if x < y {
-        return y;
-    }
-    x
 }
 
 // A float's bits; a NaN has those of the logic's one pattern.

@@ -5,6 +5,7 @@ use native.Mathlib.Nat.{add-zero, add_assoc}
 use native.Mathlib.Numerals.{add-one}
 use lib.ListN.{length-drop, take-append-drop}
 use lib.Seq.{set_split, take_at, drop_at, drop-drop, length-take-le}
+use borrow.Rule.Slice.PartMut.{put_mid}
 use Rattle.definition.specs.Text.{Bytes}
 use Rattle.writing.specs.Put.{put, Written}
 
@@ -52,6 +53,11 @@ put_nil p xs = rw (add-zero p) (sym (take-append-drop p xs))
 pub put_byte : (p b : ℕ) (xs : List ℕ) → p < length xs → set xs p b ≡ put p (b ∷ []) xs
 unfolding put
 put_byte p b xs h = rw (add-one p) (set_split xs p b h)
+
+-- a part of the slice that is now the text
+pub put_part : (p k : ℕ) (t xs ys : List ℕ) → ys ≡ t → k ≡ length t → put_mid p k xs ys ≡ put p t xs
+unfolding put
+put_part p k t xs ys e h = rw (e, h, drop-drop (length t) p xs)
 
 -- ---- as steps of a writer
 

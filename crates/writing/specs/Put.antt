@@ -16,3 +16,7 @@ pub record Written (before after : List ℕ) (p : ℕ) (t : Bytes) (q : ℕ) : T
 pub record Within (before after : List ℕ) (p : ℕ) (t : Bytes) (q most : ℕ) : Type 0 where
   pub written : Written before after p t q
   pub short : q ≤ p + most
+
+-- a word's number is the word itself
+abbrev pub itself : ℕ → ℕ
+itself n = n

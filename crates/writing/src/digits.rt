@@ -1,21 +1,19 @@
 // Numbers as digits, and fixed texts.
-ghost use Rattle.std.specs.Prelude.{cond, [], ◌∷◌, ◌++◌, ◌≡◌, ◌+◌, ◌<◌, ◌≤◌, ltb, length};
-ghost use Rattle.definition.specs.Text.{show, hex_in, show_bits};
-ghost use Rattle.writing.specs.Put.{Written, Within};
+ghost use Rattle.std.specs.Prelude.{ℕ, to_bits, cond, [], ◌∷◌, ◌++◌, ◌≡◌, ◌+◌, ◌<◌, ◌≤◌, ltb, length};
+ghost use Rattle.std.specs.Float.{binary64};
+ghost use Rattle.definition.specs.Text.{Bytes, show, hex_in, show_bits};
+ghost use Rattle.writing.specs.Put.{Written, Within, itself};
+
+use words::bits_of;
 
 // A fixed text.
 pub fn fixed(out: &mut [u8], at: usize, text: &[u8]) -> usize
     requires { at + length text.now ≤ length out.old }
     ensures { Written out.old out.new at text.now result }
 {
-    let mut p = at;
-    let mut i = 0;
-    while i < text.len() {
-        out[p] = text[i];
-        p += 1;
-        i += 1;
-    }
-    p
+    let end = at + text.len();
+    out[at..end].copy_from_slice(text);
+    end
 }
 
 // A number in decimal: its last digit after those of a tenth of it.
@@ -32,16 +30,6 @@ fn number(out: &mut [u8], at: usize, n: u32) -> usize
     p + 1
 }
 
-// A number in decimal, then the byte b.
-pub fn number_then(out: &mut [u8], at: usize, n: u32, b: u8) -> usize
-    requires { at + 11 ≤ length out.old }
-    ensures { Within out.old out.new at (show n ++ (b ∷ [])) result 11 }
-{
-    let p = number(out, at, n);
-    out[p] = b;
-    p + 1
-}
-
 // A hexadecimal digit.
 fn hex_digit(d: u64) -> u8
     requires { d < 16 }
@@ -54,6 +42,7 @@ fn hex_digit(d: u64) -> u8
 }
 
 // The last k hexadecimal digits of n.
+// Kept (6): k says how many digits are written, and is no length of a slice.
 fn hexes(out: &mut [u8], at: usize, k: usize, n: u64) -> usize
     requires { at + k ≤ length out.old }
     ensures { Written out.old out.new at (hex_in k n) result }
@@ -66,12 +55,60 @@ fn hexes(out: &mut [u8], at: usize, k: usize, n: u64) -> usize
     p + 1
 }
 
-// The bits of a float, then the byte b.
-pub fn bits_then(out: &mut [u8], at: usize, n: u64, b: u8) -> usize
-    requires { at + 17 ≤ length out.old }
-    ensures { Within out.old out.new at (show_bits n ++ (b ∷ [])) result 17 }
-{
-    let p = hexes(out, at, 16, n);
-    out[p] = b;
-    p + 1
+// What is written in a line, with a byte after it.
+pub trait Shown: Copy {
+    // its number, the number's text, and the most bytes of the text and the byte
+    ghost number_of: { Self → ℕ };
+
+    ghost text: { ℕ → Bytes };
+
+    ghost most: { ℕ };
+
+    // Its text, then the byte b.
+    fn put(self, out: &mut [u8], at: usize, b: u8) -> usize
+        requires { at + most ≤ length out.old }
+        ensures { Within out.old out.new at (text (number_of self) ++ (b ∷ [])) result most };
+}
+
+// A number in decimal.
+impl Shown for u32 {
+    ghost number_of = { itself };
+
+    ghost text = { show };
+
+    ghost most = { 11 };
+
+    fn put(self, out: &mut [u8], at: usize, b: u8) -> usize {
+        let p = number(out, at, self);
+        out[p] = b;
+        p + 1
+    }
+}
+
+// The bits of a float.
+impl Shown for u64 {
+    ghost number_of = { itself };
+
+    ghost text = { show_bits };
+
+    ghost most = { 17 };
+
+    fn put(self, out: &mut [u8], at: usize, b: u8) -> usize {
+        let p = hexes(out, at, 16, self);
+        out[p] = b;
+        p + 1
+    }
+}
+
+// A float, by its bits.
+impl Shown for f64 {
+    ghost number_of = { to_bits binary64 };
+
+    ghost text = { show_bits };
+
+    ghost most = { 17 };
+
+    fn put(self, out: &mut [u8], at: usize, b: u8) -> usize {
+        bits_of(self).put(out, at, b)
+    }
 }

@@ -11,6 +11,8 @@ ghost use Rattle.definition.specs.Text.{bytes, show, show_bits, line_of, lines_o
 ghost use Rattle.writing.specs.Put.{Within};
 ghost use Rattle.writing.specs.Answer.{most_written, columns, lengths_of, lengths_listed, shown, Few, Held, Answered};
 
+use crate::digits::Shown;
+
 // The counts of a finished run that are written.
 #[derive(Clone, Copy)]
 pub struct Counts {
@@ -35,6 +37,7 @@ pub struct Lengths {
 }
 
 // A line of names, then the first n rows of w numbers.
+// Kept (6): what is lent is longer than what is shown of it.
 fn named(out: &mut [u8], at: usize, names: &[u8], xs: &[u32], w: usize, n: usize) -> usize
     requires { (0 < w) × (w * n ≤ length xs.now) × (at + length names.now + 11 * (w * n) ≤ length out.old) }
     ensures { Within out.old out.new at (names.now ++ lines_of show (rows w n xs.now)) result (length names.now + 11 * (w * n)) }
@@ -84,13 +87,14 @@ fn sized(out: &mut [u8], at: usize, n: Lengths) -> usize
 }
 
 // The points are written: k given ones by the bits that were read, and the others up to n.
+// Kept (6): what is lent is longer than what is shown of it.
 fn places(out: &mut [u8], at: usize, bits: &[u64], k: usize, points: &[f64], n: usize) -> usize
     requires { (k ≤ n) × (3 * k ≤ length bits.now) × (3 * n ≤ length points.now) × (at + 6 + 51 * n ≤ length out.old) }
     ensures { Within out.old out.new at (bytes "x y z\n" ++ lines_of show_bits (rows 3 k bits.now ++ points_between k n points.now)) result (6 + 51 * n) }
 {
     let p = digits::fixed(out, at, b"x y z\n");
-    let q = lines::given(out, p, bits, k);
-    lines::added(out, q, points, k, n)
+    let q = lines::table(out, p, bits, 3, k);
+    lines::table(out, q, &points[3 * k..], 3, n - k)
 }
 
 // The answer of a finished run with these counts, whose `given` points are written by their bits.
@@ -126,5 +130,5 @@ pub fn refusal(out: &mut [u8], k: u32) -> usize
     ensures { Answered out.old out.new (show_refusal k) result }
 {
     let p = digits::fixed(out, 0, b"refused\n");
-    digits::number_then(out, p, k, b'\n')
+    k.put(out, p, b'\n')
 }

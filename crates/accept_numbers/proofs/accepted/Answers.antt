@@ -1,49 +1,71 @@
--- The first clause that has an offender makes it 0; where none has, it is 1.
-use mathlib.Core.Path.{sym, ◌∙◌}
-use Rattle.accept_numbers.proofs.Cleans as cleans
+-- No clause has an offender where each answers None, one after the other.
+use Rattle.std.specs.Prelude.{◌≡◌, Bool, true, false, ◌&&◌, is_none}
+use mathlib.Core.Path.{refl, sym, ◌∙◌, ap}
+use Rattle.accept_numbers.proofs.Telling.{none_is, all_absent}
 use Rattle.accept_numbers.proofs.accepted.Goals as goal
+use Rattle.accept_numbers.proofs.accepted.Goals.{then-is_none, else-is_none, then-is_none-2, else-is_none-2, then-is_none-3, else-is_none-3, then-is_none-4, else-is_none-4, then-is_none-5, else-is_none-5, then-is_none-6, else-is_none-6}
 
-pub returns-then-a-s : goal.returns-then-a-s
-returns-then-a-s c =
-    let t = c.args in
-    cleans.moved t.s t.a c.if-a-s.true
+-- one test behind another
+both_then : (v p r n : Bool) → p ≡ true → v ≡ r → r ≡ n → v ≡ p && n
+both_then v p r n e f g = f ∙ g ∙ sym (ap (λ z. z && n) e)
 
-pub returns-then-a-s-2 : goal.returns-then-a-s-2
-returns-then-a-s-2 c =
-    let t = c.args in
-    cleans.folded t.s t.a c.if-a-s.false c.if-a-s-2.true
+both_else : (v p n : Bool) → p ≡ false → v ≡ p → v ≡ p && n
+both_else v p n e f = f ∙ e ∙ sym (ap (λ z. z && n) e)
 
-pub returns-then-a-s-3 : goal.returns-then-a-s-3
-returns-then-a-s-3 c =
-    let t = c.args in
-    cleans.sharp t.s t.a c.if-a-s.false c.if-a-s-2.false c.if-a-s-3.true
+pub returns-then-is_none-7 : goal.returns-then-is_none-7
+returns-then-is_none-7 c components =
+    let s1 : c.if-is_none.value ≡ c.is_none.result && is_none c.args.a.folded = elim c.if-is_none.branch [
+      | then-is_none w ↦ both_then _ _ _ _ w.if-is_none.true w.value-is (none_is _ _ w.is_none-then-is_none.ensures)
+      | else-is_none w ↦ both_else _ _ _ w.if-is_none.false w.value-is
+    ] in
+    let s2 : c.if-is_none-2.value ≡ c.if-is_none.value && is_none c.args.a.sharp = elim c.if-is_none-2.branch [
+      | then-is_none-2 w ↦ both_then _ _ _ _ w.if-is_none-2.true w.value-is (none_is _ _ w.is_none-then-is_none-2.ensures)
+      | else-is_none-2 w ↦ both_else _ _ _ w.if-is_none-2.false w.value-is
+    ] in
+    let s3 : c.if-is_none-3.value ≡ c.if-is_none-2.value && is_none c.args.a.given_turned = elim c.if-is_none-3.branch [
+      | then-is_none-3 w ↦ both_then _ _ _ _ w.if-is_none-3.true w.value-is (none_is _ _ w.is_none-then-is_none-3.ensures)
+      | else-is_none-3 w ↦ both_else _ _ _ w.if-is_none-3.false w.value-is
+    ] in
+    let s4 : c.if-is_none-4.value ≡ c.if-is_none-3.value && is_none c.args.a.left_turned = elim c.if-is_none-4.branch [
+      | then-is_none-4 w ↦ both_then _ _ _ _ w.if-is_none-4.true w.value-is (none_is _ _ w.is_none-then-is_none-4.ensures)
+      | else-is_none-4 w ↦ both_else _ _ _ w.if-is_none-4.false w.value-is
+    ] in
+    let s5 : c.if-is_none-5.value ≡ c.if-is_none-4.value && is_none c.args.a.thin = elim c.if-is_none-5.branch [
+      | then-is_none-5 w ↦ both_then _ _ _ _ w.if-is_none-5.true w.value-is (none_is _ _ w.is_none-then-is_none-5.ensures)
+      | else-is_none-5 w ↦ both_else _ _ _ w.if-is_none-5.false w.value-is
+    ] in
+    let s6 : c.if-is_none-6.value ≡ c.if-is_none-5.value && is_none c.args.a.uneven = elim c.if-is_none-6.branch [
+      | then-is_none-6 w ↦ both_then _ _ _ _ w.if-is_none-6.true w.value-is (none_is _ _ w.is_none-then-is_none-6.ensures)
+      | else-is_none-6 w ↦ both_else _ _ _ w.if-is_none-6.false w.value-is
+    ] in
+    all_absent c.args.a components _ _ _ _ _ _ _ _ (none_is _ _ c.is_none.ensures) s1 s2 s3 s4 s5 s6
+    (both_then _ _ _ _ c.if-is_none-7.true refl (none_is _ _ c.is_none-then-is_none-7.ensures))
 
-pub returns-then-a-s-4 : goal.returns-then-a-s-4
-returns-then-a-s-4 c =
-    let t = c.args in
-    cleans.given_flat t.s t.a c.if-a-s.false c.if-a-s-2.false c.if-a-s-3.false c.if-a-s-4.true
-
-pub returns-then-a-s-5 : goal.returns-then-a-s-5
-returns-then-a-s-5 c =
-    let t = c.args in
-    cleans.left_flat t.s t.a c.if-a-s.false c.if-a-s-2.false c.if-a-s-3.false c.if-a-s-4.false c.if-a-s-5.true
-
-pub returns-then-a-s-6 : goal.returns-then-a-s-6
-returns-then-a-s-6 c =
-    let t = c.args in
-    cleans.thin t.s t.a c.if-a-s.false c.if-a-s-2.false c.if-a-s-3.false c.if-a-s-4.false c.if-a-s-5.false c.if-a-s-6.true
-
--- past the tests of places the edge and the joint decide
-pub returns-then-is_even : goal.returns-then-is_even
-returns-then-is_even c =
-    let e = c in
-    let x = e in
-    let t = x.args in
-    cleans.even t.s t.a x.if-a-s.false x.if-a-s-2.false x.if-a-s-3.false x.if-a-s-4.false x.if-a-s-5.false x.if-a-s-6.false (sym e.is_even.ensures ∙ c.if-is_even.true) c.all_stand.result c.all_stand.ensures
-
-pub returns : goal.returns
-returns c =
-    let e = c in
-    let x = e in
-    let t = x.args in
-    cleans.uneven t.s t.a x.if-a-s.false x.if-a-s-2.false x.if-a-s-3.false x.if-a-s-4.false x.if-a-s-5.false x.if-a-s-6.false (sym e.is_even.ensures ∙ c.if-is_even.false)
+pub returns-else-is_none-7 : goal.returns-else-is_none-7
+returns-else-is_none-7 c components =
+    let s1 : c.if-is_none.value ≡ c.is_none.result && is_none c.args.a.folded = elim c.if-is_none.branch [
+      | then-is_none w ↦ both_then _ _ _ _ w.if-is_none.true w.value-is (none_is _ _ w.is_none-then-is_none.ensures)
+      | else-is_none w ↦ both_else _ _ _ w.if-is_none.false w.value-is
+    ] in
+    let s2 : c.if-is_none-2.value ≡ c.if-is_none.value && is_none c.args.a.sharp = elim c.if-is_none-2.branch [
+      | then-is_none-2 w ↦ both_then _ _ _ _ w.if-is_none-2.true w.value-is (none_is _ _ w.is_none-then-is_none-2.ensures)
+      | else-is_none-2 w ↦ both_else _ _ _ w.if-is_none-2.false w.value-is
+    ] in
+    let s3 : c.if-is_none-3.value ≡ c.if-is_none-2.value && is_none c.args.a.given_turned = elim c.if-is_none-3.branch [
+      | then-is_none-3 w ↦ both_then _ _ _ _ w.if-is_none-3.true w.value-is (none_is _ _ w.is_none-then-is_none-3.ensures)
+      | else-is_none-3 w ↦ both_else _ _ _ w.if-is_none-3.false w.value-is
+    ] in
+    let s4 : c.if-is_none-4.value ≡ c.if-is_none-3.value && is_none c.args.a.left_turned = elim c.if-is_none-4.branch [
+      | then-is_none-4 w ↦ both_then _ _ _ _ w.if-is_none-4.true w.value-is (none_is _ _ w.is_none-then-is_none-4.ensures)
+      | else-is_none-4 w ↦ both_else _ _ _ w.if-is_none-4.false w.value-is
+    ] in
+    let s5 : c.if-is_none-5.value ≡ c.if-is_none-4.value && is_none c.args.a.thin = elim c.if-is_none-5.branch [
+      | then-is_none-5 w ↦ both_then _ _ _ _ w.if-is_none-5.true w.value-is (none_is _ _ w.is_none-then-is_none-5.ensures)
+      | else-is_none-5 w ↦ both_else _ _ _ w.if-is_none-5.false w.value-is
+    ] in
+    let s6 : c.if-is_none-6.value ≡ c.if-is_none-5.value && is_none c.args.a.uneven = elim c.if-is_none-6.branch [
+      | then-is_none-6 w ↦ both_then _ _ _ _ w.if-is_none-6.true w.value-is (none_is _ _ w.is_none-then-is_none-6.ensures)
+      | else-is_none-6 w ↦ both_else _ _ _ w.if-is_none-6.false w.value-is
+    ] in
+    all_absent c.args.a components _ _ _ _ _ _ _ _ (none_is _ _ c.is_none.ensures) s1 s2 s3 s4 s5 s6
+    (both_else _ _ _ c.if-is_none-7.false refl)

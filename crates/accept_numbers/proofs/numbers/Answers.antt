@@ -1,8 +1,8 @@
 -- Each number is that of the verdict read back.
-use mathlib.Core.Path.{sym, ◌∙◌}
-use mathlib.Core.List.{[], ◌∷◌}
+use Rattle.std.specs.Prelude.{[], ◌∷◌}
+use mathlib.Core.Path.{sym, ◌∙◌, ap}
 use lib.ListN.{length-take}
-use Rattle.accept_numbers.proofs.Telling.{place_is}
+use Rattle.accept_numbers.proofs.Telling.{place_is, ends_are, one_if, as_number}
 use Rattle.verdicts.specs.Promise.{verdict_of}
 use Rattle.accept_numbers.specs.Numbers.{listed}
 use Rattle.accept_numbers.proofs.numbers.Goals as goal
@@ -10,27 +10,17 @@ use Rattle.accept_numbers.proofs.numbers.Goals as goal
 pub returns : goal.returns
 unfolding listed verdict_of
 returns c =
-    let l7 = c in
-    let j = c in
-    let v = j in
-    let u = v in
-    let l6 = u in
-    let l5 = l6 in
-    let l4 = l5 in
-    let l3 = l4 in
-    let l2 = l3 in
-    let l1 = l2 in
-    let y = l1 in
-    let t = y.args in
-    let e0 = y.accepted-yes.ensures t.components.now in
-    let e1 = l1.lesser-moved.ensures ∙ place_is t.s.given t.a.moved in
-    let e3 = l2.lesser-folded.ensures ∙ place_is t.s.quads t.a.folded in
-    let e4 = l3.lesser-sharp.ensures ∙ place_is t.s.quads t.a.sharp in
-    let e5 = l4.lesser-given_flat.ensures ∙ place_is t.s.count t.a.given_turned in
-    let e6 = l5.lesser-left_flat.ensures ∙ place_is t.s.left t.a.left_turned in
-    let e7 = l6.lesser-thin.ensures ∙ place_is t.s.left t.a.thin in
-    let e8 = u.smaller_end-u.ensures in
-    let e9 = v.larger_end-v.ensures in
-    let e10 = j.lost_of-joint.ensures in
-    let e11 = l7.lesser-groups.ensures ∙ sym (length-take t.a.groups t.components.now) in
-    λ i. e0 i ∷ e1 i ∷ t.a.added ∷ e3 i ∷ e4 i ∷ e5 i ∷ e6 i ∷ e7 i ∷ e8 i ∷ e9 i ∷ e10 i ∷ e11 i ∷ t.a.odd ∷ []
+    let a = c.args.a in
+    let s = c.args.s in
+    let e0 = c.from-yes.ensures ∙ as_number _ ∙ ap one_if (c.accepted.ensures c.args.components.now) in
+    let e1 = c.unwrap_or.ensures ∙ place_is s.given a.moved in
+    let e3 = c.unwrap_or-2.ensures ∙ place_is s.quads a.folded in
+    let e4 = c.unwrap_or-3.ensures ∙ place_is s.quads a.sharp in
+    let e5 = c.unwrap_or-4.ensures ∙ place_is s.count a.given_turned in
+    let e6 = c.unwrap_or-5.ensures ∙ place_is s.left a.left_turned in
+    let e7 = c.unwrap_or-6.ensures ∙ place_is s.left a.thin in
+    let e8 = ap (λ e. e.0) (c.unwrap_or-u.ensures ∙ ends_are a.uneven) in
+    let e9 = ap (λ e. e.1) (c.unwrap_or-u.ensures ∙ ends_are a.uneven) in
+    let e10 = c.unwrap_or-7.ensures ∙ place_is s.joints a.lost in
+    let e11 = c.min.ensures ∙ sym (length-take a.groups c.args.components.now) in
+    λ i. e0 i ∷ e1 i ∷ a.added ∷ e3 i ∷ e4 i ∷ e5 i ∷ e6 i ∷ e7 i ∷ e8 i ∷ e9 i ∷ e10 i ∷ e11 i ∷ a.odd ∷ []

@@ -9,15 +9,13 @@ use Rattle.allowances.proofs.handed_on.Goals as goal
 
 pub overflow_add-result : goal.overflow_add-result
 overflow_add-result c =
-    let t = c in
-    let g = good (job_of t.args.j) t.requires.j_value in
+    let g = good (job_of c.args.j) c.requires.j_value in
     omega (arith, g.going, g.few)
 
 pub returns : goal.returns
 unfolding handed_on
 returns c =
-    let e = c in
-    let a = e.args in
+    let a = c.args in
     let job : ℕ → ℕ → defined.Job = λ done left. record { meshes = a.j.meshes; allowance = a.j.allowance; done = done; left = left } in
     let more : a.j.done + 1 ≡ suc a.j.done = omega arith in
-    λ i. job (more i) (e.entitled-own.ensures i - a.charged)
+    λ i. job (more i) (c.entitled-own.ensures i - a.charged)

@@ -6,18 +6,17 @@ use Rattle.answer_numbers.proofs.Numbers.{is_4}
 use Rattle.answer_numbers.proofs.short_answer.Goals as goal
 
 pub returns-then-k-eq1 : goal.returns-then-k-eq1
-returns-then-k-eq1 c = λ l h. sym (ap up_to_4 (sym (c.refusal-k.ensures l h) ∙ c.if-k-eq1.true))
+returns-then-k-eq1 c = λ l h. sym (ap up_to_4 (sym (c.number_or_0-k.ensures ∙ c.refusal.ensures l h) ∙ c.if-k-eq1.true))
 
 pub returns-then-k-eq2 : goal.returns-then-k-eq2
-returns-then-k-eq2 c = λ l h. sym (ap up_to_4 (sym (c.refusal-k.ensures l h) ∙ c.if-k-eq2.true))
+returns-then-k-eq2 c = λ l h. sym (ap up_to_4 (sym (c.number_or_0-k.ensures ∙ c.refusal.ensures l h) ∙ c.if-k-eq2.true))
 
 pub returns-then-k-eq3 : goal.returns-then-k-eq3
-returns-then-k-eq3 c = λ l h. sym (ap up_to_4 (sym (c.refusal-k.ensures l h) ∙ c.if-k-eq3.true))
+returns-then-k-eq3 c = λ l h. sym (ap up_to_4 (sym (c.number_or_0-k.ensures ∙ c.refusal.ensures l h) ∙ c.if-k-eq3.true))
 
 pub returns-then-k-eq14 : goal.returns-then-k-eq14
-returns-then-k-eq14 c = λ l h. sym (ap up_to_4 (sym (c.refusal-k.ensures l h) ∙ c.if-k-eq14.true))
+returns-then-k-eq14 c = λ l h. sym (ap up_to_4 (sym (c.number_or_0-k.ensures ∙ c.refusal.ensures l h) ∙ c.if-k-eq14.true))
 
 pub returns : goal.returns
 returns c = λ l h.
-    let r = c in
-    sym (ap up_to_4 (sym (r.refusal-k.ensures l h)) ∙ is_4 r.refusal-k.result c.if-k-eq1.false c.if-k-eq2.false c.if-k-eq3.false c.if-k-eq14.false)
+    sym (ap up_to_4 (sym (c.number_or_0-k.ensures ∙ c.refusal.ensures l h)) ∙ is_4 c.number_or_0-k.result c.if-k-eq1.false c.if-k-eq2.false c.if-k-eq3.false c.if-k-eq14.false)

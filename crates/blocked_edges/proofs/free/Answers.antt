@@ -1,5 +1,5 @@
 -- The four stores are those of `stampedW` at the quad's nodes.
-use Rattle.laws.specs.Kit.{refl, arith, rules, length-set}
+use Rattle.laws.specs.Kit.{refl, arith, length-set}
 use Rattle.definition.specs.Cells.{new_quad, quad_nodes}
 use Rattle.blocked_edges.proofs.Freeing.{Below, free_kept, free_to}
 use Rattle.blocked_edges.proofs.free.Goals as goal

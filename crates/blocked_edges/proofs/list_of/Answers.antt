@@ -1,5 +1,5 @@
 -- The sum, less p where it is not below p.
-use Rattle.laws.specs.Kit.{sym, arith, rules}
+use Rattle.laws.specs.Kit.{sym, arith}
 use Rattle.blocked_edges.proofs.Edges.{list_low, list_high}
 use Rattle.blocked_edges.proofs.list_of.Goals as goal
 
@@ -10,8 +10,7 @@ returns-then-sum-p c =
 
 pub returns : goal.returns
 returns c =
-    let t = c in
-    let a = t.args in
-    let o = t.requires.edge.order in
-    let m = t.requires.edge.below in
+    let a = c.args in
+    let o = c.requires.edge.order in
+    let m = c.requires.edge.below in
     (sym (list_high a.p (a.u, a.v) c.if-sum-p.false), omega (arith, c.if-sum-p.false, o, m))

@@ -1,7 +1,6 @@
 -- The loop's invariant: the nodes below v are opened (Opening.Opened).
-use Rattle.std.specs.Prelude.{◌-◌}
-use Rattle.laws.specs.Kit.{arith, rules, length-set}
-use Rattle.blocked_edges.proofs.Opening.{Opened, open_none, open_more, open_done}
+use Rattle.laws.specs.Kit.{arith, length-set}
+use Rattle.blocked_edges.proofs.Opening.{open_none, open_more, open_done}
 use Rattle.blocked_edges.proofs.open.Goals as goal
 
 pub loop-v-init : goal.loop-v-init
@@ -11,17 +10,15 @@ loop-v-init c =
 
 pub loop-v-preserved : goal.loop-v-preserved
 loop-v-preserved c =
-    let t = c in
-    let a = t.args in
+    let a = c.args in
     let l = c.loop-v in
-    open_more a.w.now l.w a.b a.n a.p l.v t.requires c.loop-v-test.true l.invariant
+    open_more a.w.now l.w a.b a.n a.p l.v c.requires c.loop-v-test.true l.invariant
 
 pub returns : goal.returns
 returns c =
-    let t = c in
-    let a = t.args in
+    let a = c.args in
     let l = c.loop-v in
-    open_done a.w.now l.w a.b a.n a.p l.v t.requires c.loop-v-test.false l.invariant
+    open_done a.w.now l.w a.b a.n a.p l.v c.requires c.loop-v-test.false l.invariant
 
 pub bounds-w-b-in-loop-v : goal.bounds-w-b-in-loop-v
 bounds-w-b-in-loop-v c = simp length-set (omega arith)

@@ -1,7 +1,7 @@
-use Rattle.laws.specs.Kit.{sym, ◌∙◌, ap, ℕ, arith, rules, List}
+use Rattle.laws.specs.Kit.{List}
 use Rattle.definition.specs.Plane.{Edge}
-use Rattle.blocked_edges.specs.Records.{head, Lists}
-use Rattle.blocked_edges.proofs.Walks.{Rest, turns, rest_start, rest_hit, rest_more, rest_falls, rest_end}
+use Rattle.blocked_edges.specs.Records.{Lists}
+use Rattle.blocked_edges.proofs.Walks.{Rest, turns}
 use Rattle.blocked_edges.proofs.seek.Given as goal
 
 abbrev pub invariant-loop-i : goal.invariant-loop-i

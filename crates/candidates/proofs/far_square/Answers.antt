@@ -10,12 +10,9 @@ use Rattle.candidates.proofs.far_square.Goals as goal
 
 pub returns-then-too_far : goal.returns-then-too_far
 returns-then-too_far c =
-    let tf = c in
-    let nm = tf in
-    let sq = nm in
-    let a = sq.args in
-    far_from (quality_of a.y) sq.square-z.result a.target (ap (fits binary64) sq.square-z.ensures ∙ square_fits _)
-    (sym c.if-too_far.true ∙ tf.too_far.ensures ∙ ap (λ (x : Float). too_far (quality_of a.y) x a.target) (nm.norm.ensures ∙ norm_root _ ∙ ap sqrt (sym sq.square-z.ensures)))
+    let a = c.args in
+    far_from (quality_of a.y) c.square-z.result a.target (ap (fits binary64) c.square-z.ensures ∙ square_fits _)
+    (sym c.if-too_far.true ∙ c.too_far.ensures ∙ ap (λ (x : Float). too_far (quality_of a.y) x a.target) (c.norm.ensures ∙ norm_root _ ∙ ap sqrt (sym c.square-z.ensures)))
 
 pub returns : goal.returns
 unfolding f64

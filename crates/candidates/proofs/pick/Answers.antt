@@ -11,23 +11,19 @@ no_boxes k m g = record { some = omega arith; few = omega arith; boxed = λ i l.
 
 pub pick_among-requires : goal.pick_among-requires
 pick_among-requires c =
-    let t = c in
-    let y = t.requires.can_pick in
-    record { can_pick = (y.0, y.1, y.2, no_boxes t.args.k y.0 _); far_from = t.requires.far_from }
+    let y = c.requires in
+    (y.0, y.1, y.2, no_boxes c.args.k y.0 _)
 
 pub shape_of-w-then-k-lt-FEW_WALLS : goal.shape_of-w-then-k-lt-FEW_WALLS
 shape_of-w-then-k-lt-FEW_WALLS c = c.pick_among.auto.w
 
 pub returns-then-k-lt-FEW_WALLS : goal.returns-then-k-lt-FEW_WALLS
 returns-then-k-lt-FEW_WALLS c =
-    let pa = c in
-    let t = pa in
-    λ m g h. pa.pick_among.ensures m g h (no_boxes t.args.k m _)
+    λ m g h. c.pick_among.ensures m g h (no_boxes c.args.k m _)
 
 pub pick_boxed-requires : goal.pick_boxed-requires
 pick_boxed-requires c =
-    let t = c in
-    record { can_pick = t.requires.can_pick; far_from = t.requires.far_from; le_k = c.if-k-lt-FEW_WALLS.false }
+    record { can_pick = c.requires; le_k = c.if-k-lt-FEW_WALLS.false }
 
 pub shape_of-w : goal.shape_of-w
 shape_of-w c = c.pick_boxed.auto.w

@@ -13,30 +13,23 @@ few k h = omega arith
 
 pub overflow_add-size : goal.overflow_add-size
 overflow_add-size c =
-    let t = c in
-    let h = t.requires.can_pick.2.hand in
-    omega (arith, few t.args.k t.requires.le_k, h.few, h.rep.room.small)
+    let h = c.requires.can_pick.2.hand in
+    omega (arith, few c.args.k c.requires.le_k, h.few, h.rep.room.small)
 
 pub box_walls-requires : goal.box_walls-requires
 box_walls-requires c =
-    let t = c in
-    let y = t.requires.can_pick in
-    record { in_hand = (y.0, filter (fenced y.0) y.1, y.2.hand); size_nonzero = (some t.args.k, few t.args.k t.requires.le_k) }
+    let y = c.requires.can_pick in
+    record { in_hand = (y.0, filter (fenced y.0) y.1, y.2.hand); size_nonzero = (some c.args.k, few c.args.k c.requires.le_k) }
 
 pub pick_among-requires : goal.pick_among-requires
 pick_among-requires c =
-    let b = c in
-    let t = b in
-    let y = t.requires.can_pick in
-    record { can_pick = (y.0, y.1, y.2, record { some = some t.args.k; few = few t.args.k t.requires.le_k; boxed = b.box_walls.ensures y.0 (filter (fenced y.0) y.1) y.2.hand }); far_from = t.requires.far_from }
+    let y = c.requires.can_pick in
+    (y.0, y.1, y.2, record { some = some c.args.k; few = few c.args.k c.requires.le_k; boxed = c.box_walls.ensures y.0 (filter (fenced y.0) y.1) y.2.hand })
 
 pub shape_of-w : goal.shape_of-w
 shape_of-w c = c.pick_among.auto.w
 
 pub returns : goal.returns
 returns c =
-    let pa = c in
-    let b = pa in
-    let t = b in
     λ m g h.
-    pa.pick_among.ensures m g h (record { some = some t.args.k; few = few t.args.k t.requires.le_k; boxed = b.box_walls.ensures m (filter (fenced m) g) h.hand })
+    c.pick_among.ensures m g h (record { some = some c.args.k; few = few c.args.k c.requires.le_k; boxed = c.box_walls.ensures m (filter (fenced m) g) h.hand })

@@ -9,10 +9,8 @@ use Rattle.candidates.proofs.region_around.Goals as goal
 pub returns : goal.returns
 unfolding side_margin ◌⊕◌ ◌⊗◌ 0·8 f64 node ground
 returns c =
-    let lr = c in
-    let t = c in
-    let a = t.args in
+    let a = c.args in
     λ m l h.
-    subst (LiveTo a.w.now lr.live_region.new.w a.s a.p lr.live_region.result m)
-    (region_read a.q.now a.p m l.pts a.seed a.a h _ _ ((a.y.side_high ⊕ side_margin) ⊗ a.target) c.at-o.ensures)
-    (lr.live_region.ensures m l)
+    subst (LiveTo a.w.now c.live_region.new.w a.lay.slots a.lay.points c.live_region.result m)
+    (region_read a.q.now a.lay.points m l.pts a.seed a.aim.end h _ _ ((a.aim.quality.side_high ⊕ side_margin) ⊗ a.aim.target) c.at-o.ensures)
+    (c.live_region.ensures m l)

@@ -1,4 +1,4 @@
-use Rattle.laws.specs.Kit.{ap, rules, Float}
+use Rattle.laws.specs.Kit.{ap, Float}
 use Rattle.definition.specs.Floats.{◌≼◌, 0·866, f64}
 use Rattle.definition.specs.Numbers.{edge_dot}
 use Rattle.edge_candidates.proofs.is_near.Goals as goal

@@ -1,5 +1,3 @@
-use Rattle.std.specs.Prelude.{◌≡◌}
-use Rattle.laws.specs.Kit.{rules}
 use Rattle.plane.specs.Vectors.{vec}
 use Rattle.edge_candidates.specs.Wishes.{kept_test}
 use Rattle.edge_candidates.proofs.Fours.{tested_by}
@@ -7,9 +5,8 @@ use Rattle.edge_candidates.proofs.kept_near.Goals as goal
 
 pub returns-then-spread_near : goal.returns-then-spread_near
 returns-then-spread_near c =
-    let s = c in
-    let a = s.args in
-    tested_by (kept_test a.w.now a.b (vec a.e)) 0 a.k (s.spread_near.ensures c.if-spread_near.true)
+    let a = c.args in
+    tested_by (kept_test a.w.now a.b (vec a.e)) 0 a.k (c.spread_near.ensures c.if-spread_near.true)
 
 pub returns-then-k-le-SPREAD : goal.returns-then-k-le-SPREAD
 returns-then-k-le-SPREAD c = c.few_near.ensures

@@ -1,5 +1,5 @@
 use Rattle.std.specs.Prelude.{◌+◌, ◌*◌, ◌<◌}
-use Rattle.laws.specs.Kit.{sym, ◌∙◌, ap, subst, arith, rules}
+use Rattle.laws.specs.Kit.{sym, ◌∙◌, ap, subst, arith}
 use Rattle.plane.specs.Vectors.{vec}
 use Rattle.edge_candidates.specs.Wanted.{turn, near}
 use Rattle.edge_candidates.specs.Wishes.{Tested, kept_test}
@@ -8,13 +8,10 @@ use Rattle.edge_candidates.proofs.near_ideal.Goals as goal
 
 pub returns-then-o-eq0 : goal.returns-then-o-eq0
 returns-then-o-eq0 c =
-    let tu = c in
-    let t1 = tu in
-    let t = t1 in
-    let a = t.args in
+    let a = c.args in
     λ m p other k z.
-    c.is_near.ensures ∙ ap (near (vec a.e)) tu.turned.ensures
-    ∙ sym (near_alone a.w.now a.q.now a.s p a.b a.o m a.a other k z (turn a.left) (vec a.e) t1.if-o-eq0.true)
+    c.is_near.ensures ∙ ap (near (vec a.e)) c.turned.ensures
+    ∙ sym (near_alone a.w.now a.q.now a.s p a.b a.o m a.a other k z (turn a.left) (vec a.e) c.if-o-eq0.true)
 
 pub kept_near-requires : goal.kept_near-requires
 kept_near-requires c =
@@ -23,27 +20,20 @@ kept_near-requires c =
 
 pub returns-then-kept_near : goal.returns-then-kept_near
 returns-then-kept_near c =
-    let kn = c in
-    let t = kn in
-    let a = t.args in
+    let a = c.args in
     λ m p other k z.
     near_kept a.w.now a.q.now a.s p a.b a.o m a.a other k z (turn a.left) (vec a.e)
-    (subst (Tested (kept_test a.w.now (a.b + 2 * a.s) (vec a.e)) 0 a.o.kept) c.if-kept_near.true kn.kept_near.ensures)
+    (subst (Tested (kept_test a.w.now (a.b + 2 * a.s) (vec a.e)) 0 a.o.kept) c.if-kept_near.true c.kept_near.ensures)
 
 pub rest_near-requires : goal.rest_near-requires
 rest_near-requires c =
-    let t = c in
-    let a = t.args in
-    wish_test a.w.now a.q.now a.s t.requires.1 a.b a.o t.requires.0 a.a t.requires.2 t.requires.3 t.requires.4
+    let a = c.args in
+    wish_test a.w.now a.q.now a.s c.requires.1 a.b a.o c.requires.0 a.a c.requires.2 c.requires.3 c.requires.4
 
 pub returns : goal.returns
 returns c =
-    let e2 = c in
-    let kn = e2 in
-    let e1 = kn in
-    let t = e1 in
-    let a = t.args in
-    let h : 0 < a.o.count = omega (arith, e1.if-o-eq0.false) in
+    let a = c.args in
+    let h : 0 < a.o.count = omega (arith, c.if-o-eq0.false) in
     λ m p other k z.
     near_rest a.w.now a.q.now a.s p a.b a.o m a.a other k z (turn a.left) (vec a.e) c.rest_near.result h
-    (subst (Tested (kept_test a.w.now (a.b + 2 * a.s) (vec a.e)) 0 a.o.kept) e2.if-kept_near.false kn.kept_near.ensures) c.rest_near.ensures
+    (subst (Tested (kept_test a.w.now (a.b + 2 * a.s) (vec a.e)) 0 a.o.kept) c.if-kept_near.false c.kept_near.ensures) c.rest_near.ensures

@@ -8,7 +8,4 @@ use Rattle.front_edges.proofs.front_edges.Given as goal
 
 abbrev pub invariant-loop-u : goal.invariant-loop-u
 invariant-loop-u l =
-    (l.u ≤ l.n) × ((m : Mesh) → Rep l.initial.w l.s l.p m → l.n ≡ length m.points → Sofar l.initial.w l.w l.s l.p l.u l.k m)
-
-abbrev pub decreases-loop-u : goal.decreases-loop-u
-decreases-loop-u l = l.n - l.u
+    (l.u ≤ l.n) × ((m : Mesh) → Rep l.initial.w l.lay.slots l.lay.points m → l.n ≡ length m.points → Sofar l.initial.w l.w l.lay.slots l.lay.points l.u l.k m)

@@ -5,32 +5,20 @@ use Rattle.front_edges.proofs.node_fronts.Goals as goal
 
 pub walk_and_note-requires : goal.walk_and_note-requires
 walk_and_note-requires c =
-    let e = c in
-    let n = e in
-    let t = n in
-    let a = t.args in
-    (t.requires.0, record { walk = t.requires.1; free = subst (λ (i : ℕ). get_or a.w.now (i + a.u) 0 % 4 ≡ 0) n.notes_at.ensures e.if-x-eq0.true })
+    let a = c.args in
+    (c.requires.0, record { walk = c.requires.1; free = subst (λ (i : ℕ). get_or a.w.now (i + a.u) 0 % 4 ≡ 0) c.notes_at.ensures c.if-x-eq0.true })
 
 pub returns-then-x-eq0 : goal.returns-then-x-eq0
 returns-then-x-eq0 c = λ m h.
-    let o = c in
-    let e = o in
-    let n = e in
-    let a = n.args in
-    o.walk_and_note.ensures m (record { walk = h; free = subst (λ (i : ℕ). get_or a.w.now (i + a.u) 0 % 4 ≡ 0) n.notes_at.ensures e.if-x-eq0.true })
+    let a = c.args in
+    c.walk_and_note.ensures m (record { walk = h; free = subst (λ (i : ℕ). get_or a.w.now (i + a.u) 0 % 4 ≡ 0) c.notes_at.ensures c.if-x-eq0.true })
 
 pub copy_noted-requires : goal.copy_noted-requires
 copy_noted-requires c =
-    let e = c in
-    let n = e in
-    let t = n in
-    let a = t.args in
-    (t.requires.0, record { walk = t.requires.1; is = ap (λ (i : ℕ). get_or a.w.now (i + a.u) 0 % 4) n.notes_at.ensures; some = e.if-x-eq0.false })
+    let a = c.args in
+    (c.requires.0, record { walk = c.requires.1; is = ap (λ (i : ℕ). get_or a.w.now (i + a.u) 0 % 4) c.notes_at.ensures; some = c.if-x-eq0.false })
 
 pub returns : goal.returns
 returns c = λ m h.
-    let o = c in
-    let e = o in
-    let n = e in
-    let a = n.args in
-    o.copy_noted.ensures m (record { walk = h; is = ap (λ (i : ℕ). get_or a.w.now (i + a.u) 0 % 4) n.notes_at.ensures; some = e.if-x-eq0.false })
+    let a = c.args in
+    c.copy_noted.ensures m (record { walk = h; is = ap (λ (i : ℕ). get_or a.w.now (i + a.u) 0 % 4) c.notes_at.ensures; some = c.if-x-eq0.false })

@@ -4,7 +4,5 @@ use Rattle.front_edges.proofs.note_none.Goals as goal
 
 pub returns : goal.returns
 returns c =
-    let o = c in
-    let t = o in
-    let a = t.args in
-    none_written a.w.now o.mark.new.w a.s a.p a.u t.requires o.mark.ensures
+    let a = c.args in
+    none_written a.w.now c.mark.new.w a.lay.slots a.lay.points a.u c.requires c.mark.ensures

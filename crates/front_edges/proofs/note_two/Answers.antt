@@ -6,21 +6,17 @@ use Rattle.front_edges.proofs.note_two.Goals as goal
 
 pub bounds-w-i-2 : goal.bounds-w-i-2
 bounds-w-i-2 c =
-    let t = c in
-    let a = t.args in
-    let h : c.fronts_at.result + 2 * a.u + 1 < length a.w.now = omega (arith, c.fronts_at.ensures, t.requires.low, t.requires.mark.room.fits) in
+    let a = c.args in
+    let h : c.fronts_at.result + 2 * a.u + 1 < length a.w.now = omega (arith, c.fronts_at.ensures, c.requires.low, c.requires.mark.room.fits) in
     simp length-set h
 
 pub mark-requires : goal.mark-requires
 mark-requires c =
-    let f = c in
-    let v = f in
-    let t = v in
-    let a = t.args in
-    let i = f.fronts_at.result + 2 * a.u in
-    let j = v.front_v_at.result + a.k in record {
-      can_mark = can_mark (set a.w.now i (get_or a.w.now j 0)) a.s a.p a.u (i + 1) (get_or a.w.now (j + 1) 0)
-          (can_mark a.w.now a.s a.p a.u i (get_or a.w.now j 0) t.requires.mark (omega (arith, f.fronts_at.ensures))) (omega (arith, f.fronts_at.ensures));
+    let a = c.args in
+    let i = c.fronts_at.result + 2 * a.u in
+    let j = c.front_v_at.result + a.k in record {
+      can_mark = can_mark (set a.w.now i (get_or a.w.now j 0)) a.lay.slots a.lay.points a.u (i + 1) (get_or a.w.now (j + 1) 0)
+          (can_mark a.w.now a.lay.slots a.lay.points a.u i (get_or a.w.now j 0) c.requires.mark (omega (arith, c.fronts_at.ensures))) (omega (arith, c.fronts_at.ensures));
       n_bound = omega arith;
     }
 
@@ -29,10 +25,6 @@ shape_of-w c = c.mark.auto.w ∙ (simp length-set)
 
 pub returns : goal.returns
 returns c =
-    let o = c in
-    let f = o in
-    let v = f in
-    let t = v in
-    let a = t.args in
-    two_written a.w.now a.s a.p a.u a.k t.requires.mark t.requires.low f.fronts_at.result v.front_v_at.result f.fronts_at.ensures v.front_v_at.ensures o.mark.new.w
-    o.mark.ensures
+    let a = c.args in
+    two_written a.w.now a.lay.slots a.lay.points a.u a.k c.requires.mark c.requires.low c.fronts_at.result c.front_v_at.result c.fronts_at.ensures c.front_v_at.ensures c.mark.new.w
+    c.mark.ensures

@@ -15,44 +15,30 @@ returns-then-v-u c = λ m h. passed refl refl (λ g. omega (arith, g.up, c.if-v-
 
 pub is_front_around-requires : goal.is_front_around-requires
 is_front_around-requires c =
-    let t = c in
-    record { rep = (t.requires.0, t.requires.1.rep); edge = record { node = t.requires.1.second; apart = λ e. omega (arith, e, c.if-v-u.false) } }
+    record { rep = (c.requires.0, c.requires.1.rep); edge = record { node = c.requires.1.second; apart = λ e. omega (arith, e, c.if-v-u.false) } }
 
 pub returns-then-not-is_front_around : goal.returns-then-not-is_front_around
 returns-then-not-is_front_around c = λ m h.
-    let t = c in
-    passed refl refl (λ g. false≢true (sym c.if-not-is_front_around.true ∙ c.is_front_around.ensures m h.rep ∙ front_swap m t.args.v t.args.u ∙ g.front))
+    passed refl refl (λ g. false≢true (sym c.if-not-is_front_around.true ∙ c.is_front_around.ensures m h.rep ∙ front_swap m c.args.v c.args.u ∙ g.front))
 
 pub put_edge-requires : goal.put_edge-requires
 put_edge-requires c =
-    let e = c in
-    let f = e in
-    let o = f in
-    let t = o in
-    let h = t.requires.1 in
+    let h = c.requires.1 in
     record {
       room = h.rep.room;
-      inside = h.inside (record { up = omega (arith, o.if-v-u.false); front = front_swap t.requires.0 t.args.u t.args.v ∙ sym (f.is_front_around.ensures t.requires.0 h.rep) ∙ e.if-not-is_front_around.false });
+      inside = h.inside (record { up = omega (arith, c.if-v-u.false); front = front_swap c.requires.0 c.args.u c.args.v ∙ sym (c.is_front_around.ensures c.requires.0 h.rep) ∙ c.if-not-is_front_around.false });
       first = h.first;
       second = h.second;
     }
 
 pub overflow_add-result : goal.overflow_add-result
 overflow_add-result c =
-    let e = c in
-    let f = e in
-    let o = f in
-    let t = o in
-    let h = t.requires.1 in
-    omega (arith, h.rep.room.small, h.inside (record { up = omega (arith, o.if-v-u.false); front = front_swap t.requires.0 t.args.u t.args.v ∙ sym (f.is_front_around.ensures t.requires.0 h.rep) ∙ e.if-not-is_front_around.false }))
+    let h = c.requires.1 in
+    omega (arith, h.rep.room.small, h.inside (record { up = omega (arith, c.if-v-u.false); front = front_swap c.requires.0 c.args.u c.args.v ∙ sym (c.is_front_around.ensures c.requires.0 h.rep) ∙ c.if-not-is_front_around.false }))
 
 pub returns : goal.returns
 returns c = λ m h.
-    let e = c in
-    let f = e in
-    let o = f in
-    let t = o in
-    taken refl (record { up = omega (arith, o.if-v-u.false); front = front_swap m t.args.u t.args.v ∙ sym (f.is_front_around.ensures m h.rep) ∙ e.if-not-is_front_around.false }) c.put_edge.ensures
+    taken refl (record { up = omega (arith, c.if-v-u.false); front = front_swap m c.args.u c.args.v ∙ sym (c.is_front_around.ensures m h.rep) ∙ c.if-not-is_front_around.false }) c.put_edge.ensures
 
 pub shape_of-w : goal.shape_of-w
 shape_of-w c = c.put_edge.auto.w

@@ -1,5 +1,5 @@
 -- `hashing::times_prime`: the product in three parts, each below 2^64 once its multiples of 2^64 are taken off.
-use Rattle.std.proofs.Common.{◌≡◌, ℕ, ◌+◌, ◌*◌, ◌/◌, ◌%◌, ◌^◌, sym, ap, ◌∙◌, div-add-mod', arith, rules}
+use Rattle.std.proofs.Common.{◌≡◌, ℕ, ◌+◌, ◌*◌, ◌/◌, ◌%◌, ◌^◌, sym, ap, ◌∙◌, div-add-mod', arith}
 use native.Mathlib.Nat.{mod-add-mod, add-mul-mod_self_right}
 use Rattle.hashing.proofs.times_prime.Goals as goal
 

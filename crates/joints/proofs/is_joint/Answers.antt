@@ -1,13 +1,11 @@
 -- Joint i is u-v where both words are the nodes.
-use Rattle.laws.specs.Kit.{arith, rules}
 use Rattle.joints.proofs.Searches.{joint_is, joint_other}
 use Rattle.joints.proofs.is_joint.Goals as goal
 
 pub returns-then-wide-u : goal.returns-then-wide-u
 returns-then-wide-u c =
-    let f = c in
-    let a = f.args in
-    joint_is a.j.now a.i a.u a.v f.wide.result c.wide-then-wide-u.result f.wide.ensures f.if-wide-u.true c.wide-then-wide-u.ensures
+    let a = c.args in
+    joint_is a.j.now a.i a.u a.v c.wide.result c.wide-then-wide-u.result c.wide.ensures c.if-wide-u.true c.wide-then-wide-u.ensures
 
 pub returns : goal.returns
 returns c =

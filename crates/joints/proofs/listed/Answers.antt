@@ -1,9 +1,6 @@
 -- No joint passed is u-v; the first that is answers.
-use Rattle.std.specs.Prelude.{◌≡◌, ◌-◌, ◌<◌, ◌≤◌}
-use Rattle.laws.specs.Kit.{sym, ◌∙◌, false, ℕ, arith, rules, not-suc-le-zero}
+use Rattle.laws.specs.Kit.{sym, ◌∙◌, arith, not-suc-le-zero}
 use borrow.Author.Count.{below_more}
-use Rattle.definition.specs.Cells.{same_edge}
-use Rattle.joints.specs.Table.{edge_in}
 use Rattle.joints.proofs.Searches.{unlisted, found}
 use Rattle.joints.proofs.listed.Goals as goal
 
@@ -20,14 +17,12 @@ is_joint-requires c =
 
 pub returns-then-is_joint : goal.returns-then-is_joint
 returns-then-is_joint c = λ es h.
-    let g = c in
-    let a = g.args in
-    sym (found a.j.now es h (a.u, a.v) g.loop-i.i (omega (arith, g.wide-n.ensures)) (sym c.is_joint.ensures ∙ c.if-is_joint.true))
+    let a = c.args in
+    sym (found a.j.now es h (a.u, a.v) c.loop-i.i (omega (arith, c.wide-n.ensures)) (sym c.is_joint.ensures ∙ c.if-is_joint.true))
 
 pub loop-i-preserved : goal.loop-i-preserved
 loop-i-preserved c =
-    let g = c in
-    (omega arith, below_more _ _ g.loop-i.invariant.1 (sym c.is_joint.ensures ∙ c.if-is_joint.false))
+    (omega arith, below_more _ _ c.loop-i.invariant.1 (sym c.is_joint.ensures ∙ c.if-is_joint.false))
 
 pub returns : goal.returns
 returns c = λ es h.

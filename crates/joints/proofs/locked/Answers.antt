@@ -1,5 +1,5 @@
 -- A node without a mark is in no joint; otherwise the joints are looked through.
-use Rattle.laws.specs.Kit.{sym, ◌∙◌, arith, rules}
+use Rattle.laws.specs.Kit.{sym, ◌∙◌}
 use Rattle.joints.proofs.Searches.{unmarked_first, unmarked_second}
 use Rattle.joints.proofs.locked.Goals as goal
 

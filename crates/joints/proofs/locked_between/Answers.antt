@@ -1,5 +1,5 @@
 -- The smaller node first.
-use Rattle.laws.specs.Kit.{sym, ◌∙◌, ap, arith, rules}
+use Rattle.laws.specs.Kit.{sym, ◌∙◌, ap, arith}
 use Rattle.laws.specs.Cells.{key_up, key_back}
 use Rattle.joints.proofs.locked_between.Goals as goal
 

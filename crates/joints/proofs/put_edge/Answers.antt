@@ -1,5 +1,5 @@
 -- Two words and two marks.
-use Rattle.laws.specs.Kit.{arith, rules, length-set}
+use Rattle.laws.specs.Kit.{arith, length-set}
 use Rattle.joints.proofs.Puts.{put_is}
 use Rattle.joints.proofs.put_edge.Goals as goal
 

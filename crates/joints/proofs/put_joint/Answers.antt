@@ -1,5 +1,5 @@
 -- The smaller node first.
-use Rattle.laws.specs.Kit.{arith, rules}
+use Rattle.laws.specs.Kit.{arith}
 use Rattle.laws.specs.Cells.{key_up, key_back}
 use Rattle.joints.proofs.put_joint.Goals as goal
 

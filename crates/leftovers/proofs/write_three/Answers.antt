@@ -1,4 +1,4 @@
-use Rattle.laws.specs.Kit.{arith, rules, length-set}
+use Rattle.laws.specs.Kit.{arith, length-set}
 use Rattle.leftovers.proofs.Texts.{written}
 use Rattle.leftovers.proofs.write_three.Goals as goal
 

@@ -10,25 +10,21 @@ use Rattle.definition.specs.Call.{joint_at}
 use Rattle.lost_joints.proofs.first_lost.Goals as goal
 
 pub loop-i-init : goal.loop-i-init
-loop-i-init c = (omega arith, λ j h. absurd (not-suc-le-zero h))
+loop-i-init c j h = absurd (not-suc-le-zero h)
 
 pub stands-requires : goal.stands-requires
 stands-requires c =
-    let g = c in
-    let s = g in
-    (s.requires.given_in, s.requires.result_in, s.requires.nodes (2 * g.loop-i.i) (omega arith), s.requires.nodes (2 * g.loop-i.i + 1) (omega arith))
+    (c.requires.given_in, c.requires.result_in, c.requires.nodes (2 * c.loop-i.i) (omega arith), c.requires.nodes (2 * c.loop-i.i + 1) (omega arith))
 
 pub returns-then-not-stands : goal.returns-then-not-stands
 unfolding joint_at key
 returns-then-not-stands c =
-    let g = c in
-    (omega arith, sym c.stands.ensures ∙ c.if-not-stands.true, g.loop-i.invariant.1)
+    (omega arith, sym c.stands.ensures ∙ c.if-not-stands.true, c.loop-i.invariant)
 
 pub loop-i-preserved : goal.loop-i-preserved
 unfolding joint_at key
 loop-i-preserved c =
-    let g = c in
-    (omega arith, below_more _ _ g.loop-i.invariant.1 (sym c.stands.ensures ∙ c.if-not-stands.false))
+    below_more _ _ c.loop-i.invariant (sym c.stands.ensures ∙ c.if-not-stands.false)
 
 pub returns : goal.returns
-returns c = λ i h. c.loop-i.invariant.1 i (omega arith)
+returns c = λ i h. c.loop-i.invariant i (omega arith)

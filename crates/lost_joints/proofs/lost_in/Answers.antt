@@ -19,12 +19,10 @@ slice_bounds-first_lost-end c = sym (length-take-le _ _ c.requires.1)
 
 pub first_lost-requires : goal.first_lost-requires
 first_lost-requires c =
-    let s = c in
-    let w = s.args.w.now in
-    subst (λ v. Searchable (take s.args.at w) s.args.g v s.args.m s.args.joints.now s.args.n) (sym (rest w s.args.at)) s.requires.0
+    let w = c.args.w.now in
+    subst (λ v. Searchable (take c.args.at w) c.args.g v c.args.m c.args.joints.now c.args.n) (sym (rest w c.args.at)) c.requires.0
 
 pub returns : goal.returns
 returns c =
-    let s = c in
-    let w = s.args.w.now in
-    subst (λ v. Names (λ i. stands_in (key_at (take s.args.at w)) s.args.g (key_at v) s.args.m (joint_at s.args.joints.now i)) s.args.n c.first_lost.result) (rest w s.args.at) c.first_lost.ensures
+    let w = c.args.w.now in
+    subst (λ v. Names (λ i. stands_in (key_at (take c.args.at w)) c.args.g (key_at v) c.args.m (joint_at c.args.joints.now i)) c.args.n c.first_lost.result) (rest w c.args.at) c.first_lost.ensures

@@ -15,30 +15,21 @@ slice_bounds-file_edges-end-2 c = sym (length-take-le _ _ (search rules))
 
 pub file_edges-requires : goal.file_edges-requires
 file_edges-requires c =
-    let s = c in
     record {
       quads_sized = omega arith;
-      left_sized = s.requires.given_sized;
+      left_sized = c.requires.given_sized;
       quads_nodes = λ i h. absurd (omega arith);
-      left_nodes = s.requires.given_nodes;
-      work = omega (arith, length-take-le (4 * (3 * s.args.count)) s.args.w.now (omega arith));
+      left_nodes = c.requires.given_nodes;
+      work = omega (arith, length-take-le (4 * (3 * c.args.count)) c.args.w.now (omega arith));
     }
 
 pub lost_in-requires : goal.lost_in-requires
 lost_in-requires c =
-    let b = c in
-    let x = b in
-    let a = x in
-    let s = a in
-    searchable s.args.w.now a.file_edges.new.w b.file_edges-2.new.w (4 * (3 * s.args.count)) (omega arith) (search rules) _ _ _ _ _ _
-    (alone _ _ _ a.file_edges.ensures) b.file_edges-2.ensures s.requires.joints_sized s.requires.joints_nodes
+    searchable c.args.w.now c.file_edges.new.w c.file_edges-2.new.w (4 * (3 * c.args.count)) (omega arith) (search rules) _ _ _ _ _ _
+    (alone _ _ _ c.file_edges.ensures) c.file_edges-2.ensures c.requires.joints_sized c.requires.joints_nodes
 
 pub returns : goal.returns
 returns c =
-    let b = c in
-    let x = b in
-    let a = x in
-    let s = a in
-    answers _ _ _ _ _ _ _ _ s.requires.joints_nodes _ _ _ _ (alone _ _ _ a.file_edges.ensures) b.file_edges-2.ensures c.lost_in.result
-    (in_parts s.args.w.now a.file_edges.new.w b.file_edges-2.new.w (4 * (3 * s.args.count)) (omega arith) (search rules)
-    (3 * s.args.count) (4 * s.args.quad_count + 3 * s.args.left_count) s.args.joints.now s.args.n c.lost_in.result c.lost_in.ensures)
+    answers _ _ _ _ _ _ _ _ c.requires.joints_nodes _ _ _ _ (alone _ _ _ c.file_edges.ensures) c.file_edges-2.ensures c.lost_in.result
+    (in_parts c.args.w.now c.file_edges.new.w c.file_edges-2.new.w (4 * (3 * c.args.count)) (omega arith) (search rules)
+    (3 * c.args.count) (4 * c.args.quad_count + 3 * c.args.left_count) c.args.joints.now c.args.n c.lost_in.result c.lost_in.ensures)

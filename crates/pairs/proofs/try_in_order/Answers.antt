@@ -1,6 +1,6 @@
 -- Before trial i the memory and the trace stand for a mesh from which the trials that are
 -- left give what all of them give.
-use Rattle.std.specs.Prelude.{◌≤◌}
+use Rattle.std.specs.Prelude.{◌≡◌, ◌≤◌}
 use Rattle.laws.specs.Kit.{refl, arith, rules}
 use Rattle.laws.specs.Frames.{keeps_refl, keeps_trans}
 use Rattle.pairs.proofs.Orders.{going_start, going_can, made_few, failed_few, full_few, going_made, going_orphaned, going_full, going_on, going_end}
@@ -42,8 +42,8 @@ overflow_add-flips-in-Failed c =
     let k : l.flips ≤ 3145728 = omega (arith, l.invariant.2, c.loop-i-test.true, can.kept.few) in
     search rules
 
-pub overflow_add-flips-in-Full : goal.overflow_add-flips-in-Full
-overflow_add-flips-in-Full c =
+pub overflow_add-result : goal.overflow_add-result
+overflow_add-result c =
     let h = c.requires in
     let l = c.loop-i in
     let d = c.in-Full in
@@ -51,7 +51,7 @@ overflow_add-flips-in-Full c =
     let g = l.invariant.3 h.0 h.1 h.2 h.3 h.4 can h.6 h.7 h.8 in
     let keep = l.invariant.0 in
     let f = c.try_pair-o.ensures h.0 g.mesh (going_can can keep g c.loop-i-test.true) (rw g.locks h.6) g.log g.in_round in
-    let few = full_few can keep g c.loop-i-test.true f d.end d.f d.words d.is in
+    let few = full_few can keep g c.loop-i-test.true f d.short d.f d.words d.is in
     let k : l.flips ≤ 3145728 = omega (arith, l.invariant.2, c.loop-i-test.true, can.kept.few) in
     search rules
 
@@ -72,7 +72,8 @@ returns-in-Orphaned c =
     let g = l.invariant.3 base a b m ts can lk v rd in
     let keep = l.invariant.0 in
     let f = c.try_pair-o.ensures base g.mesh (going_can can keep g c.loop-i-test.true) (rw g.locks lk) g.log g.in_round in
-    going_orphaned can keep g c.loop-i-test.true f c.without_quad.result c.in-Orphaned.is c.without_quad.ensures
+    going_orphaned can keep g c.loop-i-test.true f _ c.in-Orphaned.is
+    (record { end = refl; counters = refl; at = refl; inserted = refl; trials = refl; flips = refl })
 
 pub returns-in-Full : goal.returns-in-Full
 returns-in-Full c =
@@ -82,7 +83,8 @@ returns-in-Full c =
     let g = l.invariant.3 base a b m ts can lk v rd in
     let keep = l.invariant.0 in
     let f = c.try_pair-o.ensures base g.mesh (going_can can keep g c.loop-i-test.true) (rw g.locks lk) g.log g.in_round in
-    going_full can keep g c.loop-i-test.true f d.end d.f d.words c.without_quad-in-Full.result d.is c.without_quad-in-Full.ensures
+    going_full can keep g c.loop-i-test.true f d.short d.f d.words _ d.is
+    (record { end = refl; counters = refl; at = refl; inserted = refl; trials = refl; flips = refl })
 
 pub loop-i-preserved : goal.loop-i-preserved
 loop-i-preserved c =
@@ -106,4 +108,6 @@ pub returns : goal.returns
 returns c =
     let l = c.loop-i in
     λ base a b m ts can lk v rd.
-    going_end can l.invariant.0 (l.invariant.3 base a b m ts can lk v rd) c.loop-i-test.false c.without_quad-2.result c.without_quad-2.ensures
+    let z : c.args.count ≡ l.i = omega (arith, c.loop-i-test.false, l.auto.i-end) in
+    going_end can l.invariant.0 (l.invariant.3 base a b m ts can lk v rd) c.loop-i-test.false _
+    (record { end = refl; counters = refl; at = refl; inserted = refl; trials = z; flips = refl })

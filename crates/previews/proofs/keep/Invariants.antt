@@ -9,6 +9,3 @@ use Rattle.previews.proofs.keep.Given as goal
 
 abbrev pub invariant-loop-i : goal.invariant-loop-i
 invariant-loop-i l = (length l.kept ≡ length l.initial.kept) × (l.i ≤ 6) × Holds l.points l.kept l.from l.i
-
-abbrev pub decreases-loop-i : goal.decreases-loop-i
-decreases-loop-i l = 6 - l.i

@@ -1,8 +1,7 @@
 -- No joint passed is bad; the first that is answers.
-use Rattle.std.specs.Prelude.{◌≡◌, ◌-◌, ◌<◌, ◌≤◌}
-use Rattle.laws.specs.Kit.{sym, ◌∙◌, false, ℕ, arith, rules, not-suc-le-zero}
+use Rattle.laws.specs.Kit.{sym, ◌∙◌, arith, not-suc-le-zero}
 use borrow.Author.Count.{below_more}
-use Rattle.definition.specs.Call.{joint_at, bad_joint}
+use Rattle.definition.specs.Call.{joint_at}
 use Rattle.laws.specs.Bools.{never, holds}
 use Rattle.refusals.specs.Stated.{asked}
 use Rattle.refusals.specs.Passed.{few_joints, joints_each, joints_pass}
@@ -18,15 +17,13 @@ pub returns-then-bad_joint : goal.returns-then-bad_joint
 unfolding joint_at
 returns-then-bad_joint c =
     λ l e.
-    let g = c in
     let t = sym c.bad_joint.ensures ∙ c.if-bad_joint.true in
-    sym (holds _ (λ f. never _ t ((rw e at (joints_each (asked g.args.a) l f)) g.loop-i.i (omega arith))))
+    sym (holds _ (λ f. never _ t ((rw e at (joints_each (asked c.args.a) l f)) c.loop-i.i (omega arith))))
 
 pub loop-i-preserved : goal.loop-i-preserved
 unfolding joint_at
 loop-i-preserved c =
-    let g = c in
-    (omega arith, below_more _ _ g.loop-i.invariant.1 (sym c.bad_joint.ensures ∙ c.if-bad_joint.false))
+    (omega arith, below_more _ _ c.loop-i.invariant.1 (sym c.bad_joint.ensures ∙ c.if-bad_joint.false))
 
 pub returns : goal.returns
 returns c = λ l e. sym (joints_pass _ l (omega arith) (rw e (λ k h. c.loop-i.invariant.1 k (omega arith))))

@@ -1,4 +1,4 @@
-use Rattle.laws.specs.Kit.{ap, not, rules}
+use Rattle.laws.specs.Kit.{ap, not}
 use Rattle.definition.specs.Call.{bad_quality}
 use Rattle.refusals.proofs.bad_quality.Goals as goal
 

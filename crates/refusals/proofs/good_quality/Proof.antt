@@ -1,7 +1,7 @@
 -- The set passes seven tests, in the definition's order; each that fails is an answer.
 -- `yes-k` is what passing test k gave.
 use Rattle.std.specs.Prelude.{◌≡◌}
-use Rattle.laws.specs.Kit.{sym, ◌∙◌, true, false, rules, lt-leb, le-leb, not-true, not-false}
+use Rattle.laws.specs.Kit.{sym, ◌∙◌, true, false, rules, lt-leb, le-leb}
 use Rattle.definition.specs.Floats.{◌≼◌, f64, 0·0, 0·1, 0·5, 0·99, 1·0, 4·0}
 use Rattle.definition.specs.Call.{ranges, good_quality, most_pairs}
 use Rattle.refusals.proofs.good_quality.Statement.{statement}

@@ -1,20 +1,18 @@
--- Each test that is taken breaks one of the limits; where none is, all hold.
-use Rattle.laws.specs.Kit.{sym, arith}
-use Rattle.laws.specs.Bools.{holds}
-use Rattle.refusals.specs.Passed.{limited, limits_pass}
+-- The code's four comparisons are the definition's.
+use Rattle.laws.specs.Kit.{arith, le-ltb}
+use Rattle.definition.specs.Call.{most_given, most_capacity, most_slots, over_limit}
+use Rattle.refusals.proofs.over_limit.Goals.{then-a-gt-MOST_GIVEN, else-a-gt-MOST_GIVEN, then-a-gt-MOST_GIVEN-2, else-a-gt-MOST_GIVEN-2}
 use Rattle.refusals.proofs.over_limit.Goals as goal
 
-pub returns-then-a-gt-MOST_GIVEN : goal.returns-then-a-gt-MOST_GIVEN
-returns-then-a-gt-MOST_GIVEN c = sym (holds _ (λ e. let h = limited _ e in omega arith))
-
-pub returns-then-a-gt-MOST_GIVEN-2 : goal.returns-then-a-gt-MOST_GIVEN-2
-returns-then-a-gt-MOST_GIVEN-2 c = sym (holds _ (λ e. let h = limited _ e in omega arith))
-
 pub returns-then-a-gt-MOST_CAPACITY : goal.returns-then-a-gt-MOST_CAPACITY
-returns-then-a-gt-MOST_CAPACITY c = sym (holds _ (λ e. let h = limited _ e in omega arith))
+unfolding over_limit most_given most_capacity most_slots
+returns-then-a-gt-MOST_CAPACITY c = elim c.if-a-gt-MOST_GIVEN-2.branch [
+  | then-a-gt-MOST_GIVEN-2 w ↦ elim c.if-a-gt-MOST_GIVEN.branch [ then-a-gt-MOST_GIVEN v ↦ grind (arith, v, w) | else-a-gt-MOST_GIVEN v ↦ grind (arith, v, w) ]
+  | else-a-gt-MOST_GIVEN-2 w ↦ grind (arith, w, c.if-a-gt-MOST_CAPACITY.either)
+]
 
-pub returns-then-a-gt-MOST_SLOTS : goal.returns-then-a-gt-MOST_SLOTS
-returns-then-a-gt-MOST_SLOTS c = sym (holds _ (λ e. let h = limited _ e in omega arith))
-
-pub returns : goal.returns
-returns c = sym (limits_pass _ (omega arith))
+pub returns-else-a-gt-MOST_CAPACITY : goal.returns-else-a-gt-MOST_CAPACITY
+unfolding over_limit most_given most_capacity most_slots
+returns-else-a-gt-MOST_CAPACITY c =
+    let a = c.args.a in
+    rw (le-ltb 4096 a.count (omega arith), le-ltb 4096 a.given (omega arith), le-ltb 8192 a.capacity (omega arith))

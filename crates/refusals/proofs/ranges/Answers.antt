@@ -7,6 +7,6 @@ pub returns-then-low-c : goal.returns-then-low-c
 unfolding ranges ◌≼◌
 returns-then-low-c c = rw c.if-low-c.true
 
-pub returns : goal.returns
+pub returns-else-low-c : goal.returns-else-low-c
 unfolding ranges ◌≼◌
-returns c = rw c.if-low-c.false
+returns-else-low-c c = rw c.if-low-c.false

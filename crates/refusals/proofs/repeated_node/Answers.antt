@@ -1,8 +1,7 @@
 -- No triangle passed has a node twice; the first that has answers.
-use Rattle.std.specs.Prelude.{◌≡◌, ◌-◌, ◌<◌, ◌≤◌}
-use Rattle.laws.specs.Kit.{sym, ◌∙◌, false, ℕ, arith, rules, not-suc-le-zero}
+use Rattle.laws.specs.Kit.{sym, ◌∙◌, arith, not-suc-le-zero}
 use borrow.Author.Count.{below_more}
-use Rattle.definition.specs.Call.{tri_at, twice}
+use Rattle.definition.specs.Call.{tri_at}
 use Rattle.laws.specs.Bools.{never, holds}
 use Rattle.refusals.specs.Stated.{asked}
 use Rattle.refusals.specs.Passed.{apart_each, apart_pass}
@@ -15,15 +14,13 @@ pub returns-then-twice : goal.returns-then-twice
 unfolding tri_at
 returns-then-twice c =
     λ l e.
-    let g = c in
     let t = sym c.twice.ensures ∙ c.if-twice.true in
-    sym (holds _ (λ f. never _ t ((rw e at (apart_each (asked g.args.a) l f)) g.loop-i.i (omega arith))))
+    sym (holds _ (λ f. never _ t ((rw e at (apart_each (asked c.args.a) l f)) c.loop-i.i (omega arith))))
 
 pub loop-i-preserved : goal.loop-i-preserved
 unfolding tri_at
 loop-i-preserved c =
-    let g = c in
-    (omega arith, below_more _ _ g.loop-i.invariant.1 (sym c.twice.ensures ∙ c.if-twice.false))
+    (omega arith, below_more _ _ c.loop-i.invariant.1 (sym c.twice.ensures ∙ c.if-twice.false))
 
 pub returns : goal.returns
 returns c = λ l e. sym (apart_pass _ l (rw e (λ k h. c.loop-i.invariant.1 k (omega arith))))

@@ -1,4 +1,4 @@
-use Rattle.laws.specs.Kit.{ap, false, rules}
+use Rattle.laws.specs.Kit.{ap, false}
 use Rattle.refusals.specs.Stated.{asked_for}
 use Rattle.refusals.proofs.standard.Goals as goal
 

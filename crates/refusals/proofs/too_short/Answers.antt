@@ -38,25 +38,15 @@ returns-then-slots-count c = λ l h. sym (holds _ (λ e. too_small (roomy _ l e)
 pub returns : goal.returns
 returns c =
     λ l h.
-    let p10 = c in
-    let p9 = p10 in
-    let p8 = p9 in
-    let p7 = p8 in
-    let p6 = p7 in
-    let p5 = p6 in
-    let p4 = p5 in
-    let p3 = p4 in
-    let p2 = p3 in
-    let p1 = p2 in
     sym (room_passes _ l (record {
-      points = enough (ap length h.points) p1.if-points-capacity.false;
-      triangles = enough (ap length h.triangles) p2.if-triangles-count.false;
-      joints = enough (ap length h.joints) (omega (arith, p3.if-joints-a.false));
-      quads = enough h.quads p4.if-n-slots.false;
-      triangles_out = enough h.triangles_out p5.if-n-slots-2.false;
-      components = enough h.components p6.if-n-slots-3.false;
-      work = enough h.work p7.if-n-slots-4.false;
-      float_work = enough h.float_work p8.if-n-slots-5.false;
-      given = p9.if-capacity-a.false;
-      count = p10.if-slots-count.false;
+      points = enough (ap length h.points) c.if-points-capacity.false;
+      triangles = enough (ap length h.triangles) c.if-triangles-count.false;
+      joints = enough (ap length h.joints) (omega (arith, c.if-joints-a.false));
+      quads = enough h.quads c.if-n-slots.false;
+      triangles_out = enough h.triangles_out c.if-n-slots-2.false;
+      components = enough h.components c.if-n-slots-3.false;
+      work = enough h.work c.if-n-slots-4.false;
+      float_work = enough h.float_work c.if-n-slots-5.false;
+      given = c.if-capacity-a.false;
+      count = c.if-slots-count.false;
     }))

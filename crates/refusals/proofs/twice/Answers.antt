@@ -1,17 +1,17 @@
 -- The code's three comparisons are the definition's.
-use Rattle.laws.specs.Kit.{eq-eqb, ne_eqb}
+use Rattle.laws.specs.Kit.{arith, ne_eqb}
 use Rattle.definition.specs.Cells.{new_tri}
 use Rattle.definition.specs.Call.{twice}
+use Rattle.refusals.proofs.twice.Goals.{then-n0-n1, else-n0-n1}
 use Rattle.refusals.proofs.twice.Goals as goal
-
-pub returns-then-n0-n1 : goal.returns-then-n0-n1
-unfolding twice new_tri
-returns-then-n0-n1 c = rw (eq-eqb _ _ c.if-n0-n1.true)
 
 pub returns-then-n1-n2 : goal.returns-then-n1-n2
 unfolding twice new_tri
-returns-then-n1-n2 c = rw (ne_eqb _ _ c.if-n0-n1.false, eq-eqb _ _ c.if-n1-n2.true)
+returns-then-n1-n2 c = elim c.if-n0-n1.branch [
+  | then-n0-n1 w ↦ grind (arith, w)
+  | else-n0-n1 w ↦ grind (arith, w, c.if-n1-n2.either)
+]
 
-pub returns : goal.returns
+pub returns-else-n1-n2 : goal.returns-else-n1-n2
 unfolding twice new_tri
-returns c = rw (ne_eqb _ _ c.if-n0-n1.false, ne_eqb _ _ c.if-n1-n2.false)
+returns-else-n1-n2 c = rw (ne_eqb _ _ c.if-n1-n2.false.0, ne_eqb _ _ c.if-n1-n2.false.1)

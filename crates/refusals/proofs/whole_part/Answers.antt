@@ -1,5 +1,5 @@
 -- The product and its floor are the definition's.
-use Rattle.laws.specs.Kit.{refl, rules}
+use Rattle.laws.specs.Kit.{refl}
 use Rattle.definition.specs.Floats.{◌⊗◌, f64}
 use Rattle.exact.specs.GridTest.{1024·0, is_whole_part}
 use Rattle.refusals.proofs.whole_part.Goals as goal

@@ -8,6 +8,6 @@ pub returns-then-x : goal.returns-then-x
 unfolding ◌≼◌ most_coordinate 8·0 f64
 returns-then-x c = rw (← between, c.if-x.true)
 
-pub returns : goal.returns
+pub returns-else-x : goal.returns-else-x
 unfolding ◌≼◌ most_coordinate 8·0 f64
-returns c = rw (← between, c.if-x.false)
+returns-else-x c = rw (← between, c.if-x.false)

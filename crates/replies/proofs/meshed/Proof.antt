@@ -11,7 +11,7 @@ use Rattle.definition.specs.Numbers.{base}
 use Rattle.definition.specs.Call.{call}
 use Rattle.writing.specs.Answer.{Answered}
 use Rattle.refusals.specs.Stated.{asked_for}
-use Rattle.mesher.specs.Promise.{Returns, lent_of}
+use Rattle.mesher.specs.Promise.{answered, Returns, lent_of}
 use Rattle.replies.proofs.Bounds.{refused_number, call_writable}
 use Rattle.replies.proofs.Lends.{asks, lending, lends, answer_is}
 use native.Mathlib.Omega.{arith}
@@ -25,7 +25,7 @@ base_double = refl
 
 -- the call that was made is the definition's
 ran : (c : tie.After-run_front-a) → let a = c.args in let l = c.run_front-a.new in
-    Returns (call (asks a.h) (lends a.h a.tris.now a.bits.now)) c.run_front-a.result
+    Returns (call (asks a.h) (lends a.h a.tris.now a.bits.now)) (answered c.run_front-a.result)
     (lent_of l.points (take (3 * a.h.triangles) a.tris.now) [] l.quads l.triangles_out l.components l.work l.float_work l.trace)
 unfolding 0·0 f64
 ran c =
@@ -35,10 +35,10 @@ ran c =
     let after = lent_of l.points (take (3 * a.h.triangles) a.tris.now) [] l.quads l.triangles_out l.components l.work l.float_work l.trace in
     let f = c.fill in
     let g = c.float_of-size in
-    let made : Returns (call (asked_for a.h.points 96 a.h.triangles 160 0 g.result a.h.stop base false) (lending f.new.points (take (3 * a.h.triangles) a.tris.now))) c.run_front-a.result after =
-    subst (λ x. Returns (call x (lending f.new.points (take (3 * a.h.triangles) a.tris.now))) c.run_front-a.result after) c.standard-stated.ensures c.run_front-a.ensures.0 in
-    subst (λ ps. Returns (call (asks a.h) (lending ps (take (3 * a.h.triangles) a.tris.now))) c.run_front-a.result after) f.ensures
-    (subst (λ x. Returns (call (asked_for a.h.points 96 a.h.triangles 160 0 x a.h.stop base false) (lending f.new.points (take (3 * a.h.triangles) a.tris.now))) c.run_front-a.result after) g.ensures made)
+    let made : Returns (call (asked_for a.h.points 96 a.h.triangles 160 0 g.result a.h.stop base false) (lending f.new.points (take (3 * a.h.triangles) a.tris.now))) (answered c.run_front-a.result) after =
+    subst (λ x. Returns (call x (lending f.new.points (take (3 * a.h.triangles) a.tris.now))) (answered c.run_front-a.result) after) c.standard-stated.ensures c.run_front-a.ensures.0 in
+    subst (λ ps. Returns (call (asks a.h) (lending ps (take (3 * a.h.triangles) a.tris.now))) (answered c.run_front-a.result) after) f.ensures
+    (subst (λ x. Returns (call (asked_for a.h.points 96 a.h.triangles 160 0 x a.h.stop base false) (lending f.new.points (take (3 * a.h.triangles) a.tris.now))) (answered c.run_front-a.result) after) g.ensures made)
 
 slice_aggregate_run_front_2 : tie.Need-slice_bounds-run_front-end-2
 slice_aggregate_run_front_2 c = let w = c.requires.0 in simp length-take (omega arith)

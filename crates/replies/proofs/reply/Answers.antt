@@ -13,18 +13,16 @@ enum_told-1 c = search rules
 
 pub returns-in_default : goal.returns-in_default
 returns-in_default c =
-    let start = c in
-    let a = start.args in
+    let a = c.args in
     let w = c.refusal in
     let long : length a.out.now ≡ 26624 = search rules in
     let kept : length w.new.out ≡ length a.out.now = w.auto.out in record { answered = subst (λ t. Answered a.out.now w.new.out t w.result) (bad_text c.read.ensures c.in_default.is) w.ensures; out_len = kept ∙ long }
 
 pub meshed-requires : goal.meshed-requires
 meshed-requires c =
-    let start = c in
     let r = c.read in
-    let long : most_written ≤ length start.args.out.now = search rules in
-    let k = text_kept r.ensures c.in-Read.is in (
+    let long : most_written ≤ length c.args.out.now = search rules in
+    let k = text_kept r.ensures c.in-Some.is in (
       record {
         few_triangles = k.few_triangles;
         few_points = k.few_points;
@@ -36,8 +34,7 @@ meshed-requires c =
 
 pub returns : goal.returns
 returns c =
-    let start = c in
-    let a = start.args in
+    let a = c.args in
     let w = c.meshed in
     let long : length a.out.now ≡ 26624 = search rules in
-    let kept : length w.new.out ≡ length a.out.now = w.auto.out in record { answered = subst (λ t. Answered a.out.now w.new.out t w.result) (good_text c.read.ensures c.in-Read.is) w.ensures; out_len = kept ∙ long }
+    let kept : length w.new.out ≡ length a.out.now = w.auto.out in record { answered = subst (λ t. Answered a.out.now w.new.out t w.result) (good_text c.read.ensures c.in-Some.is) w.ensures; out_len = kept ∙ long }

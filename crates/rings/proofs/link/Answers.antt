@@ -1,4 +1,4 @@
-use Rattle.laws.specs.Kit.{arith, rules, length-set}
+use Rattle.laws.specs.Kit.{arith, length-set}
 use Rattle.rings.specs.Rings.{linkedW}
 use Rattle.rings.proofs.Rings.{linked_to}
 use Rattle.rings.proofs.link.Goals as goal

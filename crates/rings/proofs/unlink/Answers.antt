@@ -1,4 +1,4 @@
-use Rattle.laws.specs.Kit.{arith, rules, length-set}
+use Rattle.laws.specs.Kit.{arith, length-set}
 use Rattle.rings.specs.Rings.{unlinkedW}
 use Rattle.rings.proofs.Rings.{unlinked_from}
 use Rattle.rings.proofs.unlink.Goals as goal

@@ -13,17 +13,15 @@ returns-then-a-lt-ONE c = (lit< tt, code_low_up c.args.a (omega (arith, c.if-a-e
 
 pub returns-then-c-m : goal.returns-then-c-m
 returns-then-c-m c =
-    let start = c in
-    let a = start.args.a in
+    let a = c.args.a in
     let ex = c.exponent-e in
     let sig = c.significand-m in
-    (omega arith, code_same a sig.result ex.result c.if-a-lt-ONE.false start.requires sig.ensures ex.ensures c.cleared-c.result c.cleared-c.ensures.0 c.if-c-m.true)
+    (omega arith, code_same a sig.result ex.result c.if-a-lt-ONE.false c.requires sig.ensures ex.ensures c.cleared-c.result c.cleared-c.ensures.0 c.if-c-m.true)
 
 pub returns : goal.returns
 returns c =
-    let start = c in
-    let a = start.args.a in
+    let a = c.args.a in
     let ex = c.exponent-e in
     let sig = c.significand-m in
     let cl = c.cleared-c in
-    (omega arith, code_up a sig.result ex.result c.if-a-lt-ONE.false start.requires sig.ensures ex.ensures cl.result c.power.result cl.ensures.0 c.if-c-m.false c.power.ensures.0)
+    (omega arith, code_up a sig.result ex.result c.if-a-lt-ONE.false c.requires sig.ensures ex.ensures cl.result c.power.result cl.ensures.0 c.if-c-m.false c.power.ensures.0)

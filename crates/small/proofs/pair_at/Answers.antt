@@ -4,7 +4,7 @@
 -- The measure is `after`.
 use Rattle.std.specs.Prelude.{◌+◌, ◌∷◌}
 use Rattle.laws.specs.Kit.{sym, arith, []}
-use Rattle.small.proofs.Places.{CountingOff, begun, passed, reached, ones, single}
+use Rattle.small.proofs.Places.{begun, passed, reached, ones, single}
 use Rattle.small.proofs.pair_at.Goals as goal
 
 pub overflow_sub-after : goal.overflow_sub-after

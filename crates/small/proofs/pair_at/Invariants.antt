@@ -1,6 +1,4 @@
-use Rattle.std.specs.Prelude.{◌+◌, ◌∷◌}
-use Rattle.laws.specs.Kit.{sym, arith, []}
-use Rattle.small.proofs.Places.{CountingOff, begun, passed, reached, ones, single}
+use Rattle.small.proofs.Places.{CountingOff}
 use Rattle.small.proofs.pair_at.Given as goal
 
 abbrev pub invariant-loop-after : goal.invariant-loop-after

@@ -22,9 +22,8 @@ overflow_sub-last c = omega (arith, triangles_some c.args.points (omega arith) (
 
 pub returns-then-place-last : goal.returns-then-place-last
 returns-then-place-last c =
-    let s = c in
-    past s.args.points c.triples-m.result (omega arith) (omega arith) c.triples-m.ensures.counted s.args.place
-    (omega (arith, triangles_some s.args.points (omega arith) (omega arith)))
+    past c.args.points c.triples-m.result (omega arith) (omega arith) c.triples-m.ensures.counted c.args.place
+    (omega (arith, triangles_some c.args.points (omega arith) (omega arith)))
 
 pub list_at-requires : goal.list_at-requires
 list_at-requires c =

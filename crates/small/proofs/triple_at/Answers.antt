@@ -2,10 +2,9 @@
 -- The loop's invariant: the triple asked for stands at `left` of the triples of `first` and the `after` numbers
 -- behind it, and `block` is how many pairs those have.
 -- The measure is `after`.
-use Rattle.std.specs.Prelude.{◌≡◌, ◌∷◌}
+use Rattle.std.specs.Prelude.{◌∷◌}
 use Rattle.laws.specs.Kit.{arith, []}
-use Rattle.small.specs.Counts.{choices}
-use Rattle.small.proofs.Places.{CountingOff, begun, passed, reached}
+use Rattle.small.proofs.Places.{begun, passed, reached}
 use Rattle.small.proofs.triple_at.Goals as goal
 
 pub overflow_sub-after : goal.overflow_sub-after
@@ -31,9 +30,9 @@ loop-block-preserved c =
 pub returns : goal.returns
 returns c =
     let l = c.loop-block in
-    let p = c.pair_at-p.result in
+    let p = c.pair_at-second.result in
     record {
-      there = reached l.invariant.0 l.block l.invariant.1 (p.first ∷ p.second ∷ []) (omega arith) c.pair_at-p.ensures.there;
+      there = reached l.invariant.0 l.block l.invariant.1 (p.0 ∷ p.1 ∷ []) (omega arith) c.pair_at-second.ensures.there;
       first = omega arith;
       second = omega arith;
       below = omega arith;

@@ -1,7 +1,6 @@
-use Rattle.std.specs.Prelude.{◌≡◌, ◌∷◌}
-use Rattle.laws.specs.Kit.{arith, []}
+use Rattle.std.specs.Prelude.{◌≡◌}
 use Rattle.small.specs.Counts.{choices}
-use Rattle.small.proofs.Places.{CountingOff, begun, passed, reached}
+use Rattle.small.proofs.Places.{CountingOff}
 use Rattle.small.proofs.triple_at.Given as goal
 
 abbrev pub invariant-loop-block : goal.invariant-loop-block

@@ -1,5 +1,5 @@
 -- `small::triples`: the closed form, computed for each of 0 .. 10.
-use Rattle.laws.specs.Kit.{arith, rules}
+use Rattle.laws.specs.Kit.{arith}
 use Rattle.small.proofs.Counting.{pairs_small, triples_right, triples_small, no_triples}
 use Rattle.small.proofs.triples.Goals as goal
 

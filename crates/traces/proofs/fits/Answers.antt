@@ -1,4 +1,4 @@
-use Rattle.laws.specs.Kit.{sym, arith, rules}
+use Rattle.laws.specs.Kit.{sym, arith}
 use Rattle.traces.proofs.Logs.{fits_none, fits_within, fits_left}
 use Rattle.traces.proofs.fits.Goals as goal
 

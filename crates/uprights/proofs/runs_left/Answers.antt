@@ -2,16 +2,9 @@
 use Rattle.uprights.proofs.Turns.{given, turned}
 use Rattle.uprights.proofs.runs_left.Goals as goal
 
-pub turns_left-requires : goal.turns_left-requires
-turns_left-requires c =
-    let a = c in
-    let b = c in
-    let s = a in
-    given _ _ _ _ _ _ _ a.wide.ensures b.wide-2.ensures c.wide-3.ensures _ _ _ a.at-here.ensures b.at-after.ensures c.at-before.ensures s.requires.0 s.requires.1 s.requires.2
+pub invariant_of-turns_left : goal.invariant_of-turns_left
+invariant_of-turns_left c =
+    record { given = given _ _ _ _ _ _ _ c.wide.ensures c.wide-2.ensures c.wide-3.ensures _ _ _ c.at-here.ensures c.at-after.ensures c.at-before.ensures c.requires.0 c.requires.1 c.requires.2 }
 
 pub returns : goal.returns
-returns c =
-    let d = c in
-    let a = d in
-    let b = d in
-    turned _ _ _ _ _ _ _ a.wide.ensures b.wide-2.ensures d.wide-3.ensures _ _ _ a.at-here.ensures b.at-after.ensures d.at-before.ensures _ c.turns_left.ensures
+returns c = turned _ _ _ _ _ _ _ c.wide.ensures c.wide-2.ensures c.wide-3.ensures _ _ _ c.at-here.ensures c.at-after.ensures c.at-before.ensures _ c.turns_left.ensures

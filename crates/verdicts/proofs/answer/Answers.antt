@@ -35,9 +35,8 @@ returns c =
     let a = c.args in
     let hand = handed a.given.now a.triangles.now a.points.now a.quads.now a.left.now a.joints.now a.components.now a.work.now a.parents.now a.a in
     answered_so hand c.requires _ _ c.judge-found.result _ _ _ _ (record {
-      clear = refl;
       moved_found = c.first_moved-moved.ensures;
-      added_found = c.surplus-added.ensures;
+      added_found = c.saturating_sub-added.ensures;
       folded_found = c.first_folded-folded.ensures;
       sharp_found = c.first_sharp-sharp.ensures;
       given_found = c.first_flat-given_turned.ensures;
@@ -49,7 +48,7 @@ returns c =
       groups_is = refl;
       odd_is = refl;
       work_long = search rules;
-      work_clear = c.clear_words.ensures;
+      work_clear = c.clear.ensures;
       parents_long = search rules;
-      parents_clear = c.clear_words-2.ensures;
+      parents_clear = c.clear-2.ensures;
     })

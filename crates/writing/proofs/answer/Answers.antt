@@ -15,8 +15,7 @@ shape_of-out c = c.named.auto.out ∙ c.places-f.auto.out ∙ c.named-e.auto.out
 pub returns : goal.returns
 unfolding bytes lengths_of shown
 returns c = λ d is.
-    let s = c in
-    let a = s.args in
+    let a = c.args in
     let k = c.counted-a in
     let z = c.sized-b in
     let q = c.named-d in
@@ -29,8 +28,8 @@ returns c = λ d is.
     let h₄ = t.ensures.short in
     let h₅ = p.ensures.short in
     let h₆ = e.ensures.short in
-    let few = s.requires.0 in
-    let room = s.requires.2 in
+    let few = c.requires.0 in
+    let room = c.requires.2 in
     at_front
     (same_text
     (and_next (and_next (and_next (and_next (and_next k.ensures.written (omega (arith, h₁, room))

@@ -8,7 +8,6 @@ use Rattle.writing.proofs.refusal.Goals as goal
 pub returns : goal.returns
 unfolding bytes show_refusal line_of
 returns c =
-    let a = c in
     let f = c.fixed-p in
-    let g = c.number_then in
-    at_front (and_next f.ensures (omega (arith, f.ensures.next, a.requires)) g.ensures.written) (omega (arith, f.ensures.next, g.ensures.short, a.requires))
+    let g = c.put in
+    at_front (and_next f.ensures (omega (arith, f.ensures.next, c.requires)) g.ensures.written) (omega (arith, f.ensures.next, g.ensures.short, c.requires))

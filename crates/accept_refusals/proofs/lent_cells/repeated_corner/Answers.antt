@@ -10,22 +10,20 @@ use Rattle.accept_refusals.specs.Tests.{some_below}
 use Rattle.accept_refusals.proofs.lent_cells.repeated_corner.Goals as goal
 
 pub loop-i-init : goal.loop-i-init
-loop-i-init c = (omega arith, λ k h. absurd (not-suc-le-zero h))
+loop-i-init c k h = absurd (not-suc-le-zero h)
 
 pub returns-then-quad_twice : goal.returns-then-quad_twice
 unfolding corners_at
 returns-then-quad_twice c =
-    let g = c in
-    let a = g.args in
-    sym (some_below quad_twice (corners_at a.quads.now) a.n g.loop-i.i (omega arith) (sym c.quad_twice.ensures ∙ c.if-quad_twice.true))
+    let a = c.args in
+    sym (some_below quad_twice (corners_at a.quads.now) a.n c.loop-i.i (omega arith) (sym c.quad_twice.ensures ∙ c.if-quad_twice.true))
 
 pub loop-i-preserved : goal.loop-i-preserved
 unfolding corners_at
 loop-i-preserved c =
-    let g = c in
-    (omega arith, below_more _ _ g.loop-i.invariant.1 (sym c.quad_twice.ensures ∙ c.if-quad_twice.false))
+    below_more _ _ c.loop-i.invariant (sym c.quad_twice.ensures ∙ c.if-quad_twice.false)
 
 pub returns : goal.returns
 returns c =
     let a = c.args in
-    sym (none_below quad_twice (corners_at a.quads.now) a.n (λ k h. c.loop-i.invariant.1 k (omega arith)))
+    sym (none_below quad_twice (corners_at a.quads.now) a.n (λ k h. c.loop-i.invariant k (omega arith)))

@@ -9,22 +9,20 @@ use Rattle.accept_refusals.specs.Tests.{quads_known, quads_pass}
 use Rattle.accept_refusals.proofs.lent_cells.unknown_corner.Goals as goal
 
 pub loop-i-init : goal.loop-i-init
-loop-i-init c = (omega arith, λ k h. absurd (not-suc-le-zero h))
+loop-i-init c k h = absurd (not-suc-le-zero h)
 
 pub returns-then-wide-m : goal.returns-then-wide-m
 returns-then-wide-m c =
-    let g = c in
-    let a = g.args in
+    let a = c.args in
     let w = c.wide.ensures in
-    sym (holds _ (λ f. let h = quads_known a.m a.n a.quads.now f g.loop-i.i (omega arith) in omega arith))
+    sym (holds _ (λ f. let h = quads_known a.m a.n a.quads.now f c.loop-i.i (omega arith) in omega arith))
 
 pub loop-i-preserved : goal.loop-i-preserved
 loop-i-preserved c =
-    let g = c in
     let w = c.wide.ensures in
-    (omega arith, below_more _ _ g.loop-i.invariant.1 (omega arith))
+    below_more _ _ c.loop-i.invariant (omega arith)
 
 pub returns : goal.returns
 returns c =
     let a = c.args in
-    sym (quads_pass a.m a.n a.quads.now (λ k h. c.loop-i.invariant.1 k (omega arith)))
+    sym (quads_pass a.m a.n a.quads.now (λ k h. c.loop-i.invariant k (omega arith)))

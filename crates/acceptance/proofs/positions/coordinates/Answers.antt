@@ -1,7 +1,6 @@
 -- `positions::coordinates`: the literals are the sixteenths, by computation.
 use mathlib.Core.Path.{refl}
 use lib.Ieee.{round, of_bits}
-use borrow.Author.Rules.{rules}
 use Rattle.acceptance.specs.Positions.{plus, minus, positions, coordinates}
 use Rattle.acceptance.proofs.positions.coordinates.Goals as goal
 

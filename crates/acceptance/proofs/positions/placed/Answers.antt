@@ -1,7 +1,6 @@
 -- `positions::placed`: ten stores in a slice of zeros.
 use mathlib.Core.Path.{ap}
 use lib.Ieee.{round, of_bits}
-use borrow.Author.Rules.{rules}
 use Rattle.definition.specs.Lists.{below, numbers, flat_map}
 use Rattle.definition.specs.Call.{onto}
 use Rattle.acceptance.specs.Positions.{plus, point, placed}

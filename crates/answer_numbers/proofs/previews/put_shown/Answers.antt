@@ -5,13 +5,13 @@ use Rattle.answer_numbers.proofs.Shown.{none_written}
 use Rattle.answer_numbers.proofs.previews.put_shown.Goals as goal
 
 pub returns-in-OffFront : goal.returns-in-OffFront
-returns-in-OffFront c = rw c.in-OffFront.is (refl, c.write_shown.ensures)
+returns-in-OffFront c = rw (c.in-Ok.is, c.in-OffFront.is) (refl, c.write_shown.ensures)
 
 pub returns-in-Quad : goal.returns-in-Quad
-returns-in-Quad c = rw c.in-Quad.is (refl, c.write_shown-in-Quad.ensures)
+returns-in-Quad c = rw (c.in-Ok.is, c.in-Quad.is) (refl, c.write_shown-in-Quad.ensures)
 
 pub returns-in-Refused : goal.returns-in-Refused
-returns-in-Refused c = rw c.in-Refused.is (refl, rw c.kind_number.ensures at c.write_shown-in-Refused.ensures)
+returns-in-Refused c = rw (c.in-Ok.is, c.in-Refused.is) (refl, rw c.kind_number.ensures at c.write_shown-in-Refused.ensures)
 
-pub returns-in-Refusal : goal.returns-in-Refusal
-returns-in-Refusal c = rw c.in-Refusal.is (refl, none_written c.args.answer.now)
+pub returns-in-Err : goal.returns-in-Err
+returns-in-Err c = rw c.in-Err.is (c.into.ensures, none_written c.args.answer.now)

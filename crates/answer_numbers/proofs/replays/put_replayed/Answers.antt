@@ -1,15 +1,13 @@
 -- A refusal leaves the slice; the lengths of the whole trace are stored.
-use mathlib.Core.Path.{refl, sym}
-use borrow.Author.Rules.{rules}
+use Rattle.std.specs.Prelude.{Ok, Err}
+use mathlib.Core.Path.{refl}
+use Rattle.refusals.specs.Numbers.{not_0}
+use Rattle.retrace.specs.Replaying.{answered}
 use Rattle.answer_numbers.proofs.Lengths.{kept, put}
 use Rattle.answer_numbers.proofs.replays.put_replayed.Goals as goal
 
-pub returns-then-k-ne0 : goal.returns-then-k-ne0
-returns-then-k-ne0 c = let t = c in (refl, kept t.args.r t.args.answer.now c.if-k-ne0.true)
+pub returns-in-Err : goal.returns-in-Err
+returns-in-Err c = rw c.in-Err.is (c.into.ensures, kept (answered (Err c.in-Err.k)) c.args.answer.now (not_0 c.in-Err.k))
 
-pub returns : goal.returns
-returns c =
-    let w = c.write_lengths in
-    let e = c in
-    let t = e in
-    (sym e.if-k-ne0.false, put t.args.r t.args.answer.now w.new.answer e.if-k-ne0.false w.ensures)
+pub returns-in-Ok : goal.returns-in-Ok
+returns-in-Ok c = rw c.in-Ok.is (refl, put (answered (Ok c.in-Ok.n)) c.args.answer.now c.write_lengths.new.answer refl c.write_lengths.ensures)

@@ -2,11 +2,13 @@
 use native.Mathlib.Omega.{arith}
 use lib.ListN.{length-set}
 use borrow.Author.Rules.{rules}
+use Rattle.std.specs.Prelude.{Ok}
+use Rattle.retrace.specs.Replaying.{answered}
 use Rattle.answer_numbers.proofs.Lengths.{written}
 use Rattle.answer_numbers.proofs.replays.write_lengths.Goals as goal
 
 pub returns : goal.returns
-returns c = written c.args.answer.now c.args.r c.requires
+returns c = written c.args.answer.now (answered (Ok c.args.r)) c.requires
 
 pub bounds-answer-1 : goal.bounds-answer-1
 bounds-answer-1 c = simp length-set (omega (arith, c.requires))

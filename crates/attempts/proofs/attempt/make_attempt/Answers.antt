@@ -25,8 +25,8 @@ settle-requires c =
       m.1.blocked,
       m.1.quads,
       m.0.old,
-      can_settle (setup a.rules c.requires.0) a.w.now a.q.now a.quads.now a.t.now a.g m.1 a.u a.v m.2 m.3 a.w.now a.q.now c.without_quad-off.result (stays_refl a.w.now (refused_at a.rules.slots a.rules.capacity) (near_at a.rules.slots a.rules.capacity)) (refused Placement nothing_spent m.1.mesh)
-          (off_front (setup a.rules c.requires.0) a.w.now a.q.now a.quads.now a.t.now a.g m.1 a.u a.v m.2 m.3 off) tt (tries_none (setup a.rules c.requires.0) a.w.now a.q.now a.quads.now a.t.now a.g m.1 a.u a.v m.2 m.3) (off_to (setup a.rules c.requires.0) a.w.now a.q.now a.quads.now a.t.now a.g m.1 a.u a.v m.2 m.3 c.without_quad-off.result c.without_quad-off.ensures),
+      can_settle (setup a.rules c.requires.0) a.w.now a.q.now a.quads.now a.t.now a.g m.1 a.u a.v m.2 m.3 a.w.now a.q.now c.without_trial-off.result (stays_refl a.w.now (refused_at a.rules.lay.slots a.rules.lay.points) (near_at a.rules.lay.slots a.rules.lay.points)) (refused Placement nothing_spent m.1.mesh)
+          (off_front (setup a.rules c.requires.0) a.w.now a.q.now a.quads.now a.t.now a.g m.1 a.u a.v m.2 m.3 off) tt (tries_none (setup a.rules c.requires.0) a.w.now a.q.now a.quads.now a.t.now a.g m.1 a.u a.v m.2 m.3) (off_to (setup a.rules c.requires.0) a.w.now a.q.now a.quads.now a.t.now a.g m.1 a.u a.v m.2 m.3 c.without_trial-off.result c.without_trial-off.ensures),
     )
 
 pub returns-then-not-is_front : goal.returns-then-not-is_front
@@ -35,12 +35,12 @@ returns-then-not-is_front c =
     λ k st es m l.
     let off = was_off (setup a.rules k) a.w.now a.q.now a.quads.now a.t.now a.g st a.u a.v es m c.is_front.result c.is_front.ensures (ap not c.if-not-is_front.true) in
     let ran = off_front (setup a.rules k) a.w.now a.q.now a.quads.now a.t.now a.g st a.u a.v es m off in
-    let to = off_to (setup a.rules k) a.w.now a.q.now a.quads.now a.t.now a.g st a.u a.v es m c.without_quad-off.result c.without_quad-off.ensures in
-    let by = stays_refl a.w.now (refused_at a.rules.slots a.rules.capacity) (near_at a.rules.slots a.rules.capacity) in
-    let can = can_settle (setup a.rules k) a.w.now a.q.now a.quads.now a.t.now a.g st a.u a.v es m a.w.now a.q.now c.without_quad-off.result by (refused Placement nothing_spent st.mesh) ran tt (tries_none (setup a.rules k) a.w.now a.q.now a.quads.now a.t.now a.g st a.u a.v es m) to in
+    let to = off_to (setup a.rules k) a.w.now a.q.now a.quads.now a.t.now a.g st a.u a.v es m c.without_trial-off.result c.without_trial-off.ensures in
+    let by = stays_refl a.w.now (refused_at a.rules.lay.slots a.rules.lay.points) (near_at a.rules.lay.slots a.rules.lay.points) in
+    let can = can_settle (setup a.rules k) a.w.now a.q.now a.quads.now a.t.now a.g st a.u a.v es m a.w.now a.q.now c.without_trial-off.result by (refused Placement nothing_spent st.mesh) ran tt (tries_none (setup a.rules k) a.w.now a.q.now a.quads.now a.t.now a.g st a.u a.v es m) to in
     let set = c.settle.ensures m.ever st.blocked st.quads k.old can in
-    step_is (setup a.rules k) a.w.now a.q.now a.quads.now a.t.now a.g st a.u a.v es m a.w.now a.q.now c.without_quad-off.result by c.settle.new.w c.settle.new.quads a.t.now c.settle.result set (refused Placement nothing_spent st.mesh) ran to
-    (off_log (setup a.rules k) a.w.now a.q.now a.quads.now a.t.now a.g st a.u a.v es m c.without_quad-off.result c.without_quad-off.ensures)
+    step_is (setup a.rules k) a.w.now a.q.now a.quads.now a.t.now a.g st a.u a.v es m a.w.now a.q.now c.without_trial-off.result by c.settle.new.w c.settle.new.quads a.t.now c.settle.result set (refused Placement nothing_spent st.mesh) ran to
+    (off_log (setup a.rules k) a.w.now a.q.now a.quads.now a.t.now a.g st a.u a.v es m c.without_trial-off.result c.without_trial-off.ensures)
 
 pub overflow_add-round : goal.overflow_add-round
 overflow_add-round c =

@@ -1,6 +1,6 @@
 -- After the last corner of a cell comes its first.
 use native.Mathlib.Nat.{mod-le}
-use Rattle.laws.specs.Kit.{sym, arith, rules}
+use Rattle.laws.specs.Kit.{sym, arith}
 use Rattle.balance.proofs.Corners.{next_last, next_inner}
 use Rattle.balance.proofs.places.next.Goals as goal
 

@@ -1,5 +1,4 @@
 -- Turned or not.
-use Rattle.laws.specs.Kit.{rules}
 use Rattle.balance.proofs.places.put_either.Goals as goal
 
 pub returns-then-turned : goal.returns-then-turned

@@ -1,5 +1,5 @@
 -- The lesser node comes first.
-use Rattle.laws.specs.Kit.{rules, lt-ltb, le-ltb}
+use Rattle.laws.specs.Kit.{lt-ltb, le-ltb}
 use Rattle.balance.specs.Codes.{code}
 use Rattle.balance.proofs.places.put_side.Goals as goal
 

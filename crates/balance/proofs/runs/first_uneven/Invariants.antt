@@ -1,7 +1,6 @@
-use Rattle.std.specs.Prelude.{◌-◌, ◌/◌}
-use Rattle.laws.specs.Kit.{ap, arith}
+use Rattle.std.specs.Prelude.{◌-◌}
 use Rattle.sorting.specs.Places.{key_at}
-use Rattle.balance.proofs.Passes.{Passed, passed_start, moves, passed_next, first_is}
+use Rattle.balance.proofs.Passes.{Passed}
 use Rattle.balance.proofs.runs.first_uneven.Given as goal
 
 abbrev pub invariant-loop-i : goal.invariant-loop-i

@@ -4,9 +4,8 @@ use Rattle.candidates.proofs.marks.raise.Goals as goal
 
 pub returns : goal.returns
 returns c =
-    let t = c in
-    let a = t.args in
-    raised_one a.w.now a.p a.b a.v t.requires.v_lt_p t.requires.spare.fits
+    let a = c.args in
+    raised_one a.w.now a.p a.b a.v c.requires.v_lt_p c.requires.spare.fits
 
 pub bounds-w-b : goal.bounds-w-b
 bounds-w-b c = omega (arith, c.requires.spare.fits, c.requires.v_lt_p)

@@ -7,7 +7,7 @@ use Rattle.candidates.proofs.Growth.{Ringed}
 use Rattle.candidates.proofs.spans.with_ring.Given as goal
 
 abbrev pub invariant-loop-c : goal.invariant-loop-c
-invariant-loop-c l = (m : Mesh) → Rep l.w l.s l.p m → l.a < length m.points → Ringed l.w l.s l.a l.c m l.initial.h l.h
+invariant-loop-c l = (m : Mesh) → Rep l.w l.lay.slots l.lay.points m → l.a < length m.points → Ringed l.w l.lay.slots l.a l.c m l.initial.h l.h
 
 abbrev pub decreases-loop-c : goal.decreases-loop-c
-decreases-loop-c l = left l.w l.s l.p l.c
+decreases-loop-c l = left l.w l.lay.slots l.lay.points l.c

@@ -1,9 +1,7 @@
 use Rattle.cells.proofs.Clears.{zeros_of}
-use borrow.Author.Rules.{rules}
 use Rattle.cells.proofs.clear.clear_first.Goals as goal
 
 pub returns : goal.returns
 returns c =
-    let k = c in
-    let a = k.args in
-    zeros_of a.w.now k.clear_range.new.w a.n k.clear_range.ensures.only k.clear_range.ensures.by_index
+    let a = c.args in
+    zeros_of a.w.now c.clear_range.new.w a.n c.clear_range.ensures.only c.clear_range.ensures.by_index

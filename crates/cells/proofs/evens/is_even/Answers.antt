@@ -3,11 +3,9 @@ use mathlib.Core.Path.{ap}
 use Prim.Native.Nat.{ℕ}
 use lib.Dec.{eqb}
 use lib.ListN.{get_or}
-use borrow.Author.Rules.{rules}
 use Rattle.cells.proofs.evens.is_even.Goals as goal
 
 pub returns : goal.returns
 returns c =
-    let t = c in
-    let a = t.args in
+    let a = c.args in
     ap (λ (i : ℕ). eqb (get_or a.w.now i 0) 1) c.even_at.ensures

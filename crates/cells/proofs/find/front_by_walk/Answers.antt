@@ -1,14 +1,12 @@
 -- The edge is the same from both ends.
 use mathlib.Core.Path.{ap, sym, ◌∙◌}
-use borrow.Author.Rules.{rules}
 use Rattle.definition.specs.Cells.{is_front}
 use Rattle.cells.proofs.Edges.{key_swap}
 use Rattle.cells.proofs.find.front_by_walk.Goals as goal
 
 pub front_around-requires-then-is_shorter : goal.front_around-requires-then-is_shorter
 front_around-requires-then-is_shorter c =
-    let t = c in
-    record { rep = t.requires.rep; edge = record { node = c.is_shorter.ensures c.if-is_shorter.true; apart = λ e. t.requires.edge.apart (sym e) } }
+    record { rep = c.requires.rep; edge = record { node = c.is_shorter.ensures c.if-is_shorter.true; apart = λ e. c.requires.edge.apart (sym e) } }
 
 pub returns-then-is_shorter : goal.returns-then-is_shorter
 returns-then-is_shorter c =

@@ -3,13 +3,10 @@ use mathlib.Core.Path.{ap, ◌∙◌}
 use Prim.Native.Nat.{ℕ, ◌+◌, ◌%◌}
 use native.Mathlib.Omega.{arith}
 use lib.ListN.{get_or}
-use Rattle.cells.specs.Layout.{notes_at}
-use borrow.Author.Rules.{rules}
 use Rattle.cells.proofs.find.front_from.Goals as goal
 
 pub front_by_note-requires : goal.front_by_note-requires
 front_by_note-requires c =
-    let t = c in
-    let a = t.args in
+    let a = c.args in
     let known = c.wide-known.ensures ∙ ap (λ (i : ℕ). get_or a.w.now (i + a.u) 0) c.notes_at.ensures in
-    record { rep = t.requires.rep; edge = t.requires.edge; noted = record { above = t.requires.u_lt_v; is = ap (λ (i : ℕ). i % 4) known; some = omega (arith, c.if-known-eq0.false) } }
+    record { rep = c.requires.rep; edge = c.requires.edge; noted = record { above = c.requires.u_lt_v; is = ap (λ (i : ℕ). i % 4) known; some = omega (arith, c.if-known-eq0.false) } }

@@ -4,17 +4,14 @@ use Prim.Native.Nat.{ℕ, ◌+◌, ◌%◌}
 use native.Mathlib.Omega.{arith}
 use lib.ListN.{get_or}
 use Rattle.definition.specs.Cells.{is_front}
-use Rattle.cells.specs.Layout.{notes_at}
 use Rattle.cells.proofs.Edges.{key_swap}
-use borrow.Author.Rules.{rules}
 use Rattle.cells.proofs.find.front_to.Goals as goal
 
 pub front_by_note-requires : goal.front_by_note-requires
 front_by_note-requires c =
-    let t = c in
-    let a = t.args in
+    let a = c.args in
     let known = c.wide-known.ensures ∙ ap (λ (i : ℕ). get_or a.w.now (i + a.v) 0) c.notes_at.ensures in
-    record { rep = t.requires.rep; edge = record { node = omega (arith, t.requires.edge.node, t.requires.v_lt_u); apart = λ e. t.requires.edge.apart (sym e) }; noted = record { above = t.requires.v_lt_u; is = ap (λ (i : ℕ). i % 4) known; some = omega (arith, c.if-known-eq0.false) } }
+    record { rep = c.requires.rep; edge = record { node = omega (arith, c.requires.edge.node, c.requires.v_lt_u); apart = λ e. c.requires.edge.apart (sym e) }; noted = record { above = c.requires.v_lt_u; is = ap (λ (i : ℕ). i % 4) known; some = omega (arith, c.if-known-eq0.false) } }
 
 pub returns : goal.returns
 returns c =

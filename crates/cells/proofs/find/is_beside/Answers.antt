@@ -1,5 +1,4 @@
 -- The neighbours of the corner are read and compared.
-use borrow.Author.Rules.{rules}
 use Rattle.cells.proofs.Views.{beside_true, beside_rest}
 use Rattle.cells.proofs.find.is_beside.Goals as goal
 

@@ -1,5 +1,4 @@
 -- The node is read at the place that the kind gives.
-use borrow.Author.Rules.{rules}
 use Rattle.cells.proofs.Views.{read_before}
 use Rattle.cells.proofs.find.node_before.Goals as goal
 

@@ -2,8 +2,7 @@
 use Prim.Native.Nat.{◌+◌}
 use native.Mathlib.Omega.{arith}
 use borrow.Author.Tests.{eq-eqb, ne_eqb}
-use Rattle.cells.specs.Walk.{after, before}
-use borrow.Author.Rules.{rules}
+use Rattle.cells.specs.Walk.{after}
 use Rattle.cells.proofs.find.place_after.Goals as goal
 
 pub returns-then-k-n : goal.returns-then-k-n

@@ -2,7 +2,6 @@
 use native.Mathlib.Omega.{arith}
 use borrow.Author.Tests.{eq-eqb, ne_eqb}
 use Rattle.cells.specs.Walk.{before}
-use borrow.Author.Rules.{rules}
 use Rattle.cells.proofs.find.place_before.Goals as goal
 
 pub returns-then-k-eq0 : goal.returns-then-k-eq0

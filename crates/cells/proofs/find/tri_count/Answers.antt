@@ -2,8 +2,6 @@
 use native.Mathlib.Omega.{arith}
 use lib.ListN.{get_or}
 use borrow.Author.Tests.{eq-eqb, ne_eqb}
-use Rattle.cells.specs.Walk.{before}
-use borrow.Author.Rules.{rules}
 use Rattle.cells.proofs.find.tri_count.Goals as goal
 
 pub returns-then-w-i-eq3 : goal.returns-then-w-i-eq3

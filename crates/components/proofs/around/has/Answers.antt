@@ -1,4 +1,3 @@
-use Rattle.laws.specs.Kit.{rules}
 use Rattle.components.proofs.Members.{read_first, read_second, read_third}
 use Rattle.components.proofs.around.has.Goals as goal
 
@@ -14,6 +13,5 @@ returns-then-w-s-2 c = λ t h.
 
 pub returns : goal.returns
 returns c = λ t h.
-    let e = c in
-    let a = e.args in
-    read_third a.w.now a.s a.i a.v t h e.if-w-s.false c.if-w-s-2.false
+    let a = c.args in
+    read_third a.w.now a.s a.i a.v t h c.if-w-s.false c.if-w-s-2.false

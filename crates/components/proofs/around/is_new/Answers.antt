@@ -6,9 +6,8 @@ use Rattle.components.proofs.around.is_new.Goals as goal
 
 pub mark-requires : goal.mark-requires
 mark-requires c =
-    let t = c in
-    let a = t.args in
-    seen_can a.w.now a.s a.p t.requires.0 a.j t.requires.1 t.requires.2 t.requires.3 t.requires.4
+    let a = c.args in
+    seen_can a.w.now a.lay.slots a.lay.points c.requires.0 a.j c.requires.1 c.requires.2 c.requires.3 c.requires.4
 
 pub returns-then-mark-ne0 : goal.returns-then-mark-ne0
 returns-then-mark-ne0 c = λ k m xs x h.
@@ -17,9 +16,8 @@ returns-then-mark-ne0 c = λ k m xs x h.
 
 pub kind-requires : goal.kind-requires
 kind-requires c =
-    let t = c in
-    let a = t.args in
-    seen_see a.w.now a.s a.p t.requires.0 a.j t.requires.1 t.requires.2 t.requires.3 t.requires.4
+    let a = c.args in
+    seen_see a.w.now a.lay.slots a.lay.points c.requires.0 a.j c.requires.1 c.requires.2 c.requires.3 c.requires.4
 
 pub returns-then-kind-ne3 : goal.returns-then-kind-ne3
 returns-then-kind-ne3 c = λ k m xs x h.
@@ -28,14 +26,11 @@ returns-then-kind-ne3 c = λ k m xs x h.
 
 pub has_one-requires : goal.has_one-requires
 has_one-requires c =
-    let t = c in
-    let a = t.args in
-    seen_see a.w.now a.s a.p t.requires.0 a.j t.requires.1 t.requires.2 t.requires.3 t.requires.4
+    let a = c.args in
+    seen_see a.w.now a.lay.slots a.lay.points c.requires.0 a.j c.requires.1 c.requires.2 c.requires.3 c.requires.4
 
 pub returns : goal.returns
 returns c = λ k m xs x h.
-    let g = c in
-    let f = g in
-    let a = f.args in
-    let e = sym g.kind.ensures ∙ g.if-kind-ne3.false in
-    new_read h a.y a.z e (sym f.mark.ensures ∙ f.if-mark-ne0.false) c.has_one.result (c.has_one.ensures (body x) (seen_cell h a.y a.z e))
+    let a = c.args in
+    let e = sym c.kind.ensures ∙ c.if-kind-ne3.false in
+    new_read h a.y a.z e (sym c.mark.ensures ∙ c.if-mark-ne0.false) c.has_one.result (c.has_one.ensures (body x) (seen_cell h a.y a.z e))

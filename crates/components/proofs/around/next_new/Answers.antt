@@ -1,47 +1,35 @@
 -- Of the triangles that follow in the ring and have y or z, those passed are listed.
 -- The measure is how many links are left.
-use Rattle.laws.specs.Kit.{ℕ, arith, rules, List}
-use Rattle.definition.specs.Cells.{Mesh, Live}
-use Rattle.cells.specs.Walk.{left}
-use Rattle.components.specs.Seek.{Ring, Passed}
+use Rattle.laws.specs.Kit.{arith}
 use Rattle.components.proofs.Seeks.{passed_start, passed_end, passed_cell, passed_seen, passed_less, passed_found, passed_on}
 use Rattle.components.proofs.around.next_new.Goals as goal
 
 pub is_new-requires : goal.is_new-requires
 is_new-requires c =
-    let l = c in
-    let h = l.requires.by_index in
-    let g = l.loop-c.invariant h.0 h.1 h.2 h.3 h.4 h.5 in
+    let h = c.requires.by_index in
+    let g = c.loop-c.invariant h.0 h.1 h.2 h.3 h.4 h.5 in
     (h.1, h.2, h.3, passed_cell g c.loop-c-test.true, passed_seen g c.loop-c-test.true)
 
 pub returns-then-is_new : goal.returns-then-is_new
 returns-then-is_new c = λ u k m xs rest a.
-    let o = c in
-    let i = o in
-    let g = i.loop-c.invariant u k m xs rest a in
-    let h = i.loop-c-test.true in
-    passed_found g h o.is_new.result (o.is_new.ensures k m xs (passed_cell g h) (passed_seen g h)) c.if-is_new.true
+    let g = c.loop-c.invariant u k m xs rest a in
+    let h = c.loop-c-test.true in
+    passed_found g h c.is_new.result (c.is_new.ensures k m xs (passed_cell g h) (passed_seen g h)) c.if-is_new.true
 
 pub next-c-requires : goal.next-c-requires
 next-c-requires c =
-    let i = c in
-    let t = i in
-    record { fits = omega (arith, t.requires.room.fits); code = omega (arith, i.loop-c-test.true) }
+    record { fits = omega (arith, c.requires.room.fits); code = omega (arith, c.loop-c-test.true) }
 
 pub loop-c-smaller : goal.loop-c-smaller
 loop-c-smaller c =
-    let i = c in
-    let l = i in
-    let h = l.requires.by_index in
-    rw c.next-c.ensures (passed_less (l.loop-c.invariant h.0 h.1 h.2 h.3 h.4 h.5) i.loop-c-test.true)
+    let h = c.requires.by_index in
+    rw c.next-c.ensures (passed_less (c.loop-c.invariant h.0 h.1 h.2 h.3 h.4 h.5) c.loop-c-test.true)
 
 pub loop-c-preserved : goal.loop-c-preserved
 loop-c-preserved c = λ u k m xs rest a.
-    let o = c in
-    let i = o in
-    let g = i.loop-c.invariant u k m xs rest a in
-    let h = i.loop-c-test.true in
-    rw c.next-c.ensures (passed_on g h o.is_new.result (o.is_new.ensures k m xs (passed_cell g h) (passed_seen g h)) c.if-is_new.false)
+    let g = c.loop-c.invariant u k m xs rest a in
+    let h = c.loop-c-test.true in
+    rw c.next-c.ensures (passed_on g h c.is_new.result (c.is_new.ensures k m xs (passed_cell g h) (passed_seen g h)) c.if-is_new.false)
 
 pub loop-c-init : goal.loop-c-init
 loop-c-init c = λ u k m xs rest a. passed_start c.args.y c.args.z a

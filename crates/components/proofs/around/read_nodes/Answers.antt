@@ -1,4 +1,3 @@
-use Rattle.laws.specs.Kit.{rules}
 use Rattle.components.proofs.Members.{first, second, third}
 use Rattle.components.proofs.around.read_nodes.Goals as goal
 

@@ -13,19 +13,15 @@ overflow_add-n c =
 
 pub spread-all-requires : goal.spread-all-requires
 spread-all-requires c =
-    let d = c in
-    let t = d in
-    let q = t.requires in
-    record { flooding = (q.0, q.1, tri_live t.args.i q.3.t, begun_flood q.2 q.3 q.4 d.append.ensures); from_lt_k = (omega arith, begin_more q.2 q.3 q.4) }
+    let q = c.requires in
+    record { flooding = (q.0, q.1, tri_live c.args.i q.3.t, begun_flood q.2 q.3 q.4 c.append.ensures); from_lt_k = (omega arith, begin_more q.2 q.3 q.4) }
 
 pub shape_of-w : goal.shape_of-w
 shape_of-w c = let o = c in o.spread-all.auto.w ∙ o.append.auto.w
 
 pub returns : goal.returns
 returns c = λ m xs h ti out.
-    let o = c in
-    let d = o in
-    let a = d.args in
-    let g = o.spread-all.ensures.flooding_2 m xs (tri_live a.i ti.t) (begun_flood h ti out d.append.ensures) in
-    flooded_from h ti out d.append.ensures
-    (flood_end g (elim (dec_le a.s o.spread-all.result.head) [ yes l ↦ omega (arith, l, flood_few g) | no l ↦ o.spread-all.ensures.count_le_head (omega (arith, l)) ]))
+    let a = c.args in
+    let g = c.spread-all.ensures.flooding_2 m xs (tri_live a.i ti.t) (begun_flood h ti out c.append.ensures) in
+    flooded_from h ti out c.append.ensures
+    (flood_end g (elim (dec_le a.lay.slots c.spread-all.result.head) [ yes l ↦ omega (arith, l, flood_few g) | no l ↦ c.spread-all.ensures.count_le_head (omega (arith, l)) ]))

@@ -1,5 +1,5 @@
 -- By the number of those left, by the note, or by floods.
-use Rattle.laws.specs.Kit.{arith, rules}
+use Rattle.laws.specs.Kit.{arith}
 use Rattle.cells.proofs.Frames.{even_noted}
 use Rattle.components.proofs.Odds.{listed_slot}
 use Rattle.components.proofs.Totals.{listed_few, odd_rest, even_listed}
@@ -7,14 +7,13 @@ use Rattle.components.proofs.odd.leaves_odd.Goals as goal
 
 pub overflow_sub-live : goal.overflow_sub-live
 overflow_sub-live c =
-    let t = c in
-    let a = t.args in
-    omega (arith, listed_few a.w.now a.s a.p a.n t.requires.0 t.requires.1 t.requires.2, t.requires.4)
+    let a = c.args in
+    omega (arith, listed_few a.w.now a.lay.slots a.lay.points a.n c.requires.0 c.requires.1 c.requires.2, c.requires.4)
 
 pub returns-then-live-n-ne0 : goal.returns-then-live-n-ne0
 returns-then-live-n-ne0 c =
     let a = c.args in
-    λ m xs h u l. odd_rest a.w.now a.s a.p a.n m xs h a.live l c.if-live-n-ne0.true
+    λ m xs h u l. odd_rest a.w.now a.lay.slots a.lay.points a.n m xs h a.live l c.if-live-n-ne0.true
 
 pub is_even-requires : goal.is_even-requires
 is_even-requires c =
@@ -25,22 +24,18 @@ is_even-requires c =
 pub leaves_odd_near-requires : goal.leaves_odd_near-requires
 leaves_odd_near-requires c =
     let e = c.is_even in
-    let b = c in
-    let t = b in
-    let a = t.args in
-    let h = t.requires.2 in
+    let a = c.args in
+    let h = c.requires.2 in
     let one = listed_slot h in
-    let none = even_noted a.w.now a.s a.p t.requires.0 e.result one e.ensures c.if-is_even.true h.rep in
-    record { listed = (t.requires.0, t.requires.1, h, none, t.requires.3); n_value = even_listed a.w.now a.s a.p a.n t.requires.0 t.requires.1 h a.live t.requires.4 b.if-live-n-ne0.false none }
+    let none = even_noted a.w.now a.lay.slots a.lay.points c.requires.0 e.result one e.ensures c.if-is_even.true h.rep in
+    record { listed = (c.requires.0, c.requires.1, h, none, c.requires.3); n_value = even_listed a.w.now a.lay.slots a.lay.points a.n c.requires.0 c.requires.1 h a.live c.requires.4 c.if-live-n-ne0.false none }
 
 pub returns-then-is_even : goal.returns-then-is_even
 returns-then-is_even c =
-    let n = c in
-    let e = n.is_even in
-    let b = n in
-    let a = b.args in
+    let e = c.is_even in
+    let a = c.args in
     λ m xs h u l.
-    n.leaves_odd_near.ensures m xs h (even_noted a.w.now a.s a.p m e.result (listed_slot h) e.ensures n.if-is_even.true h.rep) u
+    c.leaves_odd_near.ensures m xs h (even_noted a.w.now a.lay.slots a.lay.points m e.result (listed_slot h) e.ensures c.if-is_even.true h.rep) u
 
 pub returns : goal.returns
 returns c = λ m xs h u l. c.leaves_odd_anywhere.ensures m xs h u

@@ -3,10 +3,8 @@ use Rattle.crossings.proofs.boxes.all_fine.Goals as goal
 
 pub returns : goal.returns
 returns c = λ e.
-    let i2 = c in
-    let i1 = i2 in
-    let b = i1.args.b in
-    record { left = not-false _ i1.if-not-b.false; right = not-false _ i2.if-not-b-2.false; low = not-false _ c.if-not-b-3.false; high = e }
+    let b = c.args.b in
+    record { left = not-false _ c.if-not-b.false; right = not-false _ c.if-not-b-2.false; low = not-false _ c.if-not-b-3.false; high = e }
 
 pub returns-then-not-b : goal.returns-then-not-b
 returns-then-not-b c = λ e. absurd (false≢true e)

@@ -8,7 +8,7 @@ use Rattle.crossings.proofs.Boxing.{Boxed, a_within, after_within, before_within
 use Rattle.crossings.proofs.boxes.box_of.Given as goal
 
 abbrev pub invariant-loop-c : goal.invariant-loop-c
-invariant-loop-c l = (k : Float) (m : Mesh) → Known l.w l.q l.s l.p l.n k m → Boxed l.w l.s l.p l.a l.c m l.b
+invariant-loop-c l = (k : Float) (m : Mesh) → Known l.w l.q l.lay.slots l.lay.points l.n k m → Boxed l.w l.lay.slots l.lay.points l.a l.c m l.b
 
 abbrev pub decreases-loop-c : goal.decreases-loop-c
-decreases-loop-c l = left l.w l.s l.p l.c
+decreases-loop-c l = left l.w l.lay.slots l.lay.points l.c

@@ -8,28 +8,21 @@ use Rattle.crossings.proofs.boxes.make_box.Goals as goal
 pub returns-then-not-all_fine : goal.returns-then-not-all_fine
 returns-then-not-all_fine c =
     let a = c.args in
-    record { keeps = keeps_refl a.w.now (mesh_end a.s a.p); is = λ k m h. h; noted = λ e. absurd (false≢true e) }
+    record { keeps = keeps_refl a.w.now (mesh_end a.lay.slots a.lay.points); is = λ k m h. h; noted = λ e. absurd (false≢true e) }
 
 pub put_box-requires : goal.put_box-requires
 put_box-requires c =
-    let x = c in
-    let t = x in
-    let a = t.args in
-    let y = t.requires.known in
-    record { can_note = t.requires.can_note; left_bound = small a.w.now a.q.now a.s a.p a.n y.0 y.1 y.2 a.a x.box_of-b.result (x.box_of-b.ensures y.0 y.1 y.2) }
+    let a = c.args in
+    let y = c.requires.known in
+    record { can_note = c.requires.can_note; left_bound = small a.w.now a.q.now a.lay.slots a.lay.points a.n y.0 y.1 y.2 a.a c.box_of-b.result (c.box_of-b.ensures y.0 y.1 y.2) }
 
 pub returns : goal.returns
 returns c =
-    let o = c in
-    let i = o in
-    let f = i in
-    let x = f in
-    let t = x in
-    let a = t.args in
-    let b = x.box_of-b.result in
-    let w' = o.put_box.new.w in record {
-      keeps = keeps_noted a.w.now w' a.s a.p a.a b.left.node b.right.node b.low.node b.high.node t.requires.can_note o.put_box.ensures;
-      is = λ k m h. known_noted a.w.now w' a.q.now a.s a.p a.n k m h a.a b t.requires.can_note o.put_box.ensures (x.box_of-b.ensures k m h)
-          (f.all_fine.ensures i.if-not-all_fine.false) (near_known a.w.now a.s a.p m h.rep a.a (omega (arith, h.count, t.requires.a_lt_n)));
-      noted = λ e. more_noted a.w.now w' a.s a.p a.a b.left.node b.right.node b.low.node b.high.node t.requires.can_note o.put_box.ensures;
+    let a = c.args in
+    let b = c.box_of-b.result in
+    let w' = c.put_box.new.w in record {
+      keeps = keeps_noted a.w.now w' a.lay.slots a.lay.points a.a b.left.node b.right.node b.low.node b.high.node c.requires.can_note c.put_box.ensures;
+      is = λ k m h. known_noted a.w.now w' a.q.now a.lay.slots a.lay.points a.n k m h a.a b c.requires.can_note c.put_box.ensures (c.box_of-b.ensures k m h)
+          (c.all_fine.ensures c.if-not-all_fine.false) (near_known a.w.now a.lay.slots a.lay.points m h.rep a.a (omega (arith, h.count, c.requires.a_lt_n)));
+      noted = λ e. more_noted a.w.now w' a.lay.slots a.lay.points a.a b.left.node b.right.node b.low.node b.high.node c.requires.can_note c.put_box.ensures;
     }

@@ -4,6 +4,5 @@ use Rattle.crossings.proofs.boxes.note_of.Goals as goal
 
 pub returns : goal.returns
 returns c =
-    let n = c in
-    let a = n.args in
-    c.wide.ensures ∙ ap (λ (i : ℕ). get_or a.w.now (i + a.a) 0) n.notes_at.ensures
+    let a = c.args in
+    c.wide.ensures ∙ ap (λ (i : ℕ). get_or a.w.now (i + a.a) 0) c.notes_at.ensures

@@ -5,66 +5,47 @@ use Rattle.cells.specs.Layout.{mesh_end}
 use Rattle.crossings.proofs.Noted.{can_note, can_look, away}
 use Rattle.crossings.proofs.boxes.passed_over.Goals as goal
 
-pub returns-then-a-s : goal.returns-then-a-s
-returns-then-a-s c =
+pub returns-then-a-lay : goal.returns-then-a-lay
+returns-then-a-lay c =
     let a = c.args in
-    record { keeps = keeps_refl a.w.now (mesh_end a.s a.p); is = λ k m h. (h, λ e. absurd (false≢true e)) }
+    record { keeps = keeps_refl a.w.now (mesh_end a.lay.slots a.lay.points); is = λ k m h. (h, λ e. absurd (false≢true e)) }
 
 pub far_off-requires : goal.far_off-requires
 far_off-requires c =
-    let i2 = c in
-    let o = i2 in
-    let i1 = o in
-    let t = i1 in
-    let a = t.args in
-    let y = t.requires.known in
-    can_look a.w.now a.q.now a.s a.p a.n y.0 y.1 y.2 a.a t.requires.a_lt_n (omega (arith, o.note_of.ensures, i2.if-note_of-ge4.true)) i1.if-a-s.false
+    let a = c.args in
+    let y = c.requires.known in
+    can_look a.w.now a.q.now a.lay.slots a.lay.points a.n y.0 y.1 y.2 a.a c.requires.a_lt_n (omega (arith, c.note_of.ensures, c.if-note_of-ge4.true)) c.if-a-lay.false
 
 pub returns-then-note_of-ge4 : goal.returns-then-note_of-ge4
 returns-then-note_of-ge4 c =
-    let i2 = c in
-    let o = i2 in
-    let i1 = o in
-    let t = i1 in
-    let a = t.args in record {
-      keeps = keeps_refl a.w.now (mesh_end a.s a.p);
+    let a = c.args in record {
+      keeps = keeps_refl a.w.now (mesh_end a.lay.slots a.lay.points);
       is = λ k m h. (
         h,
-        λ e. away a.w.now a.q.now a.s a.p a.n k m h a.a t.requires.a_lt_n (omega (arith, o.note_of.ensures, i2.if-note_of-ge4.true)) a.l (c.far_off.ensures e),
+        λ e. away a.w.now a.q.now a.lay.slots a.lay.points a.n k m h a.a c.requires.a_lt_n (omega (arith, c.note_of.ensures, c.if-note_of-ge4.true)) a.l (c.far_off.ensures e),
       );
     }
 
 pub make_box-requires : goal.make_box-requires
 make_box-requires c =
-    let i2 = c in
-    let o = i2 in
-    let i1 = o in
-    let t = i1 in
-    let a = t.args in
-    let y = t.requires.known in
-    record { known = y; a_lt_n = t.requires.a_lt_n; can_note = can_note a.w.now a.q.now a.s a.p a.n y.0 y.1 y.2 a.a t.requires.a_lt_n i1.if-a-s.false (omega (arith, o.note_of.ensures, i2.if-note_of-ge4.false)) }
+    let a = c.args in
+    let y = c.requires.known in
+    record { known = y; a_lt_n = c.requires.a_lt_n; can_note = can_note a.w.now a.q.now a.lay.slots a.lay.points a.n y.0 y.1 y.2 a.a c.requires.a_lt_n c.if-a-lay.false (omega (arith, c.note_of.ensures, c.if-note_of-ge4.false)) }
 
 pub far_off-requires-then-make_box : goal.far_off-requires-then-make_box
 far_off-requires-then-make_box c =
-    let i3 = c in
-    let b = i3 in
-    let i1 = b in
-    let t = i1 in
-    let a = t.args in
-    let y = t.requires.known in
-    can_look b.make_box.new.w a.q.now a.s a.p a.n y.0 y.1 (b.make_box.ensures.is y.0 y.1 y.2) a.a t.requires.a_lt_n (b.make_box.ensures.noted i3.if-make_box.true) i1.if-a-s.false
+    let a = c.args in
+    let y = c.requires.known in
+    can_look c.make_box.new.w a.q.now a.lay.slots a.lay.points a.n y.0 y.1 (c.make_box.ensures.is y.0 y.1 y.2) a.a c.requires.a_lt_n (c.make_box.ensures.noted c.if-make_box.true) c.if-a-lay.false
 
 pub returns-then-make_box : goal.returns-then-make_box
 returns-then-make_box c =
-    let i3 = c in
-    let b = i3 in
-    let t = b in
-    let a = t.args in record {
-      keeps = b.make_box.ensures.keeps;
+    let a = c.args in record {
+      keeps = c.make_box.ensures.keeps;
       is = λ k m h.
-          let h' = b.make_box.ensures.is k m h in (
+          let h' = c.make_box.ensures.is k m h in (
             h',
-            λ e. away b.make_box.new.w a.q.now a.s a.p a.n k m h' a.a t.requires.a_lt_n (b.make_box.ensures.noted i3.if-make_box.true) a.l (c.far_off-then-make_box.ensures e),
+            λ e. away c.make_box.new.w a.q.now a.lay.slots a.lay.points a.n k m h' a.a c.requires.a_lt_n (c.make_box.ensures.noted c.if-make_box.true) a.l (c.far_off-then-make_box.ensures e),
           );
     }
 

@@ -10,7 +10,7 @@ use Rattle.crossings.proofs.boxes.side_at.Tie as tie
 abbrev Read : tie.After-wide → Type 0
 Read c =
     let a = c.args in
-    c.wide.result ≡ bound a.w.now a.s a.p a.a a.j
+    c.wide.result ≡ bound a.w.now a.lay.slots a.lay.points a.a a.j
 
 read : (c : tie.After-wide) → Read c
 read c =

@@ -13,7 +13,4 @@ returns-then-not-in_order-2 c = after_nan _ _ _
 
 pub returns : goal.returns
 returns c =
-    let o2 = c in
-    let i1 = o2 in
-    let o1 = i1 in
-    after_is _ _ _ _ (o1.in_order.ensures i1.if-not-in_order.false) (o2.in_order-2.ensures c.if-not-in_order-2.false)
+    after_is _ _ _ _ (c.in_order.ensures c.if-not-in_order.false) (c.in_order-2.ensures c.if-not-in_order-2.false)

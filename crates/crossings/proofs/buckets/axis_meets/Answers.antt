@@ -4,10 +4,6 @@ use Rattle.crossings.proofs.buckets.axis_meets.Goals as goal
 
 pub returns : goal.returns
 returns c =
-    let k4 = c in
-    let k3 = k4 in
-    let k2 = k3 in
-    let k1 = k2 in
-    let a = k1.args in
+    let a = c.args in
     axis_is a.bucket a.p a.q a.r a.s _ _ _ _ c.ranges_meet.result c.ranges_meet.ensures
-    k1.bucket_key.ensures k2.bucket_key-2.ensures k3.bucket_key-3.ensures k4.bucket_key-4.ensures
+    c.bucket_key.ensures c.bucket_key-2.ensures c.bucket_key-3.ensures c.bucket_key-4.ensures

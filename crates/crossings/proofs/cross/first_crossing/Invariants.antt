@@ -9,7 +9,4 @@ use Rattle.crossings.proofs.cross.first_crossing.Given as goal
 
 abbrev pub invariant-loop-a : goal.invariant-loop-a
 invariant-loop-a l =
-    (l.a ≤ l.n) × Keeps l.initial.w l.w (mesh_end l.s l.p) × ((m : Mesh) → Known l.initial.w l.q l.s l.p l.n l.bucket m → Known l.w l.q l.s l.p l.n l.bucket m × (NoneBelow m l.u l.v l.from → NoneBelow m l.u l.v l.a))
-
-abbrev pub decreases-loop-a : goal.decreases-loop-a
-decreases-loop-a l = l.n - l.a
+    (l.a ≤ l.n) × Keeps l.initial.w l.w (mesh_end l.lay.slots l.lay.points) × ((m : Mesh) → Known l.initial.w l.q l.lay.slots l.lay.points l.n l.bucket m → Known l.w l.q l.lay.slots l.lay.points l.n l.bucket m × (NoneBelow m l.u l.v l.from → NoneBelow m l.u l.v l.a))

@@ -8,7 +8,7 @@ use Rattle.crossings.proofs.Crosses.{Best, best_start, best_more, best_less, bes
 use Rattle.crossings.proofs.cross.least_beside.Given as goal
 
 abbrev pub invariant-loop-c : goal.invariant-loop-c
-invariant-loop-c l = (m : Mesh) → Known l.w l.q l.s l.p l.n l.bucket m → Best l.w l.s l.p l.n l.u l.v l.a l.best l.c m
+invariant-loop-c l = (m : Mesh) → Known l.w l.q l.lay.slots l.lay.points l.n l.bucket m → Best l.w l.lay.slots l.lay.points l.n l.u l.v l.a l.best l.c m
 
 abbrev pub decreases-loop-c : goal.decreases-loop-c
-decreases-loop-c l = left l.w l.s l.p l.c
+decreases-loop-c l = left l.w l.lay.slots l.lay.points l.c

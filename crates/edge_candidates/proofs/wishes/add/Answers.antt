@@ -1,4 +1,4 @@
-use Rattle.laws.specs.Kit.{arith, rules}
+use Rattle.laws.specs.Kit.{arith}
 use Rattle.edge_candidates.proofs.wishes.add.Goals as goal
 
 pub returns-then-yes : goal.returns-then-yes

@@ -12,16 +12,13 @@ loop-i-init c = (omega arith, rows_start order_points (point_at _) (point_at _) 
 pub returns-then-not-same_point : goal.returns-then-not-same_point
 unfolding first_points below
 returns-then-not-same_point c =
-    let t = c in
-    let g = t in
-    let d = sym t.same_point.ensures ∙ t.if-not-same_point.true in
-    c.order_point.ensures ∙ rows_decide order_points (point_at _) (point_at _) _ g.loop-i.i (omega arith) g.loop-i.invariant.1 d
+    let d = sym c.same_point.ensures ∙ c.if-not-same_point.true in
+    c.order_point.ensures ∙ rows_decide order_points (point_at _) (point_at _) _ c.loop-i.i (omega arith) c.loop-i.invariant.1 d
 
 pub loop-i-preserved : goal.loop-i-preserved
 loop-i-preserved c =
-    let g = c in
     let d = sym c.same_point.ensures ∙ c.if-not-same_point.false in
-    (omega arith, rows_go_on order_points (point_at _) (point_at _) _ g.loop-i.i (omega arith) g.loop-i.invariant.1 d)
+    (omega arith, rows_go_on order_points (point_at _) (point_at _) _ c.loop-i.i (omega arith) c.loop-i.invariant.1 d)
 
 pub returns : goal.returns
 unfolding first_points below

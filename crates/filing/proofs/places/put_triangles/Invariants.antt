@@ -1,4 +1,4 @@
-use Rattle.std.specs.Prelude.{◌≡◌, ◌-◌, ◌<◌, ◌≤◌}
+use Rattle.std.specs.Prelude.{◌≡◌, ◌<◌, ◌≤◌}
 use Rattle.laws.specs.Kit.{ℕ, length}
 use Rattle.definition.specs.Call.{tri_at}
 use Rattle.filing.specs.Filing.{rotated}
@@ -8,6 +8,3 @@ use Rattle.filing.proofs.places.put_triangles.Given as goal
 
 abbrev pub invariant-loop-i : goal.invariant-loop-i
 invariant-loop-i l = (l.i ≤ l.n) × (length l.w ≡ length l.initial.w) × ((j : ℕ) → j < l.i → key_at l.w j ≡ key (rotated (tri_at l.triangles j)))
-
-abbrev pub decreases-loop-i : goal.decreases-loop-i
-decreases-loop-i l = l.n - l.i

@@ -7,15 +7,10 @@ returns-then-x-y c = λ m f. let a = c.args in convex_same a.q.now m a.u a.v a.x
 
 pub returns-then-apart : goal.returns-then-apart
 returns-then-apart c = λ m f.
-    let t = c in
-    let p = t in
-    let e = p in
-    let a = e.args in
-    convex_rest a.q.now m a.u a.v a.x a.y f e.if-x-y.false p.apart.result p.apart.ensures t.if-apart.true c.apart-then-apart.result c.apart-then-apart.ensures
+    let a = c.args in
+    convex_rest a.q.now m a.u a.v a.x a.y f c.if-x-y.false c.apart.result c.apart.ensures c.if-apart.true c.apart-then-apart.result c.apart-then-apart.ensures
 
 pub returns : goal.returns
 returns c = λ m f.
-    let p = c in
-    let e = p in
-    let a = e.args in
-    convex_flat a.q.now m a.u a.v a.x a.y f e.if-x-y.false p.apart.result p.apart.ensures c.if-apart.false
+    let a = c.args in
+    convex_flat a.q.now m a.u a.v a.x a.y f c.if-x-y.false c.apart.result c.apart.ensures c.if-apart.false

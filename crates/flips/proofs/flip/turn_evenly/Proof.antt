@@ -7,7 +7,7 @@ use Rattle.flips.proofs.flip.turn_evenly.Statement.{statement}
 use Rattle.flips.proofs.flip.turn_evenly.Tie as tie
 
 -- there is a slot
-some_slot : (t : tie.Start) → 1 ≤ t.args.s
+some_slot : (t : tie.Start) → 1 ≤ t.args.lay.slots
 some_slot t = omega (arith, t.requires.2.can.i_given, t.requires.1.used)
 
 -- the function's entry, from where the turn is made
@@ -28,7 +28,7 @@ returns : tie.Need-returns-then-not-even
 returns c =
     let n = c in
     let a = (top n.before.before.before).args in
-    turned_only a.w.now n.turn.new.w a.s a.p a.u a.v a.i a.j a.x a.y n.turn.ensures
+    turned_only a.w.now n.turn.new.w a.lay.slots a.lay.points a.u a.v a.i a.j a.x a.y n.turn.ensures
 
 note_even_requires : tie.Need-note_even-requires
 note_even_requires c κs =
@@ -43,7 +43,7 @@ returns_2 c =
     let n = e in
     let f = n in
     let a = (top n.before.before.before.before.before.before.before).args in
-    turned_noted a.w.now n.turn.new.w a.s a.p a.u a.v a.i a.j a.x a.y n.turn.ensures z.note_even.new.w (some_slot (top n.before.before.before.before.before.before.before))
+    turned_noted a.w.now n.turn.new.w a.lay.slots a.lay.points a.u a.v a.i a.j a.x a.y n.turn.ensures z.note_even.new.w (some_slot (top n.before.before.before.before.before.before.before))
     f.is_even-even.result f.is_even-even.ensures e.if-not-even.false z.note_even.ensures
 
 pub turn_evenly_spec : {M : Type 1} → statement M

@@ -27,45 +27,45 @@ second k = k.node-b.result
 abbrev third : tie.After-node-c → ℕ
 third k = k.node-c.result
 
-module _ (k : tie.After-node-c) (m : Mesh) (r : Rep (top k).args.w.now (top k).args.s (top k).args.p m) (h : CanSplit m (top k).args.i (top k).args.used (top k).args.n) where
+module _ (k : tie.After-node-c) (m : Mesh) (r : Rep (top k).args.w.now (top k).args.lay.slots (top k).args.lay.points m) (h : CanSplit m (top k).args.i (top k).args.used (top k).args.n) where
   has_parts : Parts m (top k).args.i (top k).args.n (first k) (second k) (third k)
   has_parts =
       let a = (top k).args in
-      parts a.w.now a.s a.p m r a.i a.used a.n h (first k) (second k) (third k)
+      parts a.w.now a.lay.slots a.lay.points m r a.i a.used a.n h (first k) (second k) (third k)
       k.node-a.ensures k.node-b.ensures k.node-c.ensures
 
-  with_new : (z : Node) → Rep (top k).args.w.now (top k).args.s (top k).args.p (with_point m z)
-  with_new z = let a = (top k).args in rep_point a.w.now a.s a.p m r z (omega (arith, h.count, (top k).requires.1.point))
+  with_new : (z : Node) → Rep (top k).args.w.now (top k).args.lay.slots (top k).args.lay.points (with_point m z)
+  with_new z = let a = (top k).args in rep_point a.w.now a.lay.slots a.lay.points m r z (omega (arith, h.count, (top k).requires.1.point))
 
   set_ok : (z : Node) → CanSet (with_point m z) (top k).args.i (tri_of_nodes (first k) (second k) (top k).args.n)
-  set_ok z = let a = (top k).args in can_set m z a.s a.p a.i a.used a.n (first k) (second k) (third k) h (top k).requires.1 has_parts
+  set_ok z = let a = (top k).args in can_set m z a.lay.slots a.lay.points a.i a.used a.n (first k) (second k) (third k) h (top k).requires.1 has_parts
 
   push_ok : (z : Node)
-      → CanPush (set_cell (with_point m z) (top k).args.i (tri_of_nodes (first k) (second k) (top k).args.n)) (top k).args.s (top k).args.used (tri_of_nodes (second k) (third k) (top k).args.n)
-  push_ok z = let a = (top k).args in can_push m z a.s a.p a.i a.used a.n (first k) (second k) (third k) h (top k).requires.1 has_parts
+      → CanPush (set_cell (with_point m z) (top k).args.i (tri_of_nodes (first k) (second k) (top k).args.n)) (top k).args.lay.slots (top k).args.used (tri_of_nodes (second k) (third k) (top k).args.n)
+  push_ok z = let a = (top k).args in can_push m z a.lay.slots a.lay.points a.i a.used a.n (first k) (second k) (third k) h (top k).requires.1 has_parts
 
   push_ok2 : (z : Node)
       → CanPush (push_cell (set_cell (with_point m z) (top k).args.i (tri_of_nodes (first k) (second k) (top k).args.n)) (tri_of_nodes (second k) (third k) (top k).args.n))
-      (top k).args.s ((top k).args.used + 1) (tri_of_nodes (third k) (first k) (top k).args.n)
-  push_ok2 z = let a = (top k).args in can_push2 m z a.s a.p a.i a.used a.n (first k) (second k) (third k) h (top k).requires.1 has_parts
+      (top k).args.lay.slots ((top k).args.used + 1) (tri_of_nodes (third k) (first k) (top k).args.n)
+  push_ok2 z = let a = (top k).args in can_push2 m z a.lay.slots a.lay.points a.i a.used a.n (first k) (second k) (third k) h (top k).requires.1 has_parts
 
 node_requires : tie.Need-node-a-requires
 node_requires c κs =
     let t = c in
     let a = t.args in
-    (split_see a.w.now a.s a.p t.requires.0.0 t.requires.0.1 a.i a.used a.n t.requires.0.2, omega arith)
+    (split_see a.w.now a.lay.slots a.lay.points t.requires.0.0 t.requires.0.1 a.i a.used a.n t.requires.0.2, omega arith)
 
 node_requires_2 : tie.Need-node-b-requires
 node_requires_2 c κs =
     let t = c in
     let a = t.args in
-    (split_see a.w.now a.s a.p t.requires.0.0 t.requires.0.1 a.i a.used a.n t.requires.0.2, omega arith)
+    (split_see a.w.now a.lay.slots a.lay.points t.requires.0.0 t.requires.0.1 a.i a.used a.n t.requires.0.2, omega arith)
 
 node_requires_3 : tie.Need-node-c-requires
 node_requires_3 c κs =
     let t = c in
     let a = t.args in
-    (split_see a.w.now a.s a.p t.requires.0.0 t.requires.0.1 a.i a.used a.n t.requires.0.2, omega arith)
+    (split_see a.w.now a.lay.slots a.lay.points t.requires.0.0 t.requires.0.1 a.i a.used a.n t.requires.0.2, omega arith)
 
 set_tri_requires : tie.Need-set_tri-requires
 set_tri_requires c κs =
@@ -115,12 +115,12 @@ returns c = λ z.
       rep = λ m r h.
           let m1 = set_cell (with_point m z) a.i (tri_of_nodes (first k.before.before.before.before.before.before.before.before.before.before.before.before) (second k.before.before.before.before.before.before.before.before.before.before.before.before) a.n) in
           let m2 = push_cell m1 (tri_of_nodes (second k.before.before.before.before.before.before.before.before.before.before.before.before) (third k.before.before.before.before.before.before.before.before.before.before.before.before) a.n) in
-          split_is s3.push_tri-2.new.w a.s a.p m z a.i a.n (first k.before.before.before.before.before.before.before.before.before.before.before.before) (second k.before.before.before.before.before.before.before.before.before.before.before.before) (third k.before.before.before.before.before.before.before.before.before.before.before.before) _ _ _ h.count
+          split_is s3.push_tri-2.new.w a.lay.slots a.lay.points m z a.i a.n (first k.before.before.before.before.before.before.before.before.before.before.before.before) (second k.before.before.before.before.before.before.before.before.before.before.before.before) (third k.before.before.before.before.before.before.before.before.before.before.before.before) _ _ _ h.count
           k.node-a.ensures k.node-b.ensures k.node-c.ensures
           (s3.push_tri-2.ensures.rep m2
           (s2.push_tri.ensures.rep m1 (s1.set_tri.ensures.rep (with_point m z) (with_new k.before.before.before.before.before.before.before.before.before.before.before.before m r h z) (set_ok k.before.before.before.before.before.before.before.before.before.before.before.before m r h z)) (push_ok k.before.before.before.before.before.before.before.before.before.before.before.before m r h z)) (push_ok2 k.before.before.before.before.before.before.before.before.before.before.before.before m r h z));
-      keeps = keeps_trans a.w.now s2.push_tri.new.w s3.push_tri-2.new.w (mesh_end a.s a.p)
-          (keeps_trans a.w.now s1.set_tri.new.w s2.push_tri.new.w (mesh_end a.s a.p) s1.set_tri.ensures.keeps s2.push_tri.ensures.keeps)
+      keeps = keeps_trans a.w.now s2.push_tri.new.w s3.push_tri-2.new.w (mesh_end a.lay.slots a.lay.points)
+          (keeps_trans a.w.now s1.set_tri.new.w s2.push_tri.new.w (mesh_end a.lay.slots a.lay.points) s1.set_tri.ensures.keeps s2.push_tri.ensures.keeps)
           s3.push_tri-2.ensures.keeps;
     }
 

@@ -4,9 +4,7 @@ use Rattle.groups.proofs.forest.join_equal.Goals as goal
 
 pub returns-then-a-b : goal.returns-then-a-b
 returns-then-a-b c =
-    let t = c in
-    let s = t in
-    joined _ _ _ _ _ s.requires.1 s.requires.2 t.if-a-b.true c.join.ensures
+    joined _ _ _ _ _ c.requires.1 c.requires.2 c.if-a-b.true c.join.ensures
 
 pub returns : goal.returns
 returns c = unjoined _ _ _ _ c.requires.0 c.if-a-b.false

@@ -11,22 +11,16 @@ loop-i-init c = run_start _ _ _ _ c.requires
 
 pub join_equal-requires : goal.join_equal-requires
 join_equal-requires c =
-    let g = c in
-    let s = g in
-    let i = g.loop-i.i in (
-      g.loop-i.invariant.forest,
-      subst (λ z. tri_of z < s.args.n) (sym c.key_at.ensures) (s.requires.tris (i - 1) (omega arith)),
-      subst (λ z. tri_of z < s.args.n) (sym c.key_at-in-loop-i.ensures) (s.requires.tris i (omega arith)),
+    let i = c.loop-i.i in (
+      c.loop-i.invariant.forest,
+      subst (λ z. tri_of z < c.args.n) (sym c.key_at.ensures) (c.requires.tris (i - 1) (omega arith)),
+      subst (λ z. tri_of z < c.args.n) (sym c.key_at-in-loop-i.ensures) (c.requires.tris i (omega arith)),
     )
 
 pub loop-i-preserved : goal.loop-i-preserved
 loop-i-preserved c =
-    let p = c in
-    let k = p in
-    let g = k in
-    let s = g in
-    run_next _ _ _ _ _ _ _ s.requires.tris k.loop-i-test.true g.loop-i.invariant
-    (subst₂ (λ a b. Joined g.loop-i.parents p.join_equal.new.parents s.args.n a b) k.key_at.ensures k.key_at-in-loop-i.ensures p.join_equal.ensures)
+    run_next _ _ _ _ _ _ _ c.requires.tris c.loop-i-test.true c.loop-i.invariant
+    (subst₂ (λ a b. Joined c.loop-i.parents c.join_equal.new.parents c.args.n a b) c.key_at.ensures c.key_at-in-loop-i.ensures c.join_equal.ensures)
 
 pub returns : goal.returns
 returns c = run_end _ _ _ _ _ _ c.loop-i-test.false c.loop-i.invariant

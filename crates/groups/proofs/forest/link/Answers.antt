@@ -5,12 +5,10 @@ use Rattle.groups.proofs.forest.link.Goals as goal
 
 pub returns-then-a-b : goal.returns-then-a-b
 returns-then-a-b c =
-    let s = c in
-    let p = s.requires in
+    let p = c.requires in
     hung _ _ _ _ p.0 (omega arith) (omega arith) p.4 p.3 _ _ (omega arith) (omega arith)
 
 pub returns : goal.returns
 returns c =
-    let s = c in
-    let p = s.requires in
+    let p = c.requires in
     hung _ _ _ _ p.0 (omega arith) (omega arith) p.3 p.4 _ _ (omega arith) (omega arith)

@@ -8,72 +8,46 @@ use Rattle.insertion.proofs.clear.is_clear.Goals as goal
 
 pub loop-k-init : goal.loop-k-init
 loop-k-init c =
-    let t = c in
-    let a = t.args in
-    (omega arith, λ m d. clearing_start a.w.now a.s a.p m d.rep a.i c.kind-n.result t.requires.i_lt_s c.kind-n.ensures (flat a.x a.y) a.spacing)
+    let a = c.args in
+    (omega arith, λ m d. clearing_start a.w.now a.lay.slots a.lay.points m d.rep a.i c.kind-n.result c.requires.i_lt_s c.kind-n.ensures (flat a.x a.y) a.spacing)
 
 pub node-requires : goal.node-requires
 node-requires c =
-    let l = c in
-    let t = l in
-    let a = t.args in
-    let m = t.requires.drawn.0 in
-    let d = t.requires.drawn.1 in
-    record { can_see = rep_see a.w.now a.s a.p m d.rep a.i t.requires.i_lt_s; k_bound = omega (arith, c.loop-k-test.true, (l.loop-k.invariant.1 m d).left.most) }
+    let a = c.args in
+    let m = c.requires.drawn.0 in
+    let d = c.requires.drawn.1 in
+    record { can_see = rep_see a.w.now a.lay.slots a.lay.points m d.rep a.i c.requires.i_lt_s; k_bound = omega (arith, c.loop-k-test.true, (c.loop-k.invariant.1 m d).left.most) }
 
 pub dist-requires : goal.dist-requires
 dist-requires c =
-    let i = c in
-    let l = i in
-    let kd = l in
-    let t = kd in
-    let a = t.args in
-    let m = t.requires.drawn.0 in
-    let d = t.requires.drawn.1 in
-    let h = l.loop-k.invariant.1 m d in
-    let g = clearing_here a.w.now a.s a.i kd.kind-n.result l.loop-k.k m (flat a.x a.y) a.spacing h c.node.result i.loop-k-test.true c.node.ensures in
-    within a.q.now a.p m d.pts c.node.result c.node.result refl g.known
+    let a = c.args in
+    let m = c.requires.drawn.0 in
+    let d = c.requires.drawn.1 in
+    let h = c.loop-k.invariant.1 m d in
+    let g = clearing_here a.w.now a.lay.slots a.i c.kind-n.result c.loop-k.k m (flat a.x a.y) a.spacing h c.node.result c.loop-k-test.true c.node.ensures in
+    within a.q.now a.lay.points m d.pts c.node.result c.node.result refl g.known
 
 pub returns-then-dist-spacing : goal.returns-then-dist-spacing
 returns-then-dist-spacing c =
-    let ds = c in
-    let nd = ds in
-    let i = nd in
-    let l = i in
-    let kd = l in
-    let t = kd in
-    let a = t.args in
+    let a = c.args in
     λ m d.
-    let h = l.loop-k.invariant.1 m d in
-    let g = clearing_here a.w.now a.s a.i kd.kind-n.result l.loop-k.k m (flat a.x a.y) a.spacing h nd.node.result i.loop-k-test.true nd.node.ensures in
-    clearing_stop a.w.now a.s a.i kd.kind-n.result l.loop-k.k m (flat a.x a.y) a.spacing h nd.node.result g
-    (far_read a.q.now a.p m d.pts (flat a.x a.y) a.spacing nd.node.result ds.dist.result g.known ds.dist.ensures.1 true c.if-dist-spacing.true)
-
-pub loop-k-smaller : goal.loop-k-smaller
-loop-k-smaller c =
-    omega (arith, c.loop-k-test.true)
+    let h = c.loop-k.invariant.1 m d in
+    let g = clearing_here a.w.now a.lay.slots a.i c.kind-n.result c.loop-k.k m (flat a.x a.y) a.spacing h c.node.result c.loop-k-test.true c.node.ensures in
+    clearing_stop a.w.now a.lay.slots a.i c.kind-n.result c.loop-k.k m (flat a.x a.y) a.spacing h c.node.result g
+    (far_read a.q.now a.lay.points m d.pts (flat a.x a.y) a.spacing c.node.result c.dist.result g.known c.dist.ensures.1 true c.if-dist-spacing.true)
 
 pub loop-k-preserved : goal.loop-k-preserved
 loop-k-preserved c =
-    let ds = c in
-    let nd = ds in
-    let i = nd in
-    let l = i in
-    let kd = l in
-    let t = kd in
-    let a = t.args in (
-      omega (arith, i.loop-k-test.true),
+    let a = c.args in (
+      omega (arith, c.loop-k-test.true),
       λ m d.
-          let h = l.loop-k.invariant.1 m d in
-          let g = clearing_here a.w.now a.s a.i kd.kind-n.result l.loop-k.k m (flat a.x a.y) a.spacing h nd.node.result i.loop-k-test.true nd.node.ensures in
-          clearing_more a.w.now a.s a.i kd.kind-n.result l.loop-k.k m (flat a.x a.y) a.spacing h nd.node.result g
-          (far_read a.q.now a.p m d.pts (flat a.x a.y) a.spacing nd.node.result ds.dist.result g.known ds.dist.ensures.1 false c.if-dist-spacing.false),
+          let h = c.loop-k.invariant.1 m d in
+          let g = clearing_here a.w.now a.lay.slots a.i c.kind-n.result c.loop-k.k m (flat a.x a.y) a.spacing h c.node.result c.loop-k-test.true c.node.ensures in
+          clearing_more a.w.now a.lay.slots a.i c.kind-n.result c.loop-k.k m (flat a.x a.y) a.spacing h c.node.result g
+          (far_read a.q.now a.lay.points m d.pts (flat a.x a.y) a.spacing c.node.result c.dist.result g.known c.dist.ensures.1 false c.if-dist-spacing.false),
     )
 
 pub returns : goal.returns
 returns c =
-    let l = c in
-    let kd = l in
-    let t = kd in
-    let a = t.args in
-    λ m d. clearing_end a.w.now a.s a.i kd.kind-n.result l.loop-k.k m (flat a.x a.y) a.spacing (l.loop-k.invariant.1 m d) c.loop-k-test.false
+    let a = c.args in
+    λ m d. clearing_end a.w.now a.lay.slots a.i c.kind-n.result c.loop-k.k m (flat a.x a.y) a.spacing (c.loop-k.invariant.1 m d) c.loop-k-test.false

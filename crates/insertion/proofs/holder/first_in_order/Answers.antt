@@ -9,37 +9,26 @@ loop-i-init c = (omega arith, λ m l x h b. absurd (omega (arith, b)))
 
 pub holds-requires : goal.holds-requires
 holds-requires c =
-    let t = c in
-    let l = t.requires.1 in
-    record { drawn = (t.requires.0, record { rep = l.rep; pts = l.pts }); i_lt_s = omega (arith, c.loop-i-test.true, l.given, l.rep.used) }
+    let l = c.requires.1 in
+    record { drawn = (c.requires.0, record { rep = l.rep; pts = l.pts }); i_lt_s = omega (arith, c.loop-i-test.true, l.given, l.rep.used) }
 
 pub returns-then-holds : goal.returns-then-holds
 returns-then-holds c =
-    let h = c in
-    let i = h in
-    let l = i in
-    let t = l in
-    let a = t.args in
+    let a = c.args in
     λ m k.
-    order_found a.w.now a.s a.p m k.rep (flat a.x a.y) l.loop-i.i (l.loop-i.invariant.1 m k)
-    (sym c.if-holds.true ∙ h.holds.ensures m (record { rep = k.rep; pts = k.pts })) (omega (arith, i.loop-i-test.true, k.given, k.rep.used))
+    order_found a.w.now a.lay.slots a.lay.points m k.rep (flat a.x a.y) c.loop-i.i (c.loop-i.invariant.1 m k)
+    (sym c.if-holds.true ∙ c.holds.ensures m (record { rep = k.rep; pts = k.pts })) (omega (arith, c.loop-i-test.true, k.given, k.rep.used))
 
 pub loop-i-preserved : goal.loop-i-preserved
 loop-i-preserved c =
-    let h = c in
-    let i = h in
-    let l = i in
-    let t = l in
-    let a = t.args in (
-      omega (arith, i.loop-i-test.true),
+    let a = c.args in (
+      omega (arith, c.loop-i-test.true),
       λ m k.
-          unheld_more a.w.now a.s a.p m k.rep (flat a.x a.y) l.loop-i.i (l.loop-i.invariant.1 m k)
-          (sym c.if-holds.false ∙ h.holds.ensures m (record { rep = k.rep; pts = k.pts })),
+          unheld_more a.w.now a.lay.slots a.lay.points m k.rep (flat a.x a.y) c.loop-i.i (c.loop-i.invariant.1 m k)
+          (sym c.if-holds.false ∙ c.holds.ensures m (record { rep = k.rep; pts = k.pts })),
     )
 
 pub returns : goal.returns
 returns c =
-    let l = c in
-    let t = l in
-    let a = t.args in
-    λ m k. order_lost a.w.now a.s a.p m k.rep (flat a.x a.y) l.loop-i.i (l.loop-i.invariant.1 m k) (omega (arith, c.loop-i-test.false, k.given))
+    let a = c.args in
+    λ m k. order_lost a.w.now a.lay.slots a.lay.points m k.rep (flat a.x a.y) c.loop-i.i (c.loop-i.invariant.1 m k) (omega (arith, c.loop-i-test.false, k.given))

@@ -1,4 +1,4 @@
-use Rattle.std.specs.Prelude.{◌-◌, ◌≤◌}
+use Rattle.std.specs.Prelude.{◌≤◌}
 use Rattle.definition.specs.Plane.{flat}
 use Rattle.definition.specs.Cells.{Mesh}
 use Rattle.live_regions.specs.Stack.{Lent}
@@ -6,7 +6,4 @@ use Rattle.insertion.proofs.Holders.{Unheld}
 use Rattle.insertion.proofs.holder.first_in_order.Given as goal
 
 abbrev pub invariant-loop-i : goal.invariant-loop-i
-invariant-loop-i l = (l.i ≤ l.used) × ((m : Mesh) → Lent l.w l.q l.s l.p l.used m → Unheld m (flat l.x l.y) l.i)
-
-abbrev pub decreases-loop-i : goal.decreases-loop-i
-decreases-loop-i l = l.used - l.i
+invariant-loop-i l = (l.i ≤ l.used) × ((m : Mesh) → Lent l.w l.q l.lay.slots l.lay.points l.used m → Unheld m (flat l.x l.y) l.i)

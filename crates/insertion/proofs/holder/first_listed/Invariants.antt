@@ -1,4 +1,4 @@
-use Rattle.std.specs.Prelude.{◌-◌, ◌≤◌}
+use Rattle.std.specs.Prelude.{◌≤◌}
 use Rattle.laws.specs.Kit.{List}
 use Rattle.definition.specs.Lists.{find}
 use Rattle.definition.specs.Plane.{flat}
@@ -9,7 +9,4 @@ use Rattle.insertion.proofs.Holders.{Seeking}
 use Rattle.insertion.proofs.holder.first_listed.Given as goal
 
 abbrev pub invariant-loop-j : goal.invariant-loop-j
-invariant-loop-j l = (l.j ≤ l.k) × ((m : Mesh) (g : List Live) → InHand l.w l.q l.s l.p l.k m g → Seeking l.w l.s l.p l.k l.j m (holds_at m (flat l.x l.y)) (find (holds_at m (flat l.x l.y)) g))
-
-abbrev pub decreases-loop-j : goal.decreases-loop-j
-decreases-loop-j l = l.k - l.j
+invariant-loop-j l = (l.j ≤ l.k) × ((m : Mesh) (g : List Live) → InHand l.w l.q l.lay.slots l.lay.points l.k m g → Seeking l.w l.lay.slots l.lay.points l.k l.j m (holds_at m (flat l.x l.y)) (find (holds_at m (flat l.x l.y)) g))

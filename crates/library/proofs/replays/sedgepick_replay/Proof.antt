@@ -4,6 +4,7 @@ use borrow.Author.Rules.{rules}
 use Rattle.definition.specs.Call.{Lent}
 use Rattle.definition.specs.Replay.{Told}
 use Rattle.mesher.specs.Promise.{lent_of}
+use Rattle.retrace.specs.Replaying.{answered}
 use Rattle.answer_numbers.specs.Replays.{told_for}
 use Rattle.library.proofs.Replaying.{without_room, with_number}
 use Rattle.library.proofs.replays.sedgepick_replay.Statement.{statement}
@@ -38,7 +39,7 @@ returns_2 c =
     let w = c in
     let x = w in
     let t = start x.before.before.before.before.before.before.before.before.before.before.before.before.before.before.before.before in
-    with_number (told t) (held t) t.args.answer.now x.replay-r.result (left x.before.before.before.before.before.before.before.before.before.before.before.before.before.before.before.before) x.if-answer-lt-LENGTHS.false x.replay-r.ensures
+    with_number (told t) (held t) t.args.answer.now (answered x.replay-r.result) (left x.before.before.before.before.before.before.before.before.before.before.before.before.before.before.before.before) x.if-answer-lt-LENGTHS.false x.replay-r.ensures
     w.put_replayed.result w.put_replayed.new.answer w.put_replayed.ensures.0 w.put_replayed.ensures.1
 
 pub sedgepick_replay_spec : {M : Type 1} → statement M

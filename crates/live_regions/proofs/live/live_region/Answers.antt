@@ -1,220 +1,106 @@
--- The loop's invariant: the visits still to come give what all give; k cells were seen, which are different slots.
--- The measure is how many slots are left.
-use mathlib.Core.Path.{◌≡◌, refl, ◌∙◌}
-use mathlib.Core.List.{[], ◌∷◌}
-use Prim.Native.Nat.{◌+◌, ◌-◌, ◌*◌, ◌≤◌, ◌^◌}
-use native.Mathlib.Omega.{arith}
-use lib.ListN.{length}
+use Rattle.std.proofs.Common.{◌≡◌, ℕ, arith, ap, subst, sym, ◌∙◌}
+use lib.Ieee.{Float}
+use Rattle.plane.specs.declared.points.Spot.{Spot}
+use Rattle.live_regions.specs.declared.reach.Reach.{Reach}
+use Rattle.definition.specs.Cells.{Mesh}
 use Rattle.definition.specs.Plane.{flat}
-use Rattle.definition.specs.Cells.{Mesh, cell_of}
-use Rattle.definition.specs.Candidates.{in_reach, seed_stack, live_region}
+use Rattle.definition.specs.Candidates.{live_region}
 use Rattle.cells.proofs.Slots.{sizes}
-use Rattle.cells.specs.Layout.{all_end}
-use Rattle.live_regions.specs.Stack.{Lent}
-use Rattle.live_regions.specs.Visit.{out_after, stack_after}
+use Rattle.live_regions.specs.Stack.{Lent, LiveTo}
 use Rattle.live_regions.proofs.Scratches.{scratch_refl, scratch_trans, scratch_rep}
-use Rattle.live_regions.proofs.Steps.{Living, living_start, living_pop, living_few, living_on, living_end, scratch_back, live_trans}
-use borrow.Author.Rules.{rules}
+use Rattle.live_regions.proofs.Steps.{living_start, living_pop, living_on, living_end, living_all, scratch_back, live_trans}
 use Rattle.live_regions.proofs.live.live_region.Goals as goal
+
+-- the region around the point as it was given
+around : (m : Mesh) (seed : ℕ) (o : Reach) (x y r : Float) → (o.at ≡ record { x = x; y = y }) × (o.r ≡ r) → live_region m seed (flat o.at.x o.at.y) o.r ≡ live_region m seed (flat x y) r
+around m seed o x y r e = ap (λ (z : Spot). live_region m seed (flat z.x z.y) o.r) e.0 ∙ ap (live_region m seed (flat x y)) e.1
 
 pub empty-requires : goal.empty-requires
 empty-requires c =
-    let t = c in
-    let l0 = t.requires.lent.1 in
-    record { rep = (t.requires.lent.0, l0.rep, l0.given); p_in_bounds = omega (arith, l0.rep.room.fits, t.requires.seed_lt_s) }
+    let l0 = c.requires.lent.1 in
+    record { rep = (c.requires.lent.0, l0.rep, l0.given); p_in_bounds = omega (arith, l0.rep.room.fits) }
 
 pub seed_one-requires : goal.seed_one-requires
 seed_one-requires c =
-    let em = c in
-    let t = em in
-    let a = t.args in
-    let w = a.w.now in
-    let w1 = em.empty.new.w in
-    let m0 = t.requires.lent.0 in
-    let l0 = t.requires.lent.1 in
-    let g0 = em.empty.ensures m0 l0.rep l0.given in
-    record { hold = (m0, g0.hold); i_lt_s = t.requires.seed_lt_s }
+    let l0 = c.requires.lent.1 in
+    record { hold = (c.requires.lent.0, (c.empty.ensures c.requires.lent.0 l0.rep l0.given).hold); i_lt_s = c.requires.seed_lt_s }
 
-pub top-j-requires : goal.top-j-requires
-top-j-requires c =
-    let so = c in
-    let em = so in
-    let t = em in
-    let a = t.args in
-    let w = a.w.now in
-    let w1 = em.empty.new.w in
-    let m0 = t.requires.lent.0 in
-    let l0 = t.requires.lent.1 in
-    let g0 = em.empty.ensures m0 l0.rep l0.given in
-    let w2 = so.seed_one.new.w in
-    let f0 = so.seed_one.ensures m0 g0.hold in
-    let sc = scratch_trans w w1 w2 a.s a.p g0.scratch f0.scratch in
-    record { p_in_bounds = f0.hold.fits; sizes = sizes w2 a.s a.p f0.hold.rep.room }
+pub loop-init : goal.loop-init
+loop-init c =
+    let a = c.args in
+    let o = c.new-o.result in
+    let m0 = c.requires.lent.0 in
+    let l0 = c.requires.lent.1 in
+    let g0 = c.empty.ensures m0 l0.rep l0.given in
+    let w2 = c.seed_one.new.w in
+    let f0 = c.seed_one.ensures m0 g0.hold in
+    let sc = scratch_trans a.w.now c.empty.new.w w2 a.lay.slots a.lay.points g0.scratch f0.scratch in
+    record {
+      lent = (m0, record { rep = scratch_rep a.w.now w2 a.lay.slots a.lay.points m0 sc l0.rep; pts = l0.pts; given = l0.given });
+      fits = f0.hold.fits;
+      living =
+          λ m le.
+          let g1 = c.empty.ensures m (scratch_back a.w.now w2 a.lay.slots a.lay.points m sc le.rep) le.given in
+          let f1 = c.seed_one.ensures m g1.hold in
+          living_start w2 w2 a.lay.slots a.lay.points a.seed m (flat o.at.x o.at.y) o.r (record { hold = f1.hold; scratch = scratch_refl w2 a.lay.slots a.lay.points });
+    }
 
-pub loop-j-init : goal.loop-j-init
-loop-j-init c =
-    let so = c in
-    let em = so in
-    let t = em in
-    let a = t.args in
-    let w = a.w.now in
-    let w1 = em.empty.new.w in
-    let m0 = t.requires.lent.0 in
-    let l0 = t.requires.lent.1 in
-    let g0 = em.empty.ensures m0 l0.rep l0.given in
-    let w2 = so.seed_one.new.w in
-    let f0 = so.seed_one.ensures m0 g0.hold in
-    let sc = scratch_trans w w1 w2 a.s a.p g0.scratch f0.scratch in (
-      refl,
-      omega arith,
-      (f0.hold.fits, l0.rep.room.small),
-      λ m le.
-          let r0 = scratch_back w w2 a.s a.p m sc le.rep in
-          let g1 = em.empty.ensures m r0 le.given in
-          let f1 = so.seed_one.ensures m g1.hold in
-          living_start w2 w2 a.s a.p c.top-j.result a.seed m (flat a.x a.y) a.r (record { hold = f1.hold; scratch = scratch_refl w2 a.s a.p })
-          (c.top-j.ensures m [] [] (seed_stack (cell_of m a.seed)) f1.hold),
-    )
+pub top-requires : goal.top-requires
+top-requires c =
+    let i = c.loop.invariant in
+    let g = i.living i.lent.0 i.lent.1 in
+    record { p_in_bounds = g.hold.fits; sizes = sizes c.loop.w c.args.lay.slots c.args.lay.points g.hold.rep.room }
 
 pub step-n-requires : goal.step-n-requires
 step-n-requires c =
-    let i = c in
-    let l = i in
-    let hh = i.loop-j-test.true in
-    let x = l.loop-j in
-    let so = l in
-    let em = so in
-    let t = em in
-    let a = t.args in
-    let w = a.w.now in
-    let w1 = em.empty.new.w in
-    let m0 = t.requires.lent.0 in
-    let l0 = t.requires.lent.1 in
-    let g0 = em.empty.ensures m0 l0.rep l0.given in
-    let w2 = so.seed_one.new.w in
-    let f0 = so.seed_one.ensures m0 g0.hold in
-    let sc = scratch_trans w w1 w2 a.s a.p g0.scratch f0.scratch in
-    let m = m0 in
-    let le : Lent w2 a.q.now a.s a.p a.used m = record { rep = scratch_rep w w2 a.s a.p m sc l0.rep; pts = l0.pts; given = l0.given } in
-    let g = x.invariant.3 m le in
-    let o = living_pop w2 x.w a.s a.p x.n x.k x.j m (flat a.x a.y) a.r (live_region m a.seed (flat a.x a.y) a.r) g hh in
-    record { tell = em.telling-t.ensures; pts = (m, o.out, o.seen, o.st, o.y, le.pts, o.from) }
+    let a = c.args in
+    let o = c.new-o.result in
+    let i = c.loop.invariant in
+    let m = i.lent.0 in
+    let g = i.living m i.lent.1 in
+    let g1 = living_pop c.seed_one.new.w c.loop.w a.lay.slots a.lay.points c.loop.n c.loop.counter m (flat o.at.x o.at.y) o.r (live_region m a.seed (flat o.at.x o.at.y) o.r) g c.in-Some.j (sym c.in-Some.is ∙ c.top.ensures m g.out g.seen g.st g.hold) in
+    (m, g1.out, g1.seen, g1.st, g1.y, i.lent.1.pts, g1.from)
 
-pub overflow_add-k : goal.overflow_add-k
-overflow_add-k c =
-    let sp = c in
-    let i = sp in
-    let l = i in
-    omega (arith, l.loop-j.invariant.1, l.loop-j.invariant.2.1)
+pub loop-preserved : goal.loop-preserved
+loop-preserved c =
+    let a = c.args in
+    let o = c.new-o.result in
+    let i = c.loop.invariant in
+    record {
+      lent = i.lent;
+      fits = i.fits;
+      living =
+          λ m le.
+          let g = i.living m le in
+          let q = sym c.in-Some.is ∙ c.top.ensures m g.out g.seen g.st g.hold in
+          let g1 = living_pop c.seed_one.new.w c.loop.w a.lay.slots a.lay.points c.loop.n c.loop.counter m (flat o.at.x o.at.y) o.r (live_region m a.seed (flat o.at.x o.at.y) o.r) g c.in-Some.j q in
+          living_on c.seed_one.new.w c.loop.w a.lay.slots a.lay.points c.loop.n c.loop.counter m (flat o.at.x o.at.y) o.r (live_region m a.seed (flat o.at.x o.at.y) o.r) g c.in-Some.j q c.step-n.new.w c.step-n.result
+          (c.step-n.ensures m g1.out g1.seen g1.st g1.y le.pts g1.from);
+    }
 
-pub top-j-requires-in-loop-j : goal.top-j-requires-in-loop-j
-top-j-requires-in-loop-j c =
-    let sp = c in
-    let i = sp in
-    let l = i in
-    let hh = i.loop-j-test.true in
-    let x = l.loop-j in
-    let so = l in
-    let em = so in
-    let t = em in
-    let a = t.args in
-    let w = a.w.now in
-    let w1 = em.empty.new.w in
-    let m0 = t.requires.lent.0 in
-    let l0 = t.requires.lent.1 in
-    let g0 = em.empty.ensures m0 l0.rep l0.given in
-    let w2 = so.seed_one.new.w in
-    let f0 = so.seed_one.ensures m0 g0.hold in
-    let sc = scratch_trans w w1 w2 a.s a.p g0.scratch f0.scratch in
-    let m = m0 in
-    let le : Lent w2 a.q.now a.s a.p a.used m = record { rep = scratch_rep w w2 a.s a.p m sc l0.rep; pts = l0.pts; given = l0.given } in
-    let g = x.invariant.3 m le in
-    let o = living_pop w2 x.w a.s a.p x.n x.k x.j m (flat a.x a.y) a.r (live_region m a.seed (flat a.x a.y) a.r) g hh in
-    let f = sp.step-n.ensures m o.out o.seen o.st o.y le.pts o.from in
-    record { p_in_bounds = f.to.hold.fits; sizes = sizes sp.step-n.new.w a.s a.p f.to.hold.rep.room }
-
-pub loop-j-smaller : goal.loop-j-smaller
-loop-j-smaller c =
-    let sp = c in
-    let i = sp in
-    let l = i in
-    let hh = i.loop-j-test.true in
-    let x = l.loop-j in
-    let so = l in
-    let em = so in
-    let t = em in
-    let a = t.args in
-    let w = a.w.now in
-    let w1 = em.empty.new.w in
-    let m0 = t.requires.lent.0 in
-    let l0 = t.requires.lent.1 in
-    let g0 = em.empty.ensures m0 l0.rep l0.given in
-    let w2 = so.seed_one.new.w in
-    let f0 = so.seed_one.ensures m0 g0.hold in
-    let sc = scratch_trans w w1 w2 a.s a.p g0.scratch f0.scratch in
-    let m = m0 in
-    let le : Lent w2 a.q.now a.s a.p a.used m = record { rep = scratch_rep w w2 a.s a.p m sc l0.rep; pts = l0.pts; given = l0.given } in
-    let z = living_few w2 x.w a.s a.p x.n x.k x.j m (flat a.x a.y) a.r (live_region m a.seed (flat a.x a.y) a.r) (x.invariant.3 m le) hh in
-    omega (arith, z)
-
-pub loop-j-preserved : goal.loop-j-preserved
-loop-j-preserved c =
-    let sp = c in
-    let i = sp in
-    let l = i in
-    let hh = i.loop-j-test.true in
-    let x = l.loop-j in
-    let so = l in
-    let em = so in
-    let t = em in
-    let a = t.args in
-    let w = a.w.now in
-    let w1 = em.empty.new.w in
-    let m0 = t.requires.lent.0 in
-    let l0 = t.requires.lent.1 in
-    let g0 = em.empty.ensures m0 l0.rep l0.given in
-    let w2 = so.seed_one.new.w in
-    let f0 = so.seed_one.ensures m0 g0.hold in
-    let sc = scratch_trans w w1 w2 a.s a.p g0.scratch f0.scratch in (
-      sp.step-n.auto.w ∙ x.invariant.0,
-      (
-          let m = m0 in
-          let le : Lent w2 a.q.now a.s a.p a.used m = record { rep = scratch_rep w w2 a.s a.p m sc l0.rep; pts = l0.pts; given = l0.given } in
-          let z = living_few w2 x.w a.s a.p x.n x.k x.j m (flat a.x a.y) a.r (live_region m a.seed (flat a.x a.y) a.r) (x.invariant.3 m le) hh in
-          omega (arith, z)),
-      x.invariant.2,
-      λ m le.
-          let g = x.invariant.3 m le in
-          let o = living_pop w2 x.w a.s a.p x.n x.k x.j m (flat a.x a.y) a.r (live_region m a.seed (flat a.x a.y) a.r) g hh in
-          let f = sp.step-n.ensures m o.out o.seen o.st o.y le.pts o.from in
-          let b = in_reach m (flat a.x a.y) a.r o.y.cell in
-          living_on w2 x.w a.s a.p x.n x.k x.j m (flat a.x a.y) a.r (live_region m a.seed (flat a.x a.y) a.r) g hh sp.step-n.new.w sp.step-n.result c.top-j-in-loop-j.result f
-          (c.top-j-in-loop-j.ensures m (out_after b o.out o.y) (o.y ∷ o.seen) (stack_after b m o.seen o.st o.y) f.to.hold),
-    )
-
-pub shape_of-w : goal.shape_of-w
-shape_of-w c =
-    let l = c in
-    let so = l in
-    let em = so in
-    l.loop-j.invariant.0 ∙ so.seed_one.auto.w ∙ em.empty.auto.w
-
-pub returns : goal.returns
-returns c =
-    let l = c in
-    let x = l.loop-j in
-    let so = l in
-    let em = so in
-    let t = em in
-    let a = t.args in
-    let w = a.w.now in
-    let w1 = em.empty.new.w in
-    let m0 = t.requires.lent.0 in
-    let l0 = t.requires.lent.1 in
-    let g0 = em.empty.ensures m0 l0.rep l0.given in
-    let w2 = so.seed_one.new.w in
-    let f0 = so.seed_one.ensures m0 g0.hold in
-    let sc = scratch_trans w w1 w2 a.s a.p g0.scratch f0.scratch in
+pub returns-after-loop : goal.returns-after-loop
+returns-after-loop c =
+    let a = c.args in
+    let o = c.new-o.result in
+    let m0 = c.requires.lent.0 in
+    let g0 = c.empty.ensures m0 c.requires.lent.1.rep c.requires.lent.1.given in
+    let sc = scratch_trans a.w.now c.empty.new.w c.seed_one.new.w a.lay.slots a.lay.points g0.scratch (c.seed_one.ensures m0 g0.hold).scratch in
     λ m le.
-    let l2 : Lent w2 a.q.now a.s a.p a.used m = record { rep = scratch_rep w w2 a.s a.p m sc le.rep; pts = le.pts; given = le.given } in
-    live_trans w w2 x.w a.s a.p x.n m (live_region m a.seed (flat a.x a.y) a.r) sc (living_end w2 x.w a.s a.p x.n x.k x.j m (flat a.x a.y) a.r (live_region m a.seed (flat a.x a.y) a.r) (x.invariant.3 m l2) c.loop-j-test.false)
+    let l2 : Lent c.seed_one.new.w a.q.now a.lay.slots a.lay.points a.used m = record { rep = scratch_rep a.w.now c.seed_one.new.w a.lay.slots a.lay.points m sc le.rep; pts = le.pts; given = le.given } in
+    subst (LiveTo a.w.now c.loop.w a.lay.slots a.lay.points c.loop.n m) (around m a.seed o a.x a.y a.r c.new-o.ensures)
+    (live_trans a.w.now c.seed_one.new.w c.loop.w a.lay.slots a.lay.points c.loop.n m (live_region m a.seed (flat o.at.x o.at.y) o.r) sc
+    (living_all c.seed_one.new.w c.loop.w a.lay.slots a.lay.points c.loop.n c.loop.counter m (flat o.at.x o.at.y) o.r (live_region m a.seed (flat o.at.x o.at.y) o.r) (c.loop.invariant.living m l2) c.loop-test.false))
+
+pub returns-in_default : goal.returns-in_default
+returns-in_default c =
+    let a = c.args in
+    let o = c.new-o.result in
+    let m0 = c.requires.lent.0 in
+    let g0 = c.empty.ensures m0 c.requires.lent.1.rep c.requires.lent.1.given in
+    let sc = scratch_trans a.w.now c.empty.new.w c.seed_one.new.w a.lay.slots a.lay.points g0.scratch (c.seed_one.ensures m0 g0.hold).scratch in
+    λ m le.
+    let l2 : Lent c.seed_one.new.w a.q.now a.lay.slots a.lay.points a.used m = record { rep = scratch_rep a.w.now c.seed_one.new.w a.lay.slots a.lay.points m sc le.rep; pts = le.pts; given = le.given } in
+    let g = c.loop.invariant.living m l2 in
+    subst (LiveTo a.w.now c.loop.w a.lay.slots a.lay.points c.loop.n m) (around m a.seed o a.x a.y a.r c.new-o.ensures)
+    (live_trans a.w.now c.seed_one.new.w c.loop.w a.lay.slots a.lay.points c.loop.n m (live_region m a.seed (flat o.at.x o.at.y) o.r) sc
+    (living_end c.seed_one.new.w c.loop.w a.lay.slots a.lay.points c.loop.n c.loop.counter m (flat o.at.x o.at.y) o.r (live_region m a.seed (flat o.at.x o.at.y) o.r) g (sym c.in_default.is ∙ c.top.ensures m g.out g.seen g.st g.hold)))

@@ -1,23 +1,17 @@
-use mathlib.Core.Path.{◌≡◌, refl, ◌∙◌}
-use mathlib.Core.List.{[], ◌∷◌}
-use Prim.Native.Nat.{◌+◌, ◌-◌, ◌*◌, ◌≤◌, ◌^◌}
-use native.Mathlib.Omega.{arith}
-use lib.ListN.{length}
+-- The loop's invariant: the visits still to come give what all give; as many cells were seen as the loop has turned,
+-- which are different slots.
+use Rattle.std.proofs.Common.{◌≤◌, length}
 use Rattle.definition.specs.Plane.{flat}
-use Rattle.definition.specs.Cells.{Mesh, cell_of}
-use Rattle.definition.specs.Candidates.{in_reach, seed_stack, live_region}
-use Rattle.cells.proofs.Slots.{sizes}
+use Rattle.definition.specs.Cells.{Mesh}
+use Rattle.definition.specs.Candidates.{live_region}
 use Rattle.cells.specs.Layout.{all_end}
 use Rattle.live_regions.specs.Stack.{Lent}
-use Rattle.live_regions.specs.Visit.{out_after, stack_after}
-use Rattle.live_regions.proofs.Scratches.{scratch_refl, scratch_trans, scratch_rep}
-use Rattle.live_regions.proofs.Steps.{Living, living_start, living_pop, living_few, living_on, living_end, scratch_back, live_trans}
-use borrow.Author.Rules.{rules}
+use Rattle.live_regions.proofs.Steps.{Living}
 use Rattle.live_regions.proofs.live.live_region.Given as goal
 
-abbrev pub invariant-loop-j : goal.invariant-loop-j
-invariant-loop-j l =
-    (length l.w ≡ length l.initial.w) × (l.k ≤ l.s) × ((all_end l.s l.p ≤ length l.initial.w) × (4 * l.s + l.p ≤ 2 ^ 32)) × ((m : Mesh) → Lent l.initial.w l.q l.s l.p l.used m → Living l.initial.w l.w l.s l.p l.n l.k l.j m (flat l.x l.y) l.r (live_region m l.seed (flat l.x l.y) l.r))
-
-abbrev pub decreases-loop-j : goal.decreases-loop-j
-decreases-loop-j l = l.s - l.k
+abbrev pub invariant-loop : goal.invariant-loop
+invariant-loop l = record {
+  lent : (m : Mesh) × Lent l.initial.w l.q l.lay.slots l.lay.points l.used m;
+  fits : all_end l.lay.slots l.lay.points ≤ length l.initial.w;
+  living : (m : Mesh) → Lent l.initial.w l.q l.lay.slots l.lay.points l.used m → Living l.initial.w l.w l.lay.slots l.lay.points l.n l.counter m (flat l.o.at.x l.o.at.y) l.o.r (live_region m l.seed (flat l.o.at.x l.o.at.y) l.o.r);
+}

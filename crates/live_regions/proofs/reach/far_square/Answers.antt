@@ -4,16 +4,13 @@ use Rattle.definition.specs.Floats.{◌≺◌}
 use Rattle.plane.proofs.Laws.{one_over_zero}
 use Rattle.live_regions.specs.Squares.{BeyondReach}
 use Rattle.live_regions.proofs.Squares.{far_of, far_none}
-use borrow.Author.Rules.{rules}
 use Rattle.live_regions.proofs.reach.far_square.Goals as goal
 
 pub returns-then-norm-r : goal.returns-then-norm-r
 unfolding ◌≺◌
 returns-then-norm-r c =
-    let e = c in
-    let nm = e in
-    let a = nm.args in
-    subst (BeyondReach a.r) (sym c.square.ensures) (far_of a.r _ (ap (λ (x : Float). a.r ≺ x) (sym nm.norm.ensures) ∙ e.if-norm-r.true))
+    let a = c.args in
+    subst (BeyondReach a.r) (sym c.square.ensures) (far_of a.r _ (ap (λ (x : Float). a.r ≺ x) (sym c.norm.ensures) ∙ c.if-norm-r.true))
 
 pub returns : goal.returns
 returns c =

@@ -4,7 +4,6 @@ use Rattle.definition.specs.Floats.{◌≺◌}
 use Rattle.plane.proofs.Laws.{minus_one_over_zero}
 use Rattle.live_regions.specs.Squares.{WithinReach}
 use Rattle.live_regions.proofs.Squares.{near_of, near_none}
-use borrow.Author.Rules.{rules}
 use Rattle.live_regions.proofs.reach.near_square.Goals as goal
 
 pub returns-then-norm-r : goal.returns-then-norm-r
@@ -15,7 +14,5 @@ returns-then-norm-r c =
 pub returns : goal.returns
 unfolding ◌≺◌
 returns c =
-    let e = c in
-    let nm = e in
-    let a = nm.args in
-    subst (WithinReach a.r) (sym c.square.ensures) (near_of a.r _ (ap (λ (x : Float). a.r ≺ x) (sym nm.norm.ensures) ∙ e.if-norm-r.false))
+    let a = c.args in
+    subst (WithinReach a.r) (sym c.square.ensures) (near_of a.r _ (ap (λ (x : Float). a.r ≺ x) (sym c.norm.ensures) ∙ c.if-norm-r.false))

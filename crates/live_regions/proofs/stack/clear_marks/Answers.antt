@@ -6,7 +6,6 @@ use lib.ListN.{get_or}
 use Rattle.laws.specs.Frames.{Only}
 use Rattle.cells.specs.Layout.{marks_at}
 use Rattle.live_regions.specs.Stack.{Unmarked}
-use borrow.Author.Rules.{rules}
 use Rattle.live_regions.proofs.stack.clear_marks.Goals as goal
 
 unmarked : (w w' : List ℕ) (s p n b : ℕ) → b ≡ marks_at s p → n ≤ s → Only w w' b (b + n) → ((k : ℕ) → k < n → get_or w' (b + k) 0 ≡ 0) → Unmarked w w' s p n
@@ -18,8 +17,5 @@ unmarked w w' s p n b e h o z =
 
 pub returns : goal.returns
 returns c =
-    let r = c in
-    let m = r in
-    let t = c in
-    let a = t.args in
-    unmarked a.w.now r.clear_range.new.w a.s a.p a.n m.marks_at.result m.marks_at.ensures t.requires.few r.clear_range.ensures.only r.clear_range.ensures.by_index
+    let a = c.args in
+    unmarked a.w.now c.clear_range.new.w a.lay.slots a.lay.points a.n c.marks_at.result c.marks_at.ensures c.requires.few c.clear_range.ensures.only c.clear_range.ensures.by_index

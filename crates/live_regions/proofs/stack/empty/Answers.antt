@@ -5,26 +5,20 @@ use native.Mathlib.Omega.{arith}
 use lib.ListN.{set, length-set}
 use Rattle.live_regions.specs.Stack.{PushTo}
 use Rattle.live_regions.proofs.Takes.{emptied}
-use borrow.Author.Rules.{rules}
 use Rattle.live_regions.proofs.stack.empty.Goals as goal
 
 pub clear_marks-requires : goal.clear_marks-requires
 clear_marks-requires c =
-    let t = c in
-    record { fits = t.requires.p_in_bounds; few = omega (arith, t.requires.rep.2, t.requires.rep.1.used); small = t.requires.rep.1.room.small }
+    record { fits = c.requires.p_in_bounds; few = omega (arith, c.requires.rep.2, c.requires.rep.1.used); small = c.requires.rep.1.room.small }
 
 pub bounds-w-stack-2 : goal.bounds-w-stack-2
 bounds-w-stack-2 c =
-    let k = c in
-    let t = k in
-    simp length-set (omega (arith, c.stack_at-stack.ensures, t.requires.p_in_bounds, k.clear_marks.ensures.scratch.len))
+    simp length-set (omega (arith, c.stack_at-stack.ensures, c.requires.p_in_bounds, c.clear_marks.ensures.scratch.len))
 
 pub returns : goal.returns
 returns c =
-    let k = c in
-    let t = k in
-    let a = t.args in
-    let w1 = k.clear_marks.new.w in
+    let a = c.args in
+    let w1 = c.clear_marks.new.w in
     λ m r e.
-    subst (λ (z : ℕ). PushTo a.w.now (set (set w1 (z + a.s) a.s) (z + (a.s + 1) + a.s) a.s) a.s a.p m [] [] []) (sym c.stack_at-stack.ensures)
-    (emptied a.w.now w1 a.s a.p a.n m t.requires.p_in_bounds r e k.clear_marks.ensures)
+    subst (λ (z : ℕ). PushTo a.w.now (set (set w1 (z + a.lay.slots) a.lay.slots) (z + (a.lay.slots + 1) + a.lay.slots) a.lay.slots) a.lay.slots a.lay.points m [] [] []) (sym c.stack_at-stack.ensures)
+    (emptied a.w.now w1 a.lay.slots a.lay.points a.n m c.requires.p_in_bounds r e c.clear_marks.ensures)

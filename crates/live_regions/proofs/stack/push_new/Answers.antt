@@ -1,12 +1,10 @@
 use Rattle.live_regions.proofs.Notes.{pass_over}
-use borrow.Author.Rules.{rules}
 use Rattle.live_regions.proofs.stack.push_new.Goals as goal
 
 pub returns-then-b-eq1 : goal.returns-then-b-eq1
 returns-then-b-eq1 c =
-    let t = c in
-    let a = t.args in
-    λ m out seen st h. pass_over a.w.now a.s a.p a.i a.u a.v a.b m out seen st h c.if-b-eq1.true
+    let a = c.args in
+    λ m out seen st h. pass_over a.w.now a.lay.slots a.lay.points a.i a.u a.v a.b m out seen st h c.if-b-eq1.true
 
 pub returns : goal.returns
 returns c =

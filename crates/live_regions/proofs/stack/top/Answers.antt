@@ -1,12 +1,13 @@
-use mathlib.Core.Path.{ap, ◌∙◌}
-use Prim.Native.Nat.{ℕ, ◌+◌}
-use lib.ListN.{get_or}
-use Rattle.live_regions.proofs.Takes.{top_is}
-use borrow.Author.Rules.{rules}
+use Rattle.std.proofs.Common.{◌+◌, ℕ, get_or, ap, ◌∙◌}
+use Rattle.live_regions.proofs.Takes.{top_some, top_none}
 use Rattle.live_regions.proofs.stack.top.Goals as goal
 
-pub returns : goal.returns
-returns c =
-    let b = c in
+pub returns-then-i-lay : goal.returns-then-i-lay
+returns-then-i-lay c =
     let a = c.args in
-    λ m out seen st h. c.wide.ensures ∙ ap (λ (z : ℕ). get_or a.w.now (z + (a.s + 1) + a.s) 0) b.stack_at-b.ensures ∙ top_is a.w.now a.s a.p m out seen st h
+    λ m out seen st h. top_some a.w.now a.lay.slots a.lay.points c.wide-i.result m out seen st h (c.wide-i.ensures ∙ ap (λ (z : ℕ). get_or a.w.now (z + (a.lay.slots + 1) + a.lay.slots) 0) c.stack_at.ensures) c.if-i-lay.true
+
+pub returns-else-i-lay : goal.returns-else-i-lay
+returns-else-i-lay c =
+    let a = c.args in
+    λ m out seen st h. top_none a.w.now a.lay.slots a.lay.points c.wide-i.result m out seen st h (c.wide-i.ensures ∙ ap (λ (z : ℕ). get_or a.w.now (z + (a.lay.slots + 1) + a.lay.slots) 0) c.stack_at.ensures) c.if-i-lay.false

@@ -13,25 +13,18 @@ is_open_at-requires c =
 
 pub returns-then-is_open_at : goal.returns-then-is_open_at
 returns-then-is_open_at c =
-    let z = c in
-    let y = z in
-    λ n bl l o. asking_hit (y.loop-i.invariant.1 n bl l o) y.loop-i-test.true _ (z.is_open_at.ensures bl o.blocked) c.if-is_open_at.true
+    λ n bl l o. asking_hit (c.loop-i.invariant.1 n bl l o) c.loop-i-test.true _ (c.is_open_at.ensures bl o.blocked) c.if-is_open_at.true
 
 pub loop-i-preserved : goal.loop-i-preserved
 loop-i-preserved c =
-    let z = c in
-    let y = z in
-    let x = y.loop-i in
-    (omega (arith, x.invariant.0), λ n bl l o. asking_on (x.invariant.1 n bl l o) y.loop-i-test.true _ (z.is_open_at.ensures bl o.blocked) c.if-is_open_at.false)
+    let x = c.loop-i in
+    (omega (arith, x.invariant.0), λ n bl l o. asking_on (x.invariant.1 n bl l o) c.loop-i-test.true _ (c.is_open_at.ensures bl o.blocked) c.if-is_open_at.false)
 
 pub returns : goal.returns
 returns c = λ n bl l o. asking_end (c.loop-i.invariant.1 n bl l o) c.loop-i-test.false
 
 pub loop-i-init : goal.loop-i-init
 loop-i-init c = (omega arith, λ n bl l o. asking_start o)
-
-pub overflow_add-i : goal.overflow_add-i
-overflow_add-i c = omega (arith, c.loop-i-test.true, c.ranges.e)
 
 pub loop-i-smaller : goal.loop-i-smaller
 loop-i-smaller c = omega (arith, c.loop-i-test.true)

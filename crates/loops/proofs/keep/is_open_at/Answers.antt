@@ -8,17 +8,12 @@ use Rattle.loops.proofs.keep.is_open_at.Goals as goal
 
 pub is_blocked-requires : goal.is_blocked-requires
 is_blocked-requires c =
-    let v = c in
-    let u = v in
-    let t = u in
-    let a = t.args in
-    let k = t.requires.3 in record { by_index = (k.quads, k.ever, t.requires.0, subst (λ (z : ℕ). Blocks a.w.now z (3 * a.s) a.p k.quads k.ever t.requires.0) (sym c.refused_at-b.ensures) k.blocks); edge = subst (IsEdge a.p) (sym (same_ends u.first_on-u.ensures v.second_on-v.ensures)) t.requires.2 }
+    let a = c.args in
+    let k = c.requires.3 in record { by_index = (k.quads, k.ever, c.requires.0, subst (λ (z : ℕ). Blocks a.w.now z (3 * a.lay.slots) a.lay.points k.quads k.ever c.requires.0) (sym c.refused_at-b.ensures) k.blocks); edge = subst (IsEdge a.lay.points) (sym (same_ends c.first_on-u.ensures c.second_on-v.ensures)) c.requires.2 }
 
 pub returns : goal.returns
 returns c =
-    let v = c in
-    let u = v in
-    let a = u.args in
+    let a = c.args in
     λ bl k.
-    ap not (c.is_blocked.ensures k.quads k.ever bl (subst (λ (z : ℕ). Blocks a.w.now z (3 * a.s) a.p k.quads k.ever bl) (sym c.refused_at-b.ensures) k.blocks)
-    ∙ ap (has_edge_in bl) (same_ends u.first_on-u.ensures v.second_on-v.ensures))
+    ap not (c.is_blocked.ensures k.quads k.ever bl (subst (λ (z : ℕ). Blocks a.w.now z (3 * a.lay.slots) a.lay.points k.quads k.ever bl) (sym c.refused_at-b.ensures) k.blocks)
+    ∙ ap (has_edge_in bl) (same_ends c.first_on-u.ensures c.second_on-v.ensures))

@@ -11,10 +11,9 @@ measure-requires c = let t = c.requires in (t.0, t.2, t.3, t.4.behind)
 
 pub returns-then-any_open : goal.returns-then-any_open
 returns-then-any_open c =
-    let me = c in
     λ m bl l ls k.
-    let o = me.any_open.ensures (length m.points) bl l k.loop in
-    record { kept = λ h. (refl, refl, me.measure.ensures m l ls k.behind); dropped = λ h. never _ (sym o ∙ me.if-any_open.true) h }
+    let o = c.any_open.ensures (length m.points) bl l k.loop in
+    record { kept = λ h. (refl, refl, c.measure.ensures m l ls k.behind); dropped = λ h. never _ (sym o ∙ c.if-any_open.true) h }
 
 pub returns : goal.returns
 returns c =

@@ -20,9 +20,8 @@ bounds-f-1 c = simp length-set (omega (arith, c.requires.3.inside, c.if-j-eq1.tr
 
 pub returns-then-j-eq1 : goal.returns-then-j-eq1
 returns-then-j-eq1 c =
-    let one = c in
-    let h = one.if-j-eq1.true in
-    λ m l ls k. measured_two k h _ _ (one.perimeter.ensures m (first_is k h).0 k.pts (k.first (first_is k h).0 (first_is k h).1)) (c.perimeter-then-j-eq1.ensures m l k.pts k.at)
+    let h = c.if-j-eq1.true in
+    λ m l ls k. measured_two k h _ _ (c.perimeter.ensures m (first_is k h).0 k.pts (k.first (first_is k h).0 (first_is k h).1)) (c.perimeter-then-j-eq1.ensures m l k.pts k.at)
 
 pub perimeter-requires-2 : goal.perimeter-requires-2
 perimeter-requires-2 c = let t = c.requires in (t.0, t.1, t.3.room, t.3.pts, t.3.at)

@@ -27,8 +27,5 @@ loop-i-preserved c =
 pub returns : goal.returns
 returns c = λ m l t o. summing_end (c.loop-i.invariant.1 m l t o) c.loop-i-test.false
 
-pub overflow_add-i : goal.overflow_add-i
-overflow_add-i c = omega (arith, c.loop-i-test.true, c.ranges.e)
-
 pub loop-i-smaller : goal.loop-i-smaller
 loop-i-smaller c = omega (arith, c.loop-i-test.true)

@@ -5,18 +5,14 @@ use Rattle.loops.proofs.links.link_all.Goals as goal
 
 pub link_edge-requires : goal.link_edge-requires
 link_edge-requires c =
-    let l = c in
-    let s0 = l in
-    let g = l.loop-i.invariant.1 s0.requires.0 s0.requires.1 s0.requires.2 in
-    (s0.requires.0, s0.args.k, g.m, s0.requires.1, going_next c.loop-i-test.true g)
+    let g = c.loop-i.invariant.1 c.requires.0 c.requires.1 c.requires.2 in
+    (c.requires.0, c.args.k, g.m, c.requires.1, going_next c.loop-i-test.true g)
 
 pub loop-i-preserved : goal.loop-i-preserved
 loop-i-preserved c =
-    let le = c in
-    let t = le in
-    let x = t.loop-i in
-    let h = t.loop-i-test.true in
-    (le.link_edge.auto.w ∙ x.invariant.0, λ n es q. let g = x.invariant.1 n es q in going_on h g (le.link_edge.ensures n _ g.m es (going_next h g)))
+    let x = c.loop-i in
+    let h = c.loop-i-test.true in
+    (c.link_edge.auto.w ∙ x.invariant.0, λ n es q. let g = x.invariant.1 n es q in going_on h g (c.link_edge.ensures n _ g.m es (going_next h g)))
 
 pub loop-i-init : goal.loop-i-init
 loop-i-init c = (refl, λ n es g. going_start g)

@@ -6,7 +6,4 @@ use Rattle.loops.proofs.Linking.{Going}
 use Rattle.loops.proofs.links.link_all.Given as goal
 
 abbrev pub invariant-loop-i : goal.invariant-loop-i
-invariant-loop-i l = (length l.w ≡ length l.initial.w) × ((n : ℕ) (es : List Edge) → Linking l.initial.w l.s l.p n l.k es l.k 0 → Going l.initial.w l.w l.s l.p n l.k es l.i)
-
-abbrev pub decreases-loop-i : goal.decreases-loop-i
-decreases-loop-i l = l.i
+invariant-loop-i l = (length l.w ≡ length l.initial.w) × ((n : ℕ) (es : List Edge) → Linking l.initial.w l.lay.slots l.lay.points n l.k es l.k 0 → Going l.initial.w l.w l.lay.slots l.lay.points n l.k es l.i)

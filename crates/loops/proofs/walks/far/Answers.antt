@@ -5,19 +5,13 @@ use Rattle.loops.proofs.walks.far.Goals as goal
 
 pub returns-then-u-v : goal.returns-then-u-v
 returns-then-u-v c =
-    let fv = c in
-    let i = fv in
-    let wd = i in
-    let fu = wd in
-    let a = fu.args in
+    let a = c.args in
     λ n k l es q.
-    far_by_first q (wd.wide-u.ensures ∙ ap (λ (x : ℕ). get_or a.w.now (x + a.c) 0) fu.front_u_at.ensures) i.if-u-v.true
-    (c.wide.ensures ∙ ap (λ (x : ℕ). get_or a.w.now (x + a.c) 0) fv.front_v_at.ensures)
+    far_by_first q (c.wide-u.ensures ∙ ap (λ (x : ℕ). get_or a.w.now (x + a.c) 0) c.front_u_at.ensures) c.if-u-v.true
+    (c.wide.ensures ∙ ap (λ (x : ℕ). get_or a.w.now (x + a.c) 0) c.front_v_at.ensures)
 
 pub returns : goal.returns
 returns c =
-    let wd = c in
-    let fu = wd in
-    let a = fu.args in
+    let a = c.args in
     λ n k l es q.
-    far_by_second q (wd.wide-u.ensures ∙ ap (λ (x : ℕ). get_or a.w.now (x + a.c) 0) fu.front_u_at.ensures) c.if-u-v.false
+    far_by_second q (c.wide-u.ensures ∙ ap (λ (x : ℕ). get_or a.w.now (x + a.c) 0) c.front_u_at.ensures) c.if-u-v.false

@@ -16,4 +16,4 @@ returns c =
     λ n k b es path q.
     let few = q.placed.ready.front.at.few in
     rw (c.front_used_at.ensures, c.order_at.ensures)
-    (place_to q (change a.w.now a.s a.p a.b a.c q.placed.ready.front.room (omega (arith, place_room q, few)) (omega (arith, q.inside, few))))
+    (place_to q (change a.w.now a.lay.slots a.lay.points a.b a.c q.placed.ready.front.room (omega (arith, place_room q, few)) (omega (arith, q.inside, few))))

@@ -5,9 +5,9 @@ use Rattle.loops.specs.Trace.{CanWalk}
 use Rattle.loops.proofs.Walking.{Walking}
 use Rattle.loops.proofs.walks.walk.Given as goal
 
-abbrev pub invariant-loop-c : goal.invariant-loop-c
-invariant-loop-c l =
-    (length l.w ≡ length l.initial.w) × ((n a : ℕ) (es path : List Edge) → CanWalk l.initial.w l.s l.p n l.k a l.b l.here es path → Walking l.initial.w l.w l.s l.p n l.k a l.b l.count l.end l.c l.start l.here es path)
+abbrev pub invariant-loop-left : goal.invariant-loop-left
+invariant-loop-left l =
+    (length l.w ≡ length l.initial.w) × ((n a : ℕ) (es path : List Edge) → CanWalk l.initial.w l.lay.slots l.lay.points n l.k a l.b l.here es path → Walking l.initial.w l.w l.lay.slots l.lay.points n l.k a l.b l.count l.end l.left l.start l.here es path)
 
-abbrev pub decreases-loop-c : goal.decreases-loop-c
-decreases-loop-c l = l.k - l.count
+abbrev pub decreases-loop-left : goal.decreases-loop-left
+decreases-loop-left l = l.k - l.count

@@ -1,15 +1,12 @@
 -- The two lists by their writers, the counts by the standing.
 use mathlib.Core.Path.{refl}
-use borrow.Author.Rules.{rules}
 use Rattle.mesher.proofs.run.finish.Goals as goal
 
 pub returns : goal.returns
 returns c =
-    let k = c in
-    let wt = k in
     λ m h.
-    let to = k.component_sizes-sizes.ensures m h.rep h.used in
-    let out = wt.write_triangles-left.ensures m h.rep h.used in
+    let to = c.component_sizes-sizes.ensures m h.rep h.used in
+    let out = c.write_triangles-left.ensures m h.rep h.used in
     record {
       out = out.1;
       components = to.sizes;

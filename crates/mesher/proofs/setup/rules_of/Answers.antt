@@ -1,12 +1,8 @@
--- The stated numbers with the side of a bucket.
+-- The stated numbers with the layout and the side of a bucket.
 use mathlib.Core.Path.{ap}
-use borrow.Author.Rules.{rules}
 use Rattle.refusals.specs.Stated.{asked}
 use Rattle.mesher.specs.Parts.{rules_with}
 use Rattle.mesher.proofs.setup.rules_of.Goals as goal
 
 pub returns : goal.returns
-returns c =
-    let b = c in
-    let a = b.args in
-    ap (λ side. rules_with a.attempts a.room (asked a.stated) side) b.bucket_of-bucket.ensures
+returns c = ap (λ side. rules_with c.args.attempts c.args.room (asked c.args.stated) c.args.lay side) c.bucket_of-bucket.ensures

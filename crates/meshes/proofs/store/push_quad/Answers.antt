@@ -17,38 +17,34 @@ same_push m s i a b c d e round gone o = record { next = o.next; free = o.free; 
 
 pub forget_even-requires : goal.forget_even-requires
 forget_even-requires c =
-    let t = c in
-    record { room = t.requires.1.room; le_s = omega (arith, t.requires.2.free) }
+    record { room = c.requires.1.room; le_s = omega (arith, c.requires.2.free) }
 
 pub put_quad-requires : goal.put_quad-requires
 put_quad-requires c =
-    let t = c in
-    let a = t.args in
+    let a = c.args in
     let cell = quad_of_nodes a.a a.b a.c a.d in
     let g = c.forget_even in
-    let one : 1 ≤ a.s = omega (arith, t.requires.2.free) in
-    let r = forgotten_rep a.w.now g.new.w a.s a.p one g.ensures t.requires.0 t.requires.1 in
-    record { by_index = (t.requires.0, suc a.i, r, push_put g.new.w a.s a.p a.i t.requires.0 cell r t.requires.2); uneven = forgotten_none a.w.now g.new.w a.s a.p one g.ensures t.requires.1.room }
+    let one : 1 ≤ a.lay.slots = omega (arith, c.requires.2.free) in
+    let r = forgotten_rep a.w.now g.new.w a.lay.slots a.lay.points one g.ensures c.requires.0 c.requires.1 in
+    record { by_index = (c.requires.0, suc a.i, r, push_put g.new.w a.lay.slots a.lay.points a.i c.requires.0 cell r c.requires.2); uneven = forgotten_none a.w.now g.new.w a.lay.slots a.lay.points one g.ensures c.requires.1.room }
 
 pub shape_of-w : goal.shape_of-w
 shape_of-w c =
-    let t = c in
-    let a = t.args in
+    let a = c.args in
     let g = c.forget_even in
-    (c.put_quad.ensures (0, 0) 0 0).keeps.len ∙ forgotten_length a.w.now g.new.w a.s a.p (omega (arith, t.requires.2.free)) g.ensures
+    (c.put_quad.ensures (0, 0) 0 0).keeps.len ∙ forgotten_length a.w.now g.new.w a.lay.slots a.lay.points (omega (arith, c.requires.2.free)) g.ensures
 
 pub returns : goal.returns
 returns c e₀ round gone =
-    let t = c in
-    let a = t.args in
+    let a = c.args in
     let cell = quad (born_of_nodes e₀ round gone a.a a.b a.c a.d) in
     let g = c.forget_even in
     let q = c.put_quad.ensures e₀ round gone in
-    let one : 1 ≤ a.s = omega (arith, t.requires.2.free) in
+    let one : 1 ≤ a.lay.slots = omega (arith, c.requires.2.free) in
     record {
       rep = λ m r o₀.
-          let o = same_push m a.s a.i a.a a.b a.c a.d e₀ round gone o₀ in
-          let z = forgotten_rep a.w.now g.new.w a.s a.p one g.ensures m r in
-          push_is a.s a.p a.i m cell _ o (q.rep m (suc a.i) z (push_put g.new.w a.s a.p a.i m cell z o));
-      keeps = keeps_trans a.w.now g.new.w c.put_quad.new.w (mesh_end a.s a.p) (forgotten_keeps a.w.now g.new.w a.s a.p one g.ensures) q.keeps;
+          let o = same_push m a.lay.slots a.i a.a a.b a.c a.d e₀ round gone o₀ in
+          let z = forgotten_rep a.w.now g.new.w a.lay.slots a.lay.points one g.ensures m r in
+          push_is a.lay.slots a.lay.points a.i m cell _ o (q.rep m (suc a.i) z (push_put g.new.w a.lay.slots a.lay.points a.i m cell z o));
+      keeps = keeps_trans a.w.now g.new.w c.put_quad.new.w (mesh_end a.lay.slots a.lay.points) (forgotten_keeps a.w.now g.new.w a.lay.slots a.lay.points one g.ensures) q.keeps;
     }

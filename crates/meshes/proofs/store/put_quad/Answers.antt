@@ -1,6 +1,6 @@
 -- The kind is stored, then node after node is placed.
 use Rattle.std.specs.Prelude.{◌∷◌}
-use Rattle.laws.specs.Kit.{refl, ◌∙◌, arith, rules, [], set, length-set}
+use Rattle.laws.specs.Kit.{refl, ◌∙◌, arith, [], set, length-set}
 use Rattle.definition.specs.Cells.{quad, nodes, quad_nodes, new_quad}
 use Rattle.laws.specs.Frames.{keeps_trans, keeps_more, keeps_set}
 use Rattle.cells.specs.Layout.{fronts_at, mesh_end}
@@ -11,41 +11,38 @@ use Rattle.meshes.proofs.store.put_quad.Goals as goal
 pub place-requires : goal.place-requires
 unfolding nodes quad_nodes new_quad
 place-requires c =
-    let t = c in
-    let a = t.args in
-    let m = t.requires.by_index.0 in
-    let n = t.requires.by_index.1 in
-    let r = t.requires.by_index.2 in
-    let o = t.requires.by_index.3 in
+    let a = c.args in
+    let m = c.requires.by_index.0 in
+    let n = c.requires.by_index.1 in
+    let r = c.requires.by_index.2 in
+    let o = c.requires.by_index.3 in
     let cell = quad_of_nodes a.a a.b a.c a.d in
-    let f0 = put_start a.w.now a.s a.p a.i n m cell r o 4 in
+    let f0 = put_start a.w.now a.lay.slots a.lay.points a.i n m cell r o 4 in
     record { n = 4; m = m; ns = []; is = f0; many = refl; few = omega arith; node = known_at r o 0 (omega arith) }
 
 pub place-requires-2 : goal.place-requires-2
 unfolding nodes quad_nodes new_quad
 place-requires-2 c =
-    let t = c in
-    let a = t.args in
-    let m = t.requires.by_index.0 in
-    let n = t.requires.by_index.1 in
-    let r = t.requires.by_index.2 in
-    let o = t.requires.by_index.3 in
+    let a = c.args in
+    let m = c.requires.by_index.0 in
+    let n = c.requires.by_index.1 in
+    let r = c.requires.by_index.2 in
+    let o = c.requires.by_index.3 in
     let cell = quad_of_nodes a.a a.b a.c a.d in
-    let f0 = put_start a.w.now a.s a.p a.i n m cell r o 4 in
+    let f0 = put_start a.w.now a.lay.slots a.lay.points a.i n m cell r o 4 in
     let f1 = c.place.ensures.is 4 m [] f0 refl in
     record { n = 4; m = m; ns = a.a ∷ []; is = f1; many = refl; few = omega arith; node = known_at r o 1 (omega arith) }
 
 pub place-requires-3 : goal.place-requires-3
 unfolding nodes quad_nodes new_quad
 place-requires-3 c =
-    let t = c in
-    let a = t.args in
-    let m = t.requires.by_index.0 in
-    let n = t.requires.by_index.1 in
-    let r = t.requires.by_index.2 in
-    let o = t.requires.by_index.3 in
+    let a = c.args in
+    let m = c.requires.by_index.0 in
+    let n = c.requires.by_index.1 in
+    let r = c.requires.by_index.2 in
+    let o = c.requires.by_index.3 in
     let cell = quad_of_nodes a.a a.b a.c a.d in
-    let f0 = put_start a.w.now a.s a.p a.i n m cell r o 4 in
+    let f0 = put_start a.w.now a.lay.slots a.lay.points a.i n m cell r o 4 in
     let f1 = c.place.ensures.is 4 m [] f0 refl in
     let f2 = c.place-2.ensures.is 4 m (a.a ∷ []) f1 refl in
     record { n = 4; m = m; ns = a.a ∷ a.b ∷ []; is = f2; many = refl; few = omega arith; node = known_at r o 2 (omega arith) }
@@ -53,14 +50,13 @@ place-requires-3 c =
 pub place-requires-4 : goal.place-requires-4
 unfolding nodes quad_nodes new_quad
 place-requires-4 c =
-    let t = c in
-    let a = t.args in
-    let m = t.requires.by_index.0 in
-    let n = t.requires.by_index.1 in
-    let r = t.requires.by_index.2 in
-    let o = t.requires.by_index.3 in
+    let a = c.args in
+    let m = c.requires.by_index.0 in
+    let n = c.requires.by_index.1 in
+    let r = c.requires.by_index.2 in
+    let o = c.requires.by_index.3 in
     let cell = quad_of_nodes a.a a.b a.c a.d in
-    let f0 = put_start a.w.now a.s a.p a.i n m cell r o 4 in
+    let f0 = put_start a.w.now a.lay.slots a.lay.points a.i n m cell r o 4 in
     let f1 = c.place.ensures.is 4 m [] f0 refl in
     let f2 = c.place-2.ensures.is 4 m (a.a ∷ []) f1 refl in
     let f3 = c.place-3.ensures.is 4 m (a.a ∷ a.b ∷ []) f2 refl in
@@ -73,18 +69,17 @@ shape_of-w c =
 pub returns : goal.returns
 unfolding nodes quad_nodes
 returns c e₀ round gone =
-    let t = c in
-    let a = t.args in
+    let a = c.args in
     let cell = quad (born_of_nodes e₀ round gone a.a a.b a.c a.d) in
-    let e = fronts_at a.s a.p in
-    let k = keeps_trans a.w.now c.place-3.new.w c.place-4.new.w e (keeps_trans a.w.now c.place-2.new.w c.place-3.new.w e (keeps_trans a.w.now c.place.new.w c.place-2.new.w e (keeps_trans a.w.now (set a.w.now a.i 4) c.place.new.w e (keeps_set a.w.now e a.i 4 (omega (arith, t.requires.by_index.3.given, t.requires.by_index.3.fits))) c.place.ensures.keeps) c.place-2.ensures.keeps) c.place-3.ensures.keeps) c.place-4.ensures.keeps in
+    let e = fronts_at a.lay.slots a.lay.points in
+    let k = keeps_trans a.w.now c.place-3.new.w c.place-4.new.w e (keeps_trans a.w.now c.place-2.new.w c.place-3.new.w e (keeps_trans a.w.now c.place.new.w c.place-2.new.w e (keeps_trans a.w.now (set a.w.now a.i 4) c.place.new.w e (keeps_set a.w.now e a.i 4 (omega (arith, c.requires.by_index.3.given, c.requires.by_index.3.fits))) c.place.ensures.keeps) c.place-2.ensures.keeps) c.place-3.ensures.keeps) c.place-4.ensures.keeps in
     record {
       rep = λ m n r o.
-          let f0 = put_start a.w.now a.s a.p a.i n m cell r o 4 in
+          let f0 = put_start a.w.now a.lay.slots a.lay.points a.i n m cell r o 4 in
           let f1 = c.place.ensures.is 4 m [] f0 refl in
           let f2 = c.place-2.ensures.is 4 m (a.a ∷ []) f1 refl in
           let f3 = c.place-3.ensures.is 4 m (a.a ∷ a.b ∷ []) f2 refl in
           let f4 = c.place-4.ensures.is 4 m (a.a ∷ a.b ∷ a.c ∷ []) f3 refl in
-          put_done a.w.now a.s a.p a.i n m cell r o c.place-4.new.w t.requires.uneven k f4;
-      keeps = keeps_more a.w.now c.place-4.new.w e (mesh_end a.s a.p) (omega arith) k;
+          put_done a.w.now a.lay.slots a.lay.points a.i n m cell r o c.place-4.new.w c.requires.uneven k f4;
+      keeps = keeps_more a.w.now c.place-4.new.w e (mesh_end a.lay.slots a.lay.points) (omega arith) k;
     }

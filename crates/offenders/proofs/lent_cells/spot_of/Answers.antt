@@ -8,6 +8,5 @@ use Rattle.offenders.proofs.lent_cells.spot_of.Goals as goal
 
 pub returns : goal.returns
 returns c =
-    let s = c in
-    let ps = s.args.points.now in
-    stands_for ps (get_or s.args.cells.now s.args.k 0) _ (c.at.ensures ∙ ap (λ a. ground (point_at ps a)) c.wide.ensures) s.requires.near
+    let ps = c.args.points.now in
+    stands_for ps (get_or c.args.cells.now c.args.k 0) _ (c.at.ensures ∙ ap (λ a. ground (point_at ps a)) c.wide.ensures) c.requires.near

@@ -9,5 +9,4 @@ use Rattle.offenders.proofs.points.same_bits.Goals as goal
 pub returns : goal.returns
 unfolding same_bits
 returns c =
-    let s = c in
-    rw (c.bits_of.ensures, c.bits_of-2.ensures, get_d_any s.args.given.now s.args.k nan 0·0 s.requires.0, get_d_any s.args.points.now s.args.k nan 0·0 s.requires.1)
+    rw (c.bits_of.ensures, c.bits_of-2.ensures, get_d_any c.args.given.now c.args.k nan 0·0 c.requires.0, get_d_any c.args.points.now c.args.k nan 0·0 c.requires.1)

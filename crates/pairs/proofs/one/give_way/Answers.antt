@@ -32,7 +32,7 @@ returns-then-full c =
     λ base m xs q at₀ m₀ g v rd.
     let odd = c.refuses_odd.ensures m xs g.listed (sym g.ready.counted.used) g.ready.counted.live in
     give_full a.w.now q a.rules a.c a.n a.quad.a a.quad.b a.quad.d a.quad.e m xs g base a.t.now a.log.at a.log.round v rd c.refuses_odd.new.w c.refuses_odd.result
-    odd at₀ m₀ a.flips c.requires.flips c.if-refuses_odd.false (lt-ltb a.rules.slots (a.c.used + 1) c.if-full.true)
+    odd at₀ m₀ a.flips c.requires.flips c.if-refuses_odd.false (lt-ltb a.rules.lay.slots (a.c.used + 1) c.if-full.true)
 
 pub returns-then-cramped : goal.returns-then-cramped
 returns-then-cramped c =
@@ -42,7 +42,7 @@ returns-then-cramped c =
     let k = grown m a.n a.quad.a a.quad.b a.quad.d a.quad.e in
     let room = c.fits-cramped.ensures base m (replaced m k xs) (was_placed k (ids xs)) v (replaced_notes m k xs) (entry_length k xs a.n g.listed.len) in
     give_short a.w.now q a.rules a.c a.n a.quad.a a.quad.b a.quad.d a.quad.e m xs g base a.t.now a.log.at a.log.round v rd c.refuses_odd.new.w c.refuses_odd.result
-    odd at₀ m₀ a.flips c.requires.flips c.if-refuses_odd.false (le-ltb a.rules.slots (a.c.used + 1) c.if-full.false) (sym room ∙ c.if-cramped.true)
+    odd at₀ m₀ a.flips c.requires.flips c.if-refuses_odd.false (le-ltb a.rules.lay.slots (a.c.used + 1) c.if-full.false) (sym room ∙ c.if-cramped.true)
 
 pub enter-at-requires : goal.enter-at-requires
 enter-at-requires c =
@@ -94,5 +94,5 @@ returns c =
     let fit = sym room ∙ c.if-cramped.false in
     let can = give_enter a.w.now q a.rules a.c a.n a.quad.a a.quad.b a.quad.d a.quad.e m xs g c.refuses_odd.new.w base a.t.now a.log odd.listed v rd fit in
     give_made a.w.now q a.rules a.c a.n a.quad.a a.quad.b a.quad.d a.quad.e m xs g base a.t.now a.log.at a.log.round v rd c.refuses_odd.new.w c.refuses_odd.result
-    odd at₀ m₀ a.flips c.requires.flips c.if-refuses_odd.false (le-ltb a.rules.slots (a.c.used + 1) c.if-full.false) fit c.enter-at.new.t c.enter-at.result (c.enter-at.ensures base m xs can) c.place_noted.new.w
+    odd at₀ m₀ a.flips c.requires.flips c.if-refuses_odd.false (le-ltb a.rules.lay.slots (a.c.used + 1) c.if-full.false) fit c.enter-at.new.t c.enter-at.result (c.enter-at.ensures base m xs can) c.place_noted.new.w
     c.place_noted.ensures c.placed.result c.placed.ensures

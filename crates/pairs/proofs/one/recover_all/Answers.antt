@@ -16,7 +16,7 @@ recover-x-requires c =
 pub returns-then-not-x : goal.returns-then-not-x
 returns-then-not-x c =
     let a = c.args in
-    first_fails a.q.now a.j.now a.rules.slots a.rules.capacity a.c.points a.c.used a.rules.bucket a.at a.quad.a a.quad.b a.quad.d a.quad.e a.w.now a.t.now c.recover-x.new.w c.recover-x.new.t
+    first_fails a.q.now a.j.now a.rules.lay.slots a.rules.lay.points a.c.points a.c.used a.rules.bucket a.at a.quad.a a.quad.b a.quad.d a.quad.e a.w.now a.t.now c.recover-x.new.w c.recover-x.new.t
     c.recover-x.result c.recover-x.ensures (not-true c.recover-x.result.there c.if-not-x.true)
 
 -- ---- the second
@@ -48,7 +48,7 @@ pub returns-then-not-y : goal.returns-then-not-y
 returns-then-not-y c =
     let a = c.args in
     let gone = not-true c.recover-y.result.there c.if-not-y.true in
-    second_fails a.q.now a.j.now a.rules.slots a.rules.capacity a.c.points a.c.used a.rules.bucket a.at a.quad.a a.quad.b a.quad.d a.quad.e a.w.now a.t.now c.recover-x.new.w c.recover-x.new.t
+    second_fails a.q.now a.j.now a.rules.lay.slots a.rules.lay.points a.c.points a.c.used a.rules.bucket a.at a.quad.a a.quad.b a.quad.d a.quad.e a.w.now a.t.now c.recover-x.new.w c.recover-x.new.t
     c.recover-x.result c.recover-x.ensures (not-false c.recover-x.result.there c.if-not-x.false) c.recover-y.new.w c.recover-y.new.t c.recover-y.result c.recover-y.ensures
     gone _ (record { there = sym gone; short = refl; flips = refl; at = refl })
 
@@ -100,7 +100,7 @@ overflow_add-result-3 c =
 pub returns : goal.returns
 returns c =
     let a = c.args in
-    third_ends a.q.now a.j.now a.rules.slots a.rules.capacity a.c.points a.c.used a.rules.bucket a.at a.quad.a a.quad.b a.quad.d a.quad.e a.w.now a.t.now c.recover-x.new.w c.recover-x.new.t
+    third_ends a.q.now a.j.now a.rules.lay.slots a.rules.lay.points a.c.points a.c.used a.rules.bucket a.at a.quad.a a.quad.b a.quad.d a.quad.e a.w.now a.t.now c.recover-x.new.w c.recover-x.new.t
     c.recover-x.result c.recover-x.ensures (not-false c.recover-x.result.there c.if-not-x.false) c.recover-y.new.w c.recover-y.new.t c.recover-y.result c.recover-y.ensures
     (not-false c.recover-y.result.there c.if-not-y.false) c.recover-z.new.w c.recover-z.new.t c.recover-z.result c.recover-z.ensures _
     (record { there = refl; short = refl; flips = refl; at = refl })

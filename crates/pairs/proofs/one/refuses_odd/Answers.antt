@@ -5,12 +5,9 @@ use Rattle.pairs.proofs.one.refuses_odd.Goals as goal
 pub returns-then-not-even : goal.returns-then-not-even
 returns-then-not-even c =
     let a = c.args in
-    λ m xs h u l. odd_off a.w.now a.s a.p a.n a.even m xs h c.if-not-even.true
+    λ m xs h u l. odd_off a.w.now a.lay.slots a.lay.points a.n a.even m xs h c.if-not-even.true
 
 pub returns : goal.returns
 returns c =
-    let k = c in
-    let e = k in
-    let t = e in
-    let a = t.args in
-    λ m xs h u l. odd_on a.w.now k.leaves_odd.new.w a.s a.p a.n a.even m xs k.leaves_odd.result (k.leaves_odd.ensures m xs h u l) e.if-not-even.false
+    let a = c.args in
+    λ m xs h u l. odd_on a.w.now c.leaves_odd.new.w a.lay.slots a.lay.points a.n a.even m xs c.leaves_odd.result (c.leaves_odd.ensures m xs h u l) c.if-not-even.false

@@ -4,5 +4,4 @@ use Rattle.plane.proofs.jacobian.least.Goals as goal
 
 pub returns : goal.returns
 returns c =
-    let k = c in
-    rw (c.lesser-4.ensures, k.lesser-3.ensures, k.lesser-2.ensures, k.lesser.ensures, one_over_zero)
+    rw (c.lesser-4.ensures, c.lesser-3.ensures, c.lesser-2.ensures, c.lesser.ensures, one_over_zero)

@@ -12,9 +12,7 @@ pub returns-then-size : goal.returns-then-size
 unfolding ◌⊕◌ ◌≼◌ smallest largest f64
 returns-then-size c =
     λ e.
-    let k = c in
-    let s = k in
-    half_size _ _ s.well_formed.0.1 k.if-x-u.true (rw (← k.abs-size.ensures) c.if-size.true) (rw (← k.abs-size.ensures) e)
+    half_size _ _ c.well_formed.0.1 c.if-x-u.true (rw (← c.abs-size.ensures) c.if-size.true) (rw (← c.abs-size.ensures) e)
 
 pub returns-else-size : goal.returns-else-size
 returns-else-size c = λ e. absurd (false≢true e)

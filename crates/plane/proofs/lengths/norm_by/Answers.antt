@@ -9,5 +9,4 @@ pub returns-then-half_of-2 : goal.returns-then-half_of-2
 unfolding norm vec ◌⊗◌ 0·5 f64
 returns-then-half_of-2 c =
     λ e.
-    let k = c in
-    ap (λ (z : Float). 0·5 ⊗ z) e ∙ half_length _ _ _ _ (k.half_of.ensures k.if-half_of.true) (k.half_of-then-half_of.ensures c.if-half_of-2.true)
+    ap (λ (z : Float). 0·5 ⊗ z) e ∙ half_length _ _ _ _ (c.half_of.ensures c.if-half_of.true) (c.half_of-then-half_of.ensures c.if-half_of-2.true)

@@ -5,5 +5,4 @@ use Rattle.plane.proofs.metrics.cosine.Goals as goal
 pub returns : goal.returns
 returns c =
     λ e.
-    let k = c in
-    c.clamp.ensures ∙ cosine_by _ _ _ k.between.ensures k.between-2.ensures k.dot.ensures e
+    c.clamp.ensures ∙ cosine_by _ _ _ c.between.ensures c.between-2.ensures c.dot.ensures e

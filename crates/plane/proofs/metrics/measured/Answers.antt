@@ -8,15 +8,13 @@ pub returns-then-flat_side : goal.returns-then-flat_side
 unfolding metrics_of_enum
 returns-then-flat_side c =
     λ h e.
-    let k = c in
-    let s = k.sides_of-s.ensures _ _ _ _ h in
-    sym (metrics_by _ _ _ _ false true e (sym (flat_by _ _ _ _ _ s) ∙ sym k.flat_side.ensures ∙ c.if-flat_side.true))
+    let s = c.sides_of-s.ensures _ _ _ _ h in
+    sym (metrics_by _ _ _ _ false true e (sym (flat_by _ _ _ _ _ s) ∙ sym c.flat_side.ensures ∙ c.if-flat_side.true))
 
 pub returns : goal.returns
 unfolding metrics_of_enum
 returns c =
     λ h e.
-    let k = c in
-    let s = k.sides_of-s.ensures _ _ _ _ h in
+    let s = c.sides_of-s.ensures _ _ _ _ h in
     rw (c.min_scaled_jacobian.ensures h, c.largest_cosine.ensures s)
-    (sym (metrics_by _ _ _ _ false false e (sym (flat_by _ _ _ _ _ s) ∙ sym k.flat_side.ensures ∙ k.if-flat_side.false)))
+    (sym (metrics_by _ _ _ _ false false e (sym (flat_by _ _ _ _ _ s) ∙ sym c.flat_side.ensures ∙ c.if-flat_side.false)))

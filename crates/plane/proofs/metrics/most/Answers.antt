@@ -4,5 +4,4 @@ use Rattle.plane.proofs.metrics.most.Goals as goal
 
 pub returns : goal.returns
 returns c =
-    let k = c in
-    rw (c.greater-4.ensures, k.greater-3.ensures, k.greater-2.ensures, k.greater.ensures, minus_one_over_zero)
+    rw (c.greater-4.ensures, c.greater-3.ensures, c.greater-2.ensures, c.greater.ensures, minus_one_over_zero)

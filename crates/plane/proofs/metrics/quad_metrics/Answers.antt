@@ -4,5 +4,4 @@ use Rattle.plane.proofs.metrics.quad_metrics.Goals as goal
 
 pub returns : goal.returns
 returns c =
-    let k = c in
-    c.quad_metrics_of.ensures ∙ quad_metrics_ground _ _ k.at.ensures k.at-2.ensures _ k.at-3.ensures _ k.at-4.ensures
+    c.quad_metrics_of.ensures ∙ quad_metrics_ground _ _ c.at.ensures c.at-2.ensures _ c.at-3.ensures _ c.at-4.ensures

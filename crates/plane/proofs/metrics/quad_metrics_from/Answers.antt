@@ -10,5 +10,4 @@ returns-then-folded c = λ _ _. sym (metrics_by _ _ _ _ true _ (sym c.folded.ens
 pub returns : goal.returns
 returns c =
     λ e f.
-    let k = c in
-    c.measured.ensures (c.lengths_from.ensures e f) (sym k.folded.ensures ∙ k.if-folded.false)
+    c.measured.ensures (c.lengths_from.ensures e f) (sym c.folded.ensures ∙ c.if-folded.false)

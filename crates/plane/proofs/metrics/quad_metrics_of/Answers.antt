@@ -9,5 +9,4 @@ returns-then-folded c = sym (metrics_by _ _ _ _ true _ (sym c.folded.ensures ∙
 
 pub returns : goal.returns
 returns c =
-    let k = c in
-    c.measured.ensures c.lengths_of.ensures (sym k.folded.ensures ∙ k.if-folded.false)
+    c.measured.ensures c.lengths_of.ensures (sym c.folded.ensures ∙ c.if-folded.false)

@@ -10,7 +10,6 @@ use Rattle.plane.proofs.points.at.Goals as goal
 pub returns : goal.returns
 unfolding node ground point_at flat
 returns c =
-    let start = c in
-    let q = start.args.q.now in
-    let a = start.args.a in
+    let q = c.args.q.now in
+    let a = c.args.a in
     ap₂ flat (get_d_any q (3 * a) nan 0·0 (omega arith)) (get_d_any q (3 * a + 1) nan 0·0 (omega arith))

@@ -4,5 +4,4 @@ use Rattle.plane.proofs.sides.cross.Goals as goal
 
 pub returns : goal.returns
 returns c =
-    let k = c in
-    c.cross_of.ensures ∙ cross_ground _ _ k.at.ensures k.at-2.ensures _ k.at-3.ensures
+    c.cross_of.ensures ∙ cross_ground _ _ c.at.ensures c.at-2.ensures _ c.at-3.ensures

@@ -1,4 +1,4 @@
-use Rattle.std.specs.Prelude.{◌∷◌, ◌++◌}
+use Rattle.std.specs.Prelude.{None, Some, ◌∷◌, ◌++◌}
 use Rattle.laws.specs.Kit.{refl, ◌∙◌, arith, []}
 use Rattle.definition.specs.Cells.{new_quad, quad_edges}
 use Rattle.definition.specs.Region.{flood}
@@ -13,127 +13,91 @@ use Rattle.regions.proofs.flood.flood.Goals as goal
 
 pub start-requires : goal.start-requires
 start-requires c =
-    let t = c in
-    let a = t.args in
-    record { can_mark = record { fits = omega (arith, t.requires.1.room.fits); small = t.requires.1.room.small; few = omega (arith, t.requires.1.used, t.requires.3) }; i_lt_s = tri_inside a.w.now a.s a.p t.requires.0 t.requires.1 a.i t.requires.2 }
+    let a = c.args in
+    record { can_mark = record { fits = omega (arith, c.requires.1.room.fits); small = c.requires.1.room.small; few = omega (arith, c.requires.1.used, c.requires.3) }; i_lt_s = tri_inside a.w.now a.lay.slots a.lay.points c.requires.0 c.requires.1 a.i c.requires.2 }
 
 pub loop-head-init : goal.loop-head-init
 loop-head-init c =
-    let d = c in
-    let t = d in
-    let a = t.args in
-    let w1 = d.start.new.w in
-    let sd = d.start.ensures in
-    let is = tri_inside a.w.now a.s a.p t.requires.0 t.requires.1 a.i t.requires.2 in (
+    let a = c.args in
+    let w1 = c.start.new.w in
+    let sd = c.start.ensures in
+    let is = tri_inside a.w.now a.lay.slots a.lay.points c.requires.0 c.requires.1 a.i c.requires.2 in (
       refl,
       omega (arith, is),
-      omega (arith, t.requires.1.room.small),
+      omega (arith, c.requires.1.room.small),
       λ m rep1 ti u.
-          let rep = rep_under w1 a.w.now a.s a.p (under_sym a.w.now w1 (mesh_end a.s a.p) sd.aside.under) m rep1 in
-          flood_start w1 w1 a.s a.p m (quad_edges (new_quad a.a a.b a.c a.d)) (tri_live a.i ti.t) (aside_refl w1 a.s a.p) (sd.alone m rep u ti),
+          let rep = rep_under w1 a.w.now a.lay.slots a.lay.points (under_sym a.w.now w1 (mesh_end a.lay.slots a.lay.points) sd.aside.under) m rep1 in
+          flood_start w1 w1 a.lay.slots a.lay.points m (quad_edges (new_quad a.a a.b a.c a.d)) (tri_live a.i ti.t) (aside_refl w1 a.lay.slots a.lay.points) (sd.alone m rep u ti),
     )
 
 pub listed-j-requires : goal.listed-j-requires
 listed-j-requires c =
-    let i = c in
-    let l = i in
-    let d = l in
-    let t = d in
-    let a = t.args in
-    let w1 = d.start.new.w in
-    let sd = d.start.ensures in
-    let m = t.requires.0 in
-    let ti = t.requires.2 in
-    let rep1 = rep_under a.w.now w1 a.s a.p sd.aside.under m t.requires.1 in
-    let fl = l.loop-head.invariant.3 m rep1 ti t.requires.3 in
-    flood_can w1 l.loop-head.w a.s a.p l.loop-head.n l.loop-head.head m (quad_edges (new_quad a.a a.b a.c a.d)) (flood m.used m (quad_edges (new_quad a.a a.b a.c a.d)) [] (tri_live a.i ti.t ∷ [])) fl i.loop-head-test.true
+    let a = c.args in
+    let w1 = c.start.new.w in
+    let sd = c.start.ensures in
+    let m = c.requires.0 in
+    let ti = c.requires.2 in
+    let rep1 = rep_under a.w.now w1 a.lay.slots a.lay.points sd.aside.under m c.requires.1 in
+    let fl = c.loop-head.invariant.3 m rep1 ti c.requires.3 in
+    flood_can w1 c.loop-head.w a.lay.slots a.lay.points c.loop-head.n c.loop-head.head m (quad_edges (new_quad a.a a.b a.c a.d)) (flood m.used m (quad_edges (new_quad a.a a.b a.c a.d)) [] (tri_live a.i ti.t ∷ [])) fl c.loop-head-test.true
 
-pub visit_tri-n-requires : goal.visit_tri-n-requires
-visit_tri-n-requires c =
-    let wd = c in
-    let i = wd in
-    let l = i in
-    let d = l in
-    let t = d in
-    let a = t.args in
-    let w1 = d.start.new.w in
-    let sd = d.start.ensures in
-    let m = t.requires.0 in
-    let ti = t.requires.2 in
-    let rep1 = rep_under a.w.now w1 a.s a.p sd.aside.under m t.requires.1 in
-    let fl = l.loop-head.invariant.3 m rep1 ti t.requires.3 in
-    let po = popped w1 l.loop-head.w a.s a.p l.loop-head.n l.loop-head.head m (quad_edges (new_quad a.a a.b a.c a.d)) (flood m.used m (quad_edges (new_quad a.a a.b a.c a.d)) [] (tri_live a.i ti.t ∷ [])) fl i.loop-head-test.true wd.listed-j.result wd.listed-j.ensures in
+pub visit_tri-requires : goal.visit_tri-requires
+visit_tri-requires c =
+    let a = c.args in
+    let w1 = c.start.new.w in
+    let sd = c.start.ensures in
+    let m = c.requires.0 in
+    let ti = c.requires.2 in
+    let rep1 = rep_under a.w.now w1 a.lay.slots a.lay.points sd.aside.under m c.requires.1 in
+    let fl = c.loop-head.invariant.3 m rep1 ti c.requires.3 in
+    let po = popped w1 c.loop-head.w a.lay.slots a.lay.points c.loop-head.n c.loop-head.head m (quad_edges (new_quad a.a a.b a.c a.d)) (flood m.used m (quad_edges (new_quad a.a a.b a.c a.d)) [] (tri_live a.i ti.t ∷ [])) fl c.loop-head-test.true c.listed-j.result c.listed-j.ensures in
     (m, po.done ++ po.todo, po.state, po.tri)
 
-pub shape_of-w-then-n-eq0 : goal.shape_of-w-then-n-eq0
-shape_of-w-then-n-eq0 c =
-    let o = c in
-    let l = o in
-    let d = l in
-    o.visit_tri-n.auto.w ∙ l.loop-head.invariant.0 ∙ d.start.auto.w
-
-pub returns-then-n-eq0 : goal.returns-then-n-eq0
-returns-then-n-eq0 c =
+pub returns-in_err-n : goal.returns-in_err-n
+returns-in_err-n c =
     λ m rep ti u.
-    let o = c in
-    let wd = o in
-    let i = wd in
-    let l = i in
-    let d = l in
-    let t = d in
-    let a = t.args in
-    let w1 = d.start.new.w in
-    let sd = d.start.ensures in
-    let rep1 = rep_under a.w.now w1 a.s a.p sd.aside.under m rep in
-    let fl = l.loop-head.invariant.3 m rep1 ti u in
-    let po = popped w1 l.loop-head.w a.s a.p l.loop-head.n l.loop-head.head m (quad_edges (new_quad a.a a.b a.c a.d)) (flood m.used m (quad_edges (new_quad a.a a.b a.c a.d)) [] (tri_live a.i ti.t ∷ [])) fl i.loop-head-test.true wd.listed-j.result wd.listed-j.ensures in
-    let f = o.visit_tri-n.ensures m po.done po.todo po.state po.tri in
-    reached_from a.w.now w1 o.visit_tri-n.new.w a.s a.p m [] (flood m.used m (quad_edges (new_quad a.a a.b a.c a.d)) [] (tri_live a.i ti.t ∷ [])) 0 sd.aside (flood_failed w1 l.loop-head.w a.s a.p l.loop-head.n l.loop-head.head m (quad_edges (new_quad a.a a.b a.c a.d)) (flood m.used m (quad_edges (new_quad a.a a.b a.c a.d)) [] (tri_live a.i ti.t ∷ [])) fl i.loop-head-test.true wd.listed-j.result wd.listed-j.ensures o.visit_tri-n.new.w o.visit_tri-n.result f c.if-n-eq0.true)
+    let a = c.args in
+    let w1 = c.start.new.w in
+    let sd = c.start.ensures in
+    let rep1 = rep_under a.w.now w1 a.lay.slots a.lay.points sd.aside.under m rep in
+    let fl = c.loop-head.invariant.3 m rep1 ti u in
+    let po = popped w1 c.loop-head.w a.lay.slots a.lay.points c.loop-head.n c.loop-head.head m (quad_edges (new_quad a.a a.b a.c a.d)) (flood m.used m (quad_edges (new_quad a.a a.b a.c a.d)) [] (tri_live a.i ti.t ∷ [])) fl c.loop-head-test.true c.listed-j.result c.listed-j.ensures in
+    let f = c.in_err-n.ensures m po.done po.todo po.state po.tri in
+    rw c.from_residual.ensures (reached_from a.w.now w1 c.visit_tri.new.w a.lay.slots a.lay.points m [] (flood m.used m (quad_edges (new_quad a.a a.b a.c a.d)) [] (tri_live a.i ti.t ∷ [])) None sd.aside (flood_failed w1 c.loop-head.w a.lay.slots a.lay.points c.loop-head.n c.loop-head.head m (quad_edges (new_quad a.a a.b a.c a.d)) (flood m.used m (quad_edges (new_quad a.a a.b a.c a.d)) [] (tri_live a.i ti.t ∷ [])) fl c.loop-head-test.true c.listed-j.result c.listed-j.ensures c.visit_tri.new.w f))
 
 pub loop-head-preserved : goal.loop-head-preserved
 loop-head-preserved c =
-    let o = c in
-    let wd = o in
-    let i = wd in
-    let l = i in
-    let d = l in
-    let t = d in
-    let a = t.args in
-    let w1 = d.start.new.w in
-    let sd = d.start.ensures in (
-      o.visit_tri-n.auto.w ∙ l.loop-head.invariant.0,
+    let a = c.args in
+    let w1 = c.start.new.w in
+    let sd = c.start.ensures in (
+      c.visit_tri.auto.w ∙ c.loop-head.invariant.0,
       (
-          let m = t.requires.0 in
-          let ti = t.requires.2 in
-          let rep1 = rep_under a.w.now w1 a.s a.p sd.aside.under m t.requires.1 in
-          let fl = l.loop-head.invariant.3 m rep1 ti t.requires.3 in
-          let po = popped w1 l.loop-head.w a.s a.p l.loop-head.n l.loop-head.head m (quad_edges (new_quad a.a a.b a.c a.d)) (flood m.used m (quad_edges (new_quad a.a a.b a.c a.d)) [] (tri_live a.i ti.t ∷ [])) fl i.loop-head-test.true wd.listed-j.result wd.listed-j.ensures in
-          let f = o.visit_tri-n.ensures m po.done po.todo po.state po.tri in
-          let fo = flood_on w1 l.loop-head.w a.s a.p l.loop-head.n l.loop-head.head m (quad_edges (new_quad a.a a.b a.c a.d)) (flood m.used m (quad_edges (new_quad a.a a.b a.c a.d)) [] (tri_live a.i ti.t ∷ [])) fl i.loop-head-test.true wd.listed-j.result wd.listed-j.ensures o.visit_tri-n.new.w o.visit_tri-n.result f c.if-n-eq0.false in
+          let m = c.requires.0 in
+          let ti = c.requires.2 in
+          let rep1 = rep_under a.w.now w1 a.lay.slots a.lay.points sd.aside.under m c.requires.1 in
+          let fl = c.loop-head.invariant.3 m rep1 ti c.requires.3 in
+          let po = popped w1 c.loop-head.w a.lay.slots a.lay.points c.loop-head.n c.loop-head.head m (quad_edges (new_quad a.a a.b a.c a.d)) (flood m.used m (quad_edges (new_quad a.a a.b a.c a.d)) [] (tri_live a.i ti.t ∷ [])) fl c.loop-head-test.true c.listed-j.result c.listed-j.ensures in
+          let f = c.in_ok-n.ensures m po.done po.todo po.state po.tri in
+          let fo = flood_on w1 c.loop-head.w a.lay.slots a.lay.points c.loop-head.n c.loop-head.head m (quad_edges (new_quad a.a a.b a.c a.d)) (flood m.used m (quad_edges (new_quad a.a a.b a.c a.d)) [] (tri_live a.i ti.t ∷ [])) fl c.loop-head-test.true c.listed-j.result c.listed-j.ensures c.visit_tri.new.w c.in_ok-n.n f in
           omega (arith, few fo.state.list, rep1.used)),
-      l.loop-head.invariant.2,
+      c.loop-head.invariant.2,
       λ m rep1 ti u.
-          let fl = l.loop-head.invariant.3 m rep1 ti u in
-          let po = popped w1 l.loop-head.w a.s a.p l.loop-head.n l.loop-head.head m (quad_edges (new_quad a.a a.b a.c a.d)) (flood m.used m (quad_edges (new_quad a.a a.b a.c a.d)) [] (tri_live a.i ti.t ∷ [])) fl i.loop-head-test.true wd.listed-j.result wd.listed-j.ensures in
-          let f = o.visit_tri-n.ensures m po.done po.todo po.state po.tri in
-          flood_on w1 l.loop-head.w a.s a.p l.loop-head.n l.loop-head.head m (quad_edges (new_quad a.a a.b a.c a.d)) (flood m.used m (quad_edges (new_quad a.a a.b a.c a.d)) [] (tri_live a.i ti.t ∷ [])) fl i.loop-head-test.true wd.listed-j.result wd.listed-j.ensures o.visit_tri-n.new.w o.visit_tri-n.result f c.if-n-eq0.false,
+          let fl = c.loop-head.invariant.3 m rep1 ti u in
+          let po = popped w1 c.loop-head.w a.lay.slots a.lay.points c.loop-head.n c.loop-head.head m (quad_edges (new_quad a.a a.b a.c a.d)) (flood m.used m (quad_edges (new_quad a.a a.b a.c a.d)) [] (tri_live a.i ti.t ∷ [])) fl c.loop-head-test.true c.listed-j.result c.listed-j.ensures in
+          let f = c.in_ok-n.ensures m po.done po.todo po.state po.tri in
+          flood_on w1 c.loop-head.w a.lay.slots a.lay.points c.loop-head.n c.loop-head.head m (quad_edges (new_quad a.a a.b a.c a.d)) (flood m.used m (quad_edges (new_quad a.a a.b a.c a.d)) [] (tri_live a.i ti.t ∷ [])) fl c.loop-head-test.true c.listed-j.result c.listed-j.ensures c.visit_tri.new.w c.in_ok-n.n f,
     )
 
 pub shape_of-w : goal.shape_of-w
 shape_of-w c =
-    let l = c in
-    let d = l in
-    l.loop-head.invariant.0 ∙ d.start.auto.w
+    c.loop-head.invariant.0 ∙ c.start.auto.w
 
 pub returns : goal.returns
 returns c =
     λ m rep ti u.
-    let l = c in
-    let d = l in
-    let t = d in
-    let a = t.args in
-    let w1 = d.start.new.w in
-    let sd = d.start.ensures in
-    let rep1 = rep_under a.w.now w1 a.s a.p sd.aside.under m rep in
-    let fl = l.loop-head.invariant.3 m rep1 ti u in
-    reached_from a.w.now w1 l.loop-head.w a.s a.p m [] (flood m.used m (quad_edges (new_quad a.a a.b a.c a.d)) [] (tri_live a.i ti.t ∷ [])) l.loop-head.n sd.aside (flood_end w1 l.loop-head.w a.s a.p l.loop-head.n l.loop-head.head m (quad_edges (new_quad a.a a.b a.c a.d)) (flood m.used m (quad_edges (new_quad a.a a.b a.c a.d)) [] (tri_live a.i ti.t ∷ [])) fl c.loop-head-test.false)
+    let a = c.args in
+    let w1 = c.start.new.w in
+    let sd = c.start.ensures in
+    let rep1 = rep_under a.w.now w1 a.lay.slots a.lay.points sd.aside.under m rep in
+    let fl = c.loop-head.invariant.3 m rep1 ti u in
+    reached_from a.w.now w1 c.loop-head.w a.lay.slots a.lay.points m [] (flood m.used m (quad_edges (new_quad a.a a.b a.c a.d)) [] (tri_live a.i ti.t ∷ [])) (Some c.loop-head.n) sd.aside (flood_end w1 c.loop-head.w a.lay.slots a.lay.points c.loop-head.n c.loop-head.head m (quad_edges (new_quad a.a a.b a.c a.d)) (flood m.used m (quad_edges (new_quad a.a a.b a.c a.d)) [] (tri_live a.i ti.t ∷ [])) fl c.loop-head-test.false)

@@ -1,5 +1,5 @@
 -- The three edges of the triangle one after the other, each by its nodes as they were read.
-use Rattle.std.specs.Prelude.{◌≡◌, ◌++◌}
+use Rattle.std.specs.Prelude.{None, ◌≡◌, ◌++◌}
 use Rattle.laws.specs.Kit.{◌∙◌, ℕ, arith, List, []}
 use Rattle.definition.specs.Plane.{Edge}
 use Rattle.definition.specs.Cells.{Tri, Mesh, key, new_quad, quad_edges}
@@ -26,87 +26,83 @@ pub node-x-requires : goal.node-x-requires
 node-x-requires c =
     let a = c.args in
     let r = c.requires.2.list.rep in
-    record { can_see = rep_see a.w.now a.s a.p c.requires.0 r a.i (tri_inside a.w.now a.s a.p c.requires.0 r a.i c.requires.3); k_bound = omega arith }
+    record { can_see = rep_see a.w.now a.lay.slots a.lay.points c.requires.0 r a.i (tri_inside a.w.now a.lay.slots a.lay.points c.requires.0 r a.i c.requires.3); k_bound = omega arith }
 
 pub node-y-requires : goal.node-y-requires
 node-y-requires c =
     let a = c.args in
     let r = c.requires.2.list.rep in
-    record { can_see = rep_see a.w.now a.s a.p c.requires.0 r a.i (tri_inside a.w.now a.s a.p c.requires.0 r a.i c.requires.3); k_bound = omega arith }
+    record { can_see = rep_see a.w.now a.lay.slots a.lay.points c.requires.0 r a.i (tri_inside a.w.now a.lay.slots a.lay.points c.requires.0 r a.i c.requires.3); k_bound = omega arith }
 
 pub node-z-requires : goal.node-z-requires
 node-z-requires c =
     let a = c.args in
     let r = c.requires.2.list.rep in
-    record { can_see = rep_see a.w.now a.s a.p c.requires.0 r a.i (tri_inside a.w.now a.s a.p c.requires.0 r a.i c.requires.3); k_bound = omega arith }
-
-pub visit_side-k-requires : goal.visit_side-k-requires
-visit_side-k-requires c =
-    let a = c.args in
-    let h = c.requires in
-    let g = read a.w.now a.s a.p a.i h.0 (quad_edges (new_quad a.a a.b a.c a.d)) h.2.list.rep h.3 c.node-x.ensures c.node-y.ensures c.node-z.ensures in
-    record { state = (h.0, h.1, h.2); edge = g.corners.xy }
-
-pub returns-then-k-eq0 : goal.returns-then-k-eq0
-returns-then-k-eq0 c = λ m done todo st ti.
-    let a = c.args in
-    let sides = quad_edges (new_quad a.a a.b a.c a.d) in
-    let g = read a.w.now a.s a.p a.i m sides st.list.rep ti c.node-x.ensures c.node-y.ensures c.node-z.ensures in
-    let e1 = beyond m sides (key c.node-x.result c.node-y.result) in
-    let e2 = beyond m sides (key c.node-y.result c.node-z.result) in
-    let e3 = beyond m sides (key c.node-z.result c.node-x.result) in
-    rw g.are (seq_failed a.w.now c.visit_side-k.new.w a.s a.p c.visit_side-k.result m done todo e1 (c.visit_side-k.ensures m done todo st) c.if-k-eq0.true (e2 ++ e3))
-
-pub visit_side-l-requires : goal.visit_side-l-requires
-visit_side-l-requires c =
-    let a = c.args in
-    let h = c.requires in
-    let sides = quad_edges (new_quad a.a a.b a.c a.d) in
-    let g = read a.w.now a.s a.p a.i h.0 sides h.2.list.rep h.3 c.node-x.ensures c.node-y.ensures c.node-z.ensures in
-    let e1 = beyond h.0 sides (key c.node-x.result c.node-y.result) in
-    let d = seq_mid a.w.now c.visit_side-k.new.w a.s a.p c.visit_side-k.result h.0 [] h.1 e1 (c.visit_side-k.ensures h.0 [] h.1 h.2) c.if-k-eq0.false in
-    record { state = (h.0, [] ++ d.now, d.state); edge = g.corners.yz }
-
-pub returns-then-l-eq0 : goal.returns-then-l-eq0
-returns-then-l-eq0 c = λ m done todo st ti.
-    let a = c.args in
-    let sides = quad_edges (new_quad a.a a.b a.c a.d) in
-    let g = read a.w.now a.s a.p a.i m sides st.list.rep ti c.node-x.ensures c.node-y.ensures c.node-z.ensures in
-    let e1 = beyond m sides (key c.node-x.result c.node-y.result) in
-    let e2 = beyond m sides (key c.node-y.result c.node-z.result) in
-    let e3 = beyond m sides (key c.node-z.result c.node-x.result) in
-    let f1 = c.visit_side-k.ensures m done todo st in
-    let d1 = seq_mid a.w.now c.visit_side-k.new.w a.s a.p c.visit_side-k.result m done todo e1 f1 c.if-k-eq0.false in
-    let f2 = c.visit_side-l.ensures m done d1.now d1.state in
-    rw g.are
-    (seq_then a.w.now c.visit_side-k.new.w a.s a.p c.visit_side-k.result m done todo e1 f1 d1 (e2 ++ e3) c.visit_side-l.new.w 0
-    (seq_failed c.visit_side-k.new.w c.visit_side-l.new.w a.s a.p c.visit_side-l.result m done d1.now e2 f2 c.if-l-eq0.true e3))
+    record { can_see = rep_see a.w.now a.lay.slots a.lay.points c.requires.0 r a.i (tri_inside a.w.now a.lay.slots a.lay.points c.requires.0 r a.i c.requires.3); k_bound = omega arith }
 
 pub visit_side-requires : goal.visit_side-requires
 visit_side-requires c =
     let a = c.args in
     let h = c.requires in
+    let g = read a.w.now a.lay.slots a.lay.points a.i h.0 (quad_edges (new_quad a.a a.b a.c a.d)) h.2.list.rep h.3 c.node-x.ensures c.node-y.ensures c.node-z.ensures in
+    record { state = (h.0, h.1, h.2); edge = g.corners.xy }
+
+pub returns-in_err-k : goal.returns-in_err-k
+returns-in_err-k c = λ m done todo st ti.
+    let a = c.args in
     let sides = quad_edges (new_quad a.a a.b a.c a.d) in
-    let g = read a.w.now a.s a.p a.i h.0 sides h.2.list.rep h.3 c.node-x.ensures c.node-y.ensures c.node-z.ensures in
+    let g = read a.w.now a.lay.slots a.lay.points a.i m sides st.list.rep ti c.node-x.ensures c.node-y.ensures c.node-z.ensures in
+    let e1 = beyond m sides (key c.node-x.result c.node-y.result) in
+    let e2 = beyond m sides (key c.node-y.result c.node-z.result) in
+    let e3 = beyond m sides (key c.node-z.result c.node-x.result) in
+    rw (c.from_residual.ensures, g.are) (seq_failed a.w.now c.visit_side.new.w a.lay.slots a.lay.points m done todo e1 (c.in_err-k.ensures m done todo st) (e2 ++ e3))
+
+pub visit_side-requires-2 : goal.visit_side-requires-2
+visit_side-requires-2 c =
+    let a = c.args in
+    let h = c.requires in
+    let sides = quad_edges (new_quad a.a a.b a.c a.d) in
+    let g = read a.w.now a.lay.slots a.lay.points a.i h.0 sides h.2.list.rep h.3 c.node-x.ensures c.node-y.ensures c.node-z.ensures in
+    let e1 = beyond h.0 sides (key c.node-x.result c.node-y.result) in
+    let d = seq_mid a.w.now c.visit_side.new.w a.lay.slots a.lay.points h.0 [] h.1 e1 c.in_ok-k.k (c.in_ok-k.ensures h.0 [] h.1 h.2) in
+    record { state = (h.0, [] ++ d.now, d.state); edge = g.corners.yz }
+
+pub returns-in_err-l : goal.returns-in_err-l
+returns-in_err-l c = λ m done todo st ti.
+    let a = c.args in
+    let sides = quad_edges (new_quad a.a a.b a.c a.d) in
+    let g = read a.w.now a.lay.slots a.lay.points a.i m sides st.list.rep ti c.node-x.ensures c.node-y.ensures c.node-z.ensures in
+    let e1 = beyond m sides (key c.node-x.result c.node-y.result) in
+    let e2 = beyond m sides (key c.node-y.result c.node-z.result) in
+    let e3 = beyond m sides (key c.node-z.result c.node-x.result) in
+    let d1 = seq_mid a.w.now c.visit_side.new.w a.lay.slots a.lay.points m done todo e1 c.in_ok-k.k (c.in_ok-k.ensures m done todo st) in
+    rw (c.from_residual-in_err-l.ensures, g.are)
+    (seq_then a.w.now c.visit_side.new.w a.lay.slots a.lay.points m done todo e1 c.in_ok-k.k d1 (e2 ++ e3) c.visit_side-2.new.w None
+    (seq_failed c.visit_side.new.w c.visit_side-2.new.w a.lay.slots a.lay.points m done d1.now e2 (c.in_err-l.ensures m done d1.now d1.state) e3))
+
+pub visit_side-requires-3 : goal.visit_side-requires-3
+visit_side-requires-3 c =
+    let a = c.args in
+    let h = c.requires in
+    let sides = quad_edges (new_quad a.a a.b a.c a.d) in
+    let g = read a.w.now a.lay.slots a.lay.points a.i h.0 sides h.2.list.rep h.3 c.node-x.ensures c.node-y.ensures c.node-z.ensures in
     let e1 = beyond h.0 sides (key c.node-x.result c.node-y.result) in
     let e2 = beyond h.0 sides (key c.node-y.result c.node-z.result) in
-    let d1 = seq_mid a.w.now c.visit_side-k.new.w a.s a.p c.visit_side-k.result h.0 [] h.1 e1 (c.visit_side-k.ensures h.0 [] h.1 h.2) c.if-k-eq0.false in
-    let d2 = seq_mid c.visit_side-k.new.w c.visit_side-l.new.w a.s a.p c.visit_side-l.result h.0 [] d1.now e2 (c.visit_side-l.ensures h.0 [] d1.now d1.state) c.if-l-eq0.false in
+    let d1 = seq_mid a.w.now c.visit_side.new.w a.lay.slots a.lay.points h.0 [] h.1 e1 c.in_ok-k.k (c.in_ok-k.ensures h.0 [] h.1 h.2) in
+    let d2 = seq_mid c.visit_side.new.w c.visit_side-2.new.w a.lay.slots a.lay.points h.0 [] d1.now e2 c.in_ok-l.l (c.in_ok-l.ensures h.0 [] d1.now d1.state) in
     record { state = (h.0, [] ++ d2.now, d2.state); edge = g.corners.zx }
 
 pub returns : goal.returns
 returns c = λ m done todo st ti.
     let a = c.args in
     let sides = quad_edges (new_quad a.a a.b a.c a.d) in
-    let g = read a.w.now a.s a.p a.i m sides st.list.rep ti c.node-x.ensures c.node-y.ensures c.node-z.ensures in
+    let g = read a.w.now a.lay.slots a.lay.points a.i m sides st.list.rep ti c.node-x.ensures c.node-y.ensures c.node-z.ensures in
     let e1 = beyond m sides (key c.node-x.result c.node-y.result) in
     let e2 = beyond m sides (key c.node-y.result c.node-z.result) in
     let e3 = beyond m sides (key c.node-z.result c.node-x.result) in
-    let f1 = c.visit_side-k.ensures m done todo st in
-    let d1 = seq_mid a.w.now c.visit_side-k.new.w a.s a.p c.visit_side-k.result m done todo e1 f1 c.if-k-eq0.false in
-    let f2 = c.visit_side-l.ensures m done d1.now d1.state in
-    let d2 = seq_mid c.visit_side-k.new.w c.visit_side-l.new.w a.s a.p c.visit_side-l.result m done d1.now e2 f2 c.if-l-eq0.false in
+    let d1 = seq_mid a.w.now c.visit_side.new.w a.lay.slots a.lay.points m done todo e1 c.in_ok-k.k (c.in_ok-k.ensures m done todo st) in
+    let d2 = seq_mid c.visit_side.new.w c.visit_side-2.new.w a.lay.slots a.lay.points m done d1.now e2 c.in_ok-l.l (c.in_ok-l.ensures m done d1.now d1.state) in
     rw g.are
-    (seq_then a.w.now c.visit_side-k.new.w a.s a.p c.visit_side-k.result m done todo e1 f1 d1 (e2 ++ e3) c.visit_side.new.w c.visit_side.result
-    (seq_then c.visit_side-k.new.w c.visit_side-l.new.w a.s a.p c.visit_side-l.result m done d1.now e2 f2 d2 e3 c.visit_side.new.w c.visit_side.result
-    (c.visit_side.ensures m done d2.now d2.state)))
+    (seq_then a.w.now c.visit_side.new.w a.lay.slots a.lay.points m done todo e1 c.in_ok-k.k d1 (e2 ++ e3) c.visit_side-3.new.w c.visit_side-3.result
+    (seq_then c.visit_side.new.w c.visit_side-2.new.w a.lay.slots a.lay.points m done d1.now e2 c.in_ok-l.l d2 e3 c.visit_side-3.new.w c.visit_side-3.result
+    (c.visit_side-3.ensures m done d2.now d2.state)))

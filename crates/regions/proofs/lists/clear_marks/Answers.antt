@@ -3,8 +3,5 @@ use Rattle.regions.proofs.lists.clear_marks.Goals as goal
 
 pub returns : goal.returns
 returns c =
-    let k = c in
-    let m = k in
-    let t = m in
-    let a = t.args in
-    marks_cleared a.w.now k.clear_range.new.w a.s a.p a.n m.marks_at-from.result m.marks_at-from.ensures t.requires k.clear_range.ensures.only k.clear_range.ensures.by_index
+    let a = c.args in
+    marks_cleared a.w.now c.clear_range.new.w a.lay.slots a.lay.points a.n c.marks_at-from.result c.marks_at-from.ensures c.requires c.clear_range.ensures.only c.clear_range.ensures.by_index

@@ -4,5 +4,4 @@ use Rattle.regions.proofs.lists.listed.Goals as goal
 
 pub returns : goal.returns
 returns c =
-    let t = c in
-    c.wide.ensures ∙ ap (λ (k : ℕ). get_or t.args.w.now (k + t.args.i) 0) c.list_at.ensures
+    c.wide.ensures ∙ ap (λ (k : ℕ). get_or c.args.w.now (k + c.args.i) 0) c.list_at.ensures

@@ -4,15 +4,10 @@ use Rattle.regions.proofs.place.place_quad.Goals as goal
 
 pub push_quad-requires : goal.push_quad-requires
 push_quad-requires c =
-    let rl = c in
-    let t = rl in
-    let a = t.args in
-    (remove_cells t.requires.0 t.requires.1, rl.remove_listed.ensures.rep t.requires.0 t.requires.1 t.requires.2, can_push t.requires.0 t.requires.1 a.s a.used a.a a.b a.c a.d t.requires.3)
+    let a = c.args in
+    (remove_cells c.requires.0 c.requires.1, c.remove_listed.ensures.rep c.requires.0 c.requires.1 c.requires.2, can_push c.requires.0 c.requires.1 a.lay.slots a.used a.a a.b a.c a.d c.requires.3)
 
 pub returns : goal.returns
 returns c =
-    let pq = c in
-    let rl = pq in
-    let t = rl in
-    let a = t.args in
-    replacing a.w.now rl.remove_listed.new.w pq.push_quad.new.w a.s a.p a.used a.n a.a a.b a.c a.d rl.remove_listed.ensures pq.push_quad.ensures
+    let a = c.args in
+    replacing a.w.now c.remove_listed.new.w c.push_quad.new.w a.lay.slots a.lay.points a.used a.n a.a a.b a.c a.d c.remove_listed.ensures c.push_quad.ensures

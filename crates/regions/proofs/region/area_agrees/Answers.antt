@@ -3,26 +3,18 @@ use Rattle.regions.proofs.region.area_agrees.Goals as goal
 
 pub quad_area-requires : goal.quad_area-requires
 quad_area-requires c =
-    let t = c in
-    let a = t.args in
-    let fo = four a.q.now a.p t.requires.0 t.requires.2.pts a.a a.b a.c a.d t.requires.3 in
+    let a = c.args in
+    let fo = four a.q.now a.lay.points c.requires.0 c.requires.2.pts a.a a.b a.c a.d c.requires.3 in
     (fo.sa.within, fo.sb.within, fo.sc.within, fo.sd.within)
 
 pub region_area-sum-requires : goal.region_area-sum-requires
 region_area-sum-requires c =
-    let t = c in
-    (t.requires.0, t.requires.1, t.requires.2)
+    (c.requires.0, c.requires.1, c.requires.2)
 
 pub returns : goal.returns
 returns c =
-    let g = c in
-    let x2 = g in
-    let ra = x2 in
-    let x1 = ra in
-    let qa = x1 in
-    let t = qa in
-    let a = t.args in
+    let a = c.args in
     λ m xs h k.
-    let fo = four a.q.now a.p m h.pts a.a a.b a.c a.d k in
-    agrees_is a.q.now m a.a a.b a.c a.d fo xs qa.quad_area.result qa.quad_area.ensures x1.abs-expected.result x1.abs-expected.ensures
-    ra.region_area-sum.result (ra.region_area-sum.ensures m xs h) x2.abs.result x2.abs.ensures g.greater.result g.greater.ensures
+    let fo = four a.q.now a.lay.points m h.pts a.a a.b a.c a.d k in
+    agrees_is a.q.now m a.a a.b a.c a.d fo xs c.quad_area.result c.quad_area.ensures c.abs-expected.result c.abs-expected.ensures
+    c.region_area-sum.result (c.region_area-sum.ensures m xs h) c.abs.result c.abs.ensures c.greater.result c.greater.ensures

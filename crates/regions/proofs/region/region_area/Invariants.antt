@@ -1,4 +1,4 @@
-use Rattle.std.specs.Prelude.{◌≡◌, ◌-◌, ◌^◌, ◌≤◌}
+use Rattle.std.specs.Prelude.{◌≡◌, ◌^◌, ◌≤◌}
 use Rattle.laws.specs.Kit.{List, foldl, drop, Float}
 use Rattle.definition.specs.Floats.{◌⊕◌}
 use Rattle.definition.specs.Cells.{Live, Mesh}
@@ -8,7 +8,4 @@ use Rattle.regions.proofs.region.region_area.Given as goal
 
 abbrev pub invariant-loop-i : goal.invariant-loop-i
 invariant-loop-i l =
-    (l.i ≤ l.n) × (l.n ≤ 2 ^ 32) × ((m : Mesh) (xs : List Live) → Shown l.w l.q l.s l.p l.n m xs → foldl (λ (v : Float) (x : Live). v ⊕ area_of m x.cell) l.sum (drop l.i xs) ≡ region_area m xs)
-
-abbrev pub decreases-loop-i : goal.decreases-loop-i
-decreases-loop-i l = l.n - l.i
+    (l.i ≤ l.n) × (l.n ≤ 2 ^ 32) × ((m : Mesh) (xs : List Live) → Shown l.w l.q l.lay.slots l.lay.points l.n m xs → foldl (λ (v : Float) (x : Live). v ⊕ area_of m x.cell) l.sum (drop l.i xs) ≡ region_area m xs)

@@ -9,57 +9,44 @@ use Rattle.regions.proofs.spares.spares.Goals as goal
 
 pub loop-i-init : goal.loop-i-init
 loop-i-init c =
-    let t = c in
-    (omega arith, omega (arith, few t.requires.2, t.requires.2.rep.used, t.requires.2.rep.room.small), λ m xs h k. refl)
+    (omega arith, omega (arith, few c.requires.2, c.requires.2.rep.used, c.requires.2.rep.room.small), λ m xs h k. refl)
 
 pub listed-requires : goal.listed-requires
 listed-requires c =
-    let l = c in
-    let t = l in
-    let a = t.args in
-    item_can a.w.now a.s a.p a.n l.loop-i.i t.requires.0 t.requires.1 t.requires.2 c.loop-i-test.true
+    let a = c.args in
+    item_can a.w.now a.lay.slots a.lay.points a.n c.loop-i.i c.requires.0 c.requires.1 c.requires.2 c.loop-i-test.true
 
 pub spares_tri-requires : goal.spares_tri-requires
 spares_tri-requires c =
-    let i = c in
-    let l = i in
-    let t = l in
-    let a = t.args in
-    let it = item a.w.now a.s a.p a.n l.loop-i.i t.requires.0 t.requires.1 t.requires.2 i.loop-i-test.true c.listed.result c.listed.ensures in
-    (t.requires.0, t.requires.2.rep, it.tri, t.requires.3)
+    let a = c.args in
+    let it = item a.w.now a.lay.slots a.lay.points a.n c.loop-i.i c.requires.0 c.requires.1 c.requires.2 c.loop-i-test.true c.listed.result c.listed.ensures in
+    (c.requires.0, c.requires.2.rep, it.tri, c.requires.3)
 
 pub returns-then-not-spares_tri : goal.returns-then-not-spares_tri
 unfolding spares_locked
 returns-then-not-spares_tri c =
-    let o = c in
-    let i = o in
-    let l = i in
-    let a = l.args in
-    let j = o.listed.result in
+    let a = c.args in
+    let j = c.listed.result in
     λ m xs h k.
     let q = new_quad a.a a.b a.c a.d in
-    let it = item a.w.now a.s a.p a.n l.loop-i.i m xs h i.loop-i-test.true j o.listed.ensures in
-    sym (sym (l.loop-i.invariant.2 m xs h k) ∙ all_stop m xs l.loop-i.i j it (spared m q) (spared_is m q j it.tri.t ∙ sym (o.spares_tri.ensures m h.rep it.tri k) ∙ c.if-not-spares_tri.true))
+    let it = item a.w.now a.lay.slots a.lay.points a.n c.loop-i.i m xs h c.loop-i-test.true j c.listed.ensures in
+    sym (sym (c.loop-i.invariant.2 m xs h k) ∙ all_stop m xs c.loop-i.i j it (spared m q) (spared_is m q j it.tri.t ∙ sym (c.spares_tri.ensures m h.rep it.tri k) ∙ c.if-not-spares_tri.true))
 
 pub loop-i-preserved : goal.loop-i-preserved
 loop-i-preserved c =
-    let o = c in
-    let i = o in
-    let l = i in
-    let a = l.args in
-    let j = o.listed.result in (
-      omega (arith, i.loop-i-test.true),
-      l.loop-i.invariant.1,
+    let a = c.args in
+    let j = c.listed.result in (
+      omega (arith, c.loop-i-test.true),
+      c.loop-i.invariant.1,
       λ m xs h k.
           let q = new_quad a.a a.b a.c a.d in
-          let it = item a.w.now a.s a.p a.n l.loop-i.i m xs h i.loop-i-test.true j o.listed.ensures in
-          all_next m xs l.loop-i.i j it (spared m q) (spared_is m q j it.tri.t ∙ sym (o.spares_tri.ensures m h.rep it.tri k) ∙ c.if-not-spares_tri.false) ∙ l.loop-i.invariant.2 m xs h k,
+          let it = item a.w.now a.lay.slots a.lay.points a.n c.loop-i.i m xs h c.loop-i-test.true j c.listed.ensures in
+          all_next m xs c.loop-i.i j it (spared m q) (spared_is m q j it.tri.t ∙ sym (c.spares_tri.ensures m h.rep it.tri k) ∙ c.if-not-spares_tri.false) ∙ c.loop-i.invariant.2 m xs h k,
     )
 
 pub returns : goal.returns
 unfolding spares_locked
 returns c =
-    let l = c in
-    let a = l.args in
+    let a = c.args in
     λ m xs h k.
-    all_end (spared m (new_quad a.a a.b a.c a.d)) (drop l.loop-i.i xs) (items_end a.w.now a.s a.p a.n l.loop-i.i m xs h c.loop-i-test.false) ∙ l.loop-i.invariant.2 m xs h k
+    all_end (spared m (new_quad a.a a.b a.c a.d)) (drop c.loop-i.i xs) (items_end a.w.now a.lay.slots a.lay.points a.n c.loop-i.i m xs h c.loop-i-test.false) ∙ c.loop-i.invariant.2 m xs h k

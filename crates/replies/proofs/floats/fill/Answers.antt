@@ -1,8 +1,6 @@
 -- `floats::fill`. Invariant: the first i floats are there.
-use borrow.Author.Rules.{rules}
 use mathlib.Core.Path.{◌≡◌, refl, ap, ◌∙◌}
-use Prim.Native.Nat.{◌-◌, ◌≤◌}
-use lib.ListN.{length, set, length-set}
+use lib.ListN.{set, length-set}
 use native.Mathlib.Omega.{arith}
 use Rattle.replies.specs.Tells.{filled}
 use Rattle.replies.proofs.Fills.{filled_none, filled_more}
@@ -10,15 +8,14 @@ use Rattle.replies.proofs.floats.fill.Goals as goal
 
 pub loop-i-preserved : goal.loop-i-preserved
 loop-i-preserved c =
-    let start = c in
-    let a = start.args in
+    let a = c.args in
     let l = c.loop-i in
     let v = c.float_of.result in (
       omega arith,
       length-set l.points l.i v ∙ l.invariant.1,
       ap (λ ys. set ys l.i v) l.invariant.2
           ∙ ap (λ y. set (filled l.i a.bits.now a.points.now) l.i y) c.float_of.ensures
-          ∙ filled_more l.i a.bits.now a.points.now (omega (arith, start.requires)) (omega (arith, start.requires)),
+          ∙ filled_more l.i a.bits.now a.points.now (omega (arith, c.requires)) (omega (arith, c.requires)),
     )
 
 pub returns : goal.returns

@@ -1,4 +1,3 @@
-use Rattle.laws.specs.Kit.{rules, not-true, not-false}
 use Rattle.retrace.proofs.Flipping.{hides_no, hides_yes}
 use Rattle.retrace.proofs.turns.hides.Goals as goal
 

@@ -1,9 +1,7 @@
 -- No quad passed has the edge; the first that does answers.
-use Rattle.std.specs.Prelude.{◌≡◌, ◌-◌, ◌<◌, ◌≤◌}
-use Rattle.laws.specs.Kit.{sym, ◌∙◌, false, ℕ, arith, not-suc-le-zero}
+use Rattle.laws.specs.Kit.{sym, ◌∙◌, arith, not-suc-le-zero}
 use borrow.Author.Count.{below_more}
 use Rattle.definition.specs.Call.{quad_at, first_quads}
-use Rattle.definition.specs.Cells.{has_edge_in, quad_edges}
 use Rattle.laws.specs.Bools.{holds, never}
 use Rattle.laws.specs.Tables.{none_below, below_none}
 use Rattle.retrace.proofs.turns.quad_has.Goals as goal
@@ -13,22 +11,17 @@ loop-i-init c = (omega arith, λ x h. absurd (not-suc-le-zero h))
 
 pub has_side-requires : goal.has_side-requires
 has_side-requires c =
-    let t = c in
-    record { i_in_bounds = (omega (arith, t.requires.k_in_bounds), omega (arith, t.requires.k_in_bounds)); u_lt_v = t.requires.u_lt_v }
+    record { i_in_bounds = (omega (arith, c.requires.k_in_bounds), omega (arith, c.requires.k_in_bounds)); u_lt_v = c.requires.u_lt_v }
 
 pub returns-then-has_side : goal.returns-then-has_side
 unfolding first_quads
 returns-then-has_side c =
-    let h = c in
-    let g = h in
-    let a = g.args in
-    sym (holds _ (λ z. never _ (sym h.has_side.ensures ∙ c.if-has_side.true) (below_none _ (quad_at a.quads.now) a.k z g.loop-i.i (omega arith))))
+    let a = c.args in
+    sym (holds _ (λ z. never _ (sym c.has_side.ensures ∙ c.if-has_side.true) (below_none _ (quad_at a.quads.now) a.k z c.loop-i.i (omega arith))))
 
 pub loop-i-preserved : goal.loop-i-preserved
 loop-i-preserved c =
-    let h = c in
-    let g = h in
-    (omega arith, below_more _ _ g.loop-i.invariant.1 (sym h.has_side.ensures ∙ c.if-has_side.false))
+    (omega arith, below_more _ _ c.loop-i.invariant.1 (sym c.has_side.ensures ∙ c.if-has_side.false))
 
 pub returns : goal.returns
 unfolding first_quads

@@ -8,12 +8,12 @@ use Rattle.loops.specs.Sift.{open_loops}
 use Rattle.rounds.proofs.Rounding.{points_number, rep_now, few_now, empty_rounded, can_sift, can_turn, can_loops, full_rounded}
 use Rattle.rounds.proofs.rounds.round.Goals as goal
 
-pub emptied-h-requires : goal.emptied-h-requires
-emptied-h-requires c = few_now c.requires.goes.2
+pub emptied-requires : goal.emptied-requires
+emptied-requires c = few_now c.requires.goes.2
 
 pub returns-then-k-eq0 : goal.returns-then-k-eq0
 returns-then-k-eq0 c =
-    λ z st go lk. empty_rounded go (c.front_edges-k.ensures st.mesh (rep_now go) (points_number go)) c.if-k-eq0.true c.emptied-h.ensures
+    λ z st go lk. empty_rounded go (c.front_edges-k.ensures st.mesh (rep_now go) (points_number go)) c.if-k-eq0.true c.emptied.ensures
 
 pub front_loops-x-requires : goal.front_loops-x-requires
 front_loops-x-requires c =

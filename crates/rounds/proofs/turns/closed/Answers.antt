@@ -14,16 +14,16 @@ pub is_blocked-requires : goal.is_blocked-requires
 is_blocked-requires c =
     let a = c.args in
     let h = c.requires.shows in
-    record { by_index = (h.2.quads, h.2.ever, h.1, subst (λ (z : ℕ). Blocks a.w.now z (3 * a.s) a.p h.2.quads h.2.ever h.1) (sym c.refused_at-b.ensures) h.2.blocks); edge = c.requires.edge }
+    record { by_index = (h.2.quads, h.2.ever, h.1, subst (λ (z : ℕ). Blocks a.w.now z (3 * a.lay.slots) a.lay.points h.2.quads h.2.ever h.1) (sym c.refused_at-b.ensures) h.2.blocks); edge = c.requires.edge }
 
 pub returns-then-is_blocked : goal.returns-then-is_blocked
 returns-then-is_blocked c =
     let a = c.args in
     λ m bl h. closed_blocked m bl a.u a.v c.requires.edge.order c.is_front.result (c.is_front.ensures m h.rep) c.is_blocked.result (ap not c.if-not-is_front.false)
-    (c.is_blocked.ensures h.quads h.ever bl (subst (λ (z : ℕ). Blocks a.w.now z (3 * a.s) a.p h.quads h.ever bl) (sym c.refused_at-b.ensures) h.blocks)) c.if-is_blocked.true
+    (c.is_blocked.ensures h.quads h.ever bl (subst (λ (z : ℕ). Blocks a.w.now z (3 * a.lay.slots) a.lay.points h.quads h.ever bl) (sym c.refused_at-b.ensures) h.blocks)) c.if-is_blocked.true
 
 pub returns : goal.returns
 returns c =
     let a = c.args in
     λ m bl h. closed_not m bl a.u a.v c.requires.edge.order c.is_front.result (c.is_front.ensures m h.rep) c.is_blocked.result (ap not c.if-not-is_front.false)
-    (c.is_blocked.ensures h.quads h.ever bl (subst (λ (z : ℕ). Blocks a.w.now z (3 * a.s) a.p h.quads h.ever bl) (sym c.refused_at-b.ensures) h.blocks)) c.if-is_blocked.false
+    (c.is_blocked.ensures h.quads h.ever bl (subst (λ (z : ℕ). Blocks a.w.now z (3 * a.lay.slots) a.lay.points h.quads h.ever bl) (sym c.refused_at-b.ensures) h.blocks)) c.if-is_blocked.false

@@ -11,11 +11,11 @@ use Rattle.rounds.proofs.Places.{zeros}
 use Rattle.rounds.proofs.Trying.{waits, Trying}
 use Rattle.rounds.proofs.turns.try_edges.Given as goal
 
-abbrev pub invariant-loop-rules : goal.invariant-loop-rules
-invariant-loop-rules l =
+abbrev pub invariant-loop-i : goal.invariant-loop-i
+invariant-loop-i l =
     (length l.w ≡ length l.initial.w) × (length l.q ≡ length l.initial.q) × (length l.quads ≡ length l.initial.quads) × (length l.t ≡ length l.initial.t)
     × ((k : Begun) (st : State) (es : List Edge) → CanTry l.initial.w l.initial.q l.initial.quads l.initial.t (setup l.rules k) l.b l.e l.initial.g st es → Locks l.j k.locked
     → Trying l.initial.w l.w l.q l.quads l.t (setup l.rules k) l.b l.e l.g st (waits l.initial.w (setup l.rules k) l.b st es) es)
 
-abbrev pub decreases-loop-rules : goal.decreases-loop-rules
-decreases-loop-rules l = zeros l.w (tried_at l.rules.slots l.rules.capacity + l.b) (l.e - l.b)
+abbrev pub decreases-loop-i : goal.decreases-loop-i
+decreases-loop-i l = zeros l.w (tried_at l.rules.lay.slots l.rules.lay.points + l.b) (l.e - l.b)

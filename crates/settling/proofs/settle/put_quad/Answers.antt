@@ -10,10 +10,9 @@ use Rattle.settling.proofs.settle.put_quad.Goals as goal
 
 pub write_quad-requires : goal.write_quad-requires
 write_quad-requires c =
-    let t = c in
-    let h = t.requires.4 in
+    let h = c.requires.4 in
     let e = h.so_far.number in
-    let below = edge_below t.args.p t.args.t.n0 t.args.t.n1 t.args.u t.args.v h.fits.edge h.fits.node0 h.fits.node1 in record {
+    let below = edge_below c.args.lay.points c.args.z.n0 c.args.z.n1 c.args.u c.args.v h.fits.edge h.fits.node0 h.fits.node1 in record {
       in_bounds = search rules;
       words = record {
         node0 = omega (arith, h.fits.node0, h.small_points);
@@ -29,16 +28,14 @@ write_quad-requires c =
 
 pub free-requires : goal.free-requires
 free-requires c =
-    let f = c in
-    let t = f in
-    let a = t.args in
-    let h = t.requires.4 in
+    let a = c.args in
+    let h = c.requires.4 in
     let e = h.so_far.number in (
-      t.requires.0,
-      t.requires.1,
+      c.requires.0,
+      c.requires.1,
       record {
-        blocks = subst (λ (z : ℕ). Blocks a.w.now z (3 * a.s) a.p a.g.quads t.requires.0 t.requires.1) (sym f.refused_at-b.ensures)
-            (subst (λ (z : ℕ). Blocks a.w.now (refused_at a.s a.p) (3 * a.s) a.p z t.requires.0 t.requires.1) (sym e) h.so_far.blocks);
+        blocks = subst (λ (z : ℕ). Blocks a.w.now z (3 * a.lay.slots) a.lay.points a.g.quads c.requires.0 c.requires.1) (sym c.refused_at-b.ensures)
+            (subst (λ (z : ℕ). Blocks a.w.now (refused_at a.lay.slots a.lay.points) (3 * a.lay.slots) a.lay.points z c.requires.0 c.requires.1) (sym e) h.so_far.blocks);
         more = omega (arith, e, h.fits.few, h.small_slots);
         node0 = h.fits.node0;
         node1 = h.fits.node1;
@@ -49,29 +46,25 @@ free-requires c =
 
 pub returns : goal.returns
 returns c =
-    let r = c in
-    let f = r in
-    let wq = f in
-    let t = wq in
-    let a = t.args in
+    let a = c.args in
     λ ever bl qs old h.
     let e = h.so_far.number in
-    let to : FreeTo a.w.now r.free.new.w (refused_at a.s a.p) (3 * a.s) a.p a.g.quads a.t.n0 a.t.n1 a.t.n2 a.t.n3 =
-    subst (λ (z : ℕ). FreeTo a.w.now r.free.new.w z (3 * a.s) a.p a.g.quads a.t.n0 a.t.n1 a.t.n2 a.t.n3) f.refused_at-b.ensures r.free.ensures in
-    let put = put_text qs old a.quads.now wq.write_quad.new.quads (8 * a.g.quads) a.t a.u a.v (a.g.quads + 1) h.fits.edge (omega (arith, e)) h.so_far.text (ap (λ (z : ℕ). 8 * z) e) (omega (arith, e, h.fits.room)) wq.write_quad.ensures in
-    let quad = next_quad qs a.t in
+    let to : FreeTo a.w.now c.free.new.w (refused_at a.lay.slots a.lay.points) (3 * a.lay.slots) a.lay.points a.g.quads a.z.n0 a.z.n1 a.z.n2 a.z.n3 =
+    subst (λ (z : ℕ). FreeTo a.w.now c.free.new.w z (3 * a.lay.slots) a.lay.points a.g.quads a.z.n0 a.z.n1 a.z.n2 a.z.n3) c.refused_at-b.ensures c.free.ensures in
+    let put = put_text qs old a.quads.now c.write_quad.new.quads (8 * a.g.quads) a.z a.u a.v (a.g.quads + 1) h.fits.edge (omega (arith, e)) h.so_far.text (ap (λ (z : ℕ). 8 * z) e) (omega (arith, e, h.fits.room)) c.write_quad.ensures in
+    let quad = next_quad qs a.z in
     let more : length (qs ++ quad ∷ []) ≡ a.g.quads + 1 = length-append qs (quad ∷ []) ∙ ap (λ (z : ℕ). z + 1) (sym e) in
-    let old_blocks = subst (λ (z : ℕ). Blocks a.w.now (refused_at a.s a.p) (3 * a.s) a.p z ever bl) (sym e) h.so_far.blocks in
-    let frees : Blocks r.free.new.w (refused_at a.s a.p) (3 * a.s) a.p (a.g.quads + 1) ever (freed quad bl) =
-    subst (λ (z : List Edge). Blocks r.free.new.w (refused_at a.s a.p) (3 * a.s) a.p (a.g.quads + 1) ever z) (sym (born_frees (suc (length qs)) a.t.replaced a.t.n0 a.t.n1 a.t.n2 a.t.n3 bl)) (to.to ever bl old_blocks) in
+    let old_blocks = subst (λ (z : ℕ). Blocks a.w.now (refused_at a.lay.slots a.lay.points) (3 * a.lay.slots) a.lay.points z ever bl) (sym e) h.so_far.blocks in
+    let frees : Blocks c.free.new.w (refused_at a.lay.slots a.lay.points) (3 * a.lay.slots) a.lay.points (a.g.quads + 1) ever (freed quad bl) =
+    subst (λ (z : List Edge). Blocks c.free.new.w (refused_at a.lay.slots a.lay.points) (3 * a.lay.slots) a.lay.points (a.g.quads + 1) ever z) (sym (born_frees (suc (length qs)) a.z.replaced a.z.n0 a.z.n1 a.z.n2 a.z.n3 bl)) (to.to ever bl old_blocks) in
     record {
       kind = refl;
-      standing = c.quadded-h.ensures;
+      standing = c.quadded.ensures;
       kept = to.kept;
       so_far = record {
-        blocks = subst (λ (z : ℕ). Blocks r.free.new.w (refused_at a.s a.p) (3 * a.s) a.p z ever (freed quad bl)) (sym more) frees;
-        records = c.quadded-h.ensures.records ∙ h.so_far.records;
-        number = c.quadded-h.ensures.quads ∙ sym more;
+        blocks = subst (λ (z : ℕ). Blocks c.free.new.w (refused_at a.lay.slots a.lay.points) (3 * a.lay.slots) a.lay.points z ever (freed quad bl)) (sym more) frees;
+        records = c.quadded.ensures.records ∙ h.so_far.records;
+        number = c.quadded.ensures.quads ∙ sym more;
         text = put;
       };
     }

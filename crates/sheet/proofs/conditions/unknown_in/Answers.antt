@@ -1,4 +1,4 @@
-use Rattle.laws.specs.Kit.{◌∙◌, ap, arith, rules, leb}
+use Rattle.laws.specs.Kit.{◌∙◌, ap, arith, leb}
 use Rattle.sheet.proofs.Corners.{at_first, at_second, at_third, at_fourth}
 use Rattle.sheet.proofs.conditions.unknown_in.Goals as goal
 

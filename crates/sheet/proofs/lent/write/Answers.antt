@@ -1,49 +1,13 @@
+use Rattle.std.specs.Prelude.{◌++◌}
+use Rattle.laws.specs.Kit.{◌∙◌, ap, set}
+use lib.ListN.{drop}
 use Rattle.sheet.specs.Lent.{numbers}
 use Rattle.sheet.proofs.Numbers.{written}
-use Rattle.laws.specs.Kit.{arith, rules, length-set}
 use Rattle.sheet.proofs.lent.write.Goals as goal
-
-pub bounds-answer-1 : goal.bounds-answer-1
-bounds-answer-1 c = simp length-set (omega arith)
-
-pub bounds-answer-2 : goal.bounds-answer-2
-bounds-answer-2 c = simp length-set (omega arith)
-
-pub bounds-answer-3 : goal.bounds-answer-3
-bounds-answer-3 c = simp length-set (omega arith)
-
-pub bounds-answer-4 : goal.bounds-answer-4
-bounds-answer-4 c = simp length-set (omega arith)
-
-pub bounds-answer-5 : goal.bounds-answer-5
-bounds-answer-5 c = simp length-set (omega arith)
-
-pub bounds-answer-6 : goal.bounds-answer-6
-bounds-answer-6 c = simp length-set (omega arith)
-
-pub bounds-answer-7 : goal.bounds-answer-7
-bounds-answer-7 c = simp length-set (omega arith)
-
-pub bounds-answer-8 : goal.bounds-answer-8
-bounds-answer-8 c = simp length-set (omega arith)
-
-pub bounds-answer-9 : goal.bounds-answer-9
-bounds-answer-9 c = simp length-set (omega arith)
-
-pub bounds-answer-10 : goal.bounds-answer-10
-bounds-answer-10 c = simp length-set (omega arith)
-
-pub bounds-answer-11 : goal.bounds-answer-11
-bounds-answer-11 c = simp length-set (omega arith)
-
-pub bounds-answer-12 : goal.bounds-answer-12
-bounds-answer-12 c = simp length-set (omega arith)
-
-pub shape_of-answer : goal.shape_of-answer
-shape_of-answer c = simp length-set
 
 pub returns : goal.returns
 unfolding numbers
 returns c =
-    let k = c in
-    rw (c.quad_of.ensures, c.quad_of-2.ensures) (written k.args.answer.now k.args.s.counts _ _ k.requires.0 k.requires.1)
+    let k = c.args in
+    ap (λ cs. set (set (cs ++ drop 11 k.answer.now) 11 c.quad_of.result) 12 c.quad_of-2.result) c.copy_from_slice.ensures.after
+    ∙ rw (c.quad_of.ensures, c.quad_of-2.ensures) (written k.s.counts k.answer.now 11 _ _ c.requires.1 c.requires.0)

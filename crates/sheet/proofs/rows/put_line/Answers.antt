@@ -2,13 +2,12 @@ use native.Mathlib.Numerals.{add-one}
 use Rattle.definition.specs.Floats.{0·0, f64}
 use Rattle.definition.specs.Sheet.{line}
 use Rattle.plane.specs.Measures.{metrics_of_enum}
-use Rattle.laws.specs.Kit.{rules}
 use Rattle.sheet.proofs.rows.put_line.Goals as goal
 
-pub returns-in-Absent : goal.returns-in-Absent
+pub returns-in-None : goal.returns-in-None
 unfolding line metrics_of_enum 0·0 f64
-returns-in-Absent c = rw c.in-Absent.is (rw add-one at c.put.ensures)
+returns-in-None c = rw c.in-None.is (rw add-one at c.put.ensures)
 
-pub returns-in-Measured : goal.returns-in-Measured
+pub returns-in-Some : goal.returns-in-Some
 unfolding line metrics_of_enum 0·0 f64
-returns-in-Measured c = rw c.in-Measured.is (rw add-one at c.put-in-Measured.ensures)
+returns-in-Some c = rw c.in-Some.is (rw add-one at c.put-in-Some.ensures)

@@ -1,15 +1,15 @@
+use Rattle.std.specs.Prelude.{Option}
 use Rattle.laws.specs.Kit.{sym, ◌∙◌, ap, arith, rules}
 use Rattle.definition.specs.Sheet.{place}
 use Rattle.plane.specs.declared.metrics.Metrics.{Metrics}
 use Rattle.plane.specs.Measures.{metrics_of_enum}
 use Rattle.sheet_steps.proofs.places.place.Goals as goal
 
-pub returns-in-Absent : goal.returns-in-Absent
+pub returns-in-None : goal.returns-in-None
 unfolding metrics_of_enum place
-returns-in-Absent c = (sym (ap (λ (m : Metrics). place (metrics_of_enum m)) c.in-Absent.is), omega arith)
+returns-in-None c = (sym (ap (λ (m : Option Metrics). place (metrics_of_enum m)) c.in-None.is), omega arith)
 
-pub returns-in-Measured : goal.returns-in-Measured
+pub returns-in-Some : goal.returns-in-Some
 unfolding metrics_of_enum
-returns-in-Measured c =
-    let k = c in
-    (c.step.ensures.0 k.in-Measured.field-1 ∙ sym (ap (λ (m : Metrics). place (metrics_of_enum m)) k.in-Measured.is), omega arith)
+returns-in-Some c =
+    (c.step.ensures.0 _ ∙ sym (ap (λ (m : Option Metrics). place (metrics_of_enum m)) c.in-Some.is), omega arith)

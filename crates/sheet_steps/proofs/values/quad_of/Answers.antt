@@ -1,12 +1,10 @@
-use Rattle.sheet_steps.specs.Values.{worst_in}
-use Rattle.sheet_steps.specs.Values.{quad_of}
-use Rattle.laws.specs.Kit.{rules}
+use Rattle.sheet_steps.specs.Values.{worst_in, quad_of}
 use Rattle.sheet_steps.proofs.values.quad_of.Goals as goal
 
-pub returns-in-Absent : goal.returns-in-Absent
+pub returns-in-None : goal.returns-in-None
 unfolding quad_of worst_in
-returns-in-Absent c = rw c.in-Absent.is
+returns-in-None c = rw c.in-None.is
 
-pub returns-in-At : goal.returns-in-At
+pub returns-in-Some : goal.returns-in-Some
 unfolding quad_of worst_in
-returns-in-At c = rw c.in-At.is
+returns-in-Some c = rw c.in-Some.is

@@ -9,8 +9,7 @@ returns c = λ m g h e l k i f u. c.block_box-2.ensures m g h i f (omega arith)
 
 pub overflow_add-k : goal.overflow_add-k
 overflow_add-k c =
-    let t = c in
-    omega (arith, t.requires.k_lt_n.0, t.requires.k_lt_n.1, t.requires.in_hand.2.few, t.requires.in_hand.2.rep.room.small)
+    omega (arith, c.requires.k_lt_n.0, c.requires.k_lt_n.1, c.requires.in_hand.2.few, c.requires.in_hand.2.rep.room.small)
 
 pub block_box-requires-2 : goal.block_box-requires-2
 block_box-requires-2 c = record { in_hand = c.requires.in_hand; j_le_k = (omega arith, omega (arith, c.requires.k_lt_n.0, c.if-n-k.false)) }

@@ -62,14 +62,14 @@ pub clears-requires : goal.clears-requires
 clears-requires c =
     let a = c.args in
     let y = c.requires.rep in
-    let s = side_0 a.w.now a.s a.p a.i y.0 y.1 y.4 c.node-x.result c.node-y.result c.node-x.ensures c.node-y.ensures in
+    let s = side_0 a.w.now a.lay.slots a.lay.points a.i y.0 y.1 y.4 c.node-x.result c.node-y.result c.node-x.ensures c.node-y.ensures in
     record { pts = (y.0, y.2, y.3, s.ends); edge = s.edge }
 
 pub returns-then-not-clears : goal.returns-then-not-clears
 returns-then-not-clears c =
     let a = c.args in
     λ m r h e k g.
-    let s = side_0 a.w.now a.s a.p a.i m r k c.node-x.result c.node-y.result c.node-x.ensures c.node-y.ensures in
+    let s = side_0 a.w.now a.lay.slots a.lay.points a.i m r k c.node-x.result c.node-y.result c.node-x.ensures c.node-y.ensures in
     cell_0 m a.a a.b k.t
     (sym c.if-not-clears.true ∙ wall m a.a a.b (key k.t.n0 k.t.n1) (a.f % 2) (shared_0 m a.i a.f k.t g) (key c.node-x.result c.node-y.result) c.clears.result s.same c.if-f-ne0.true (c.clears.ensures m h e s.ends))
 
@@ -77,15 +77,15 @@ pub clears-requires-then-f-ne0-2 : goal.clears-requires-then-f-ne0-2
 clears-requires-then-f-ne0-2 c =
     let a = c.args in
     let y = c.requires.rep in
-    let s = side_1 a.w.now a.s a.p a.i y.0 y.1 y.4 c.node-y.result c.node-z.result c.node-y.ensures c.node-z.ensures in
+    let s = side_1 a.w.now a.lay.slots a.lay.points a.i y.0 y.1 y.4 c.node-y.result c.node-z.result c.node-y.ensures c.node-z.ensures in
     record { pts = (y.0, y.2, y.3, s.ends); edge = s.edge }
 
 pub returns-then-not-clears-2 : goal.returns-then-not-clears-2
 returns-then-not-clears-2 c =
     let a = c.args in
     λ m r h e k g.
-    let s0 = side_0 a.w.now a.s a.p a.i m r k c.node-x.result c.node-y.result c.node-x.ensures c.node-y.ensures in
-    let s1 = side_1 a.w.now a.s a.p a.i m r k c.node-y.result c.node-z.result c.node-y.ensures c.node-z.ensures in
+    let s0 = side_0 a.w.now a.lay.slots a.lay.points a.i m r k c.node-x.result c.node-y.result c.node-x.ensures c.node-y.ensures in
+    let s1 = side_1 a.w.now a.lay.slots a.lay.points a.i m r k c.node-y.result c.node-z.result c.node-y.ensures c.node-z.ensures in
     let f0 = shared_0 m a.i a.f k.t g in
     let o0 : true ≡ open_edge m a.a a.b (key k.t.n0 k.t.n1) = elim c.if-f-ne0.branch [
       | then-f-ne0+else-not-clears z ↦ wall m a.a a.b (key k.t.n0 k.t.n1) (a.f % 2) f0 (key c.node-x.result c.node-y.result) true s0.same z.if-f-ne0.true (sym z.if-not-clears.false ∙ z.clears.ensures m h e s0.ends)
@@ -98,16 +98,16 @@ pub clears-requires-then-f-ne0-3 : goal.clears-requires-then-f-ne0-3
 clears-requires-then-f-ne0-3 c =
     let a = c.args in
     let y = c.requires.rep in
-    let s = side_2 a.w.now a.s a.p a.i y.0 y.1 y.4 c.node-z.result c.node-x.result c.node-z.ensures c.node-x.ensures in
+    let s = side_2 a.w.now a.lay.slots a.lay.points a.i y.0 y.1 y.4 c.node-z.result c.node-x.result c.node-z.ensures c.node-x.ensures in
     record { pts = (y.0, y.2, y.3, s.ends); edge = s.edge }
 
 pub returns-then-f-ne0-3 : goal.returns-then-f-ne0-3
 returns-then-f-ne0-3 c =
     let a = c.args in
     λ m r h e k g.
-    let s0 = side_0 a.w.now a.s a.p a.i m r k c.node-x.result c.node-y.result c.node-x.ensures c.node-y.ensures in
-    let s1 = side_1 a.w.now a.s a.p a.i m r k c.node-y.result c.node-z.result c.node-y.ensures c.node-z.ensures in
-    let s2 = side_2 a.w.now a.s a.p a.i m r k c.node-z.result c.node-x.result c.node-z.ensures c.node-x.ensures in
+    let s0 = side_0 a.w.now a.lay.slots a.lay.points a.i m r k c.node-x.result c.node-y.result c.node-x.ensures c.node-y.ensures in
+    let s1 = side_1 a.w.now a.lay.slots a.lay.points a.i m r k c.node-y.result c.node-z.result c.node-y.ensures c.node-z.ensures in
+    let s2 = side_2 a.w.now a.lay.slots a.lay.points a.i m r k c.node-z.result c.node-x.result c.node-z.ensures c.node-x.ensures in
     let f0 = shared_0 m a.i a.f k.t g in
     let f1 = shared_1 m a.i a.f k.t g in
     let o0 : true ≡ open_edge m a.a a.b (key k.t.n0 k.t.n1) = elim c.if-f-ne0.branch [
@@ -125,8 +125,8 @@ pub returns : goal.returns
 returns c =
     let a = c.args in
     λ m r h e k g.
-    let s0 = side_0 a.w.now a.s a.p a.i m r k c.node-x.result c.node-y.result c.node-x.ensures c.node-y.ensures in
-    let s1 = side_1 a.w.now a.s a.p a.i m r k c.node-y.result c.node-z.result c.node-y.ensures c.node-z.ensures in
+    let s0 = side_0 a.w.now a.lay.slots a.lay.points a.i m r k c.node-x.result c.node-y.result c.node-x.ensures c.node-y.ensures in
+    let s1 = side_1 a.w.now a.lay.slots a.lay.points a.i m r k c.node-y.result c.node-z.result c.node-y.ensures c.node-z.ensures in
     let f0 = shared_0 m a.i a.f k.t g in
     let f1 = shared_1 m a.i a.f k.t g in
     let o0 : true ≡ open_edge m a.a a.b (key k.t.n0 k.t.n1) = elim c.if-f-ne0.branch [

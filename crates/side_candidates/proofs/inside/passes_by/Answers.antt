@@ -10,43 +10,28 @@ returns-then-u-a c =
 
 pub returns-then-v-a : goal.returns-then-v-a
 returns-then-v-a c =
-    let e1 = c in
-    let a = e1.args in
-    λ m k e f. passes_va m a.a a.b a.u a.v e1.if-u-a.false c.if-v-a.true
+    let a = c.args in
+    λ m k e f. passes_va m a.a a.b a.u a.v c.if-u-a.false c.if-v-a.true
 
 pub returns-then-u-b : goal.returns-then-u-b
 returns-then-u-b c =
-    let e2 = c in
-    let e1 = e2 in
-    let a = e1.args in
-    λ m k e f. passes_ub m a.a a.b a.u a.v e1.if-u-a.false e2.if-v-a.false c.if-u-b.true
+    let a = c.args in
+    λ m k e f. passes_ub m a.a a.b a.u a.v c.if-u-a.false c.if-v-a.false c.if-u-b.true
 
 pub returns-then-v-b : goal.returns-then-v-b
 returns-then-v-b c =
-    let e3 = c in
-    let e2 = e3 in
-    let e1 = e2 in
-    let a = e1.args in
-    λ m k e f. passes_vb m a.a a.b a.u a.v e1.if-u-a.false e2.if-v-a.false e3.if-u-b.false c.if-v-b.true
+    let a = c.args in
+    λ m k e f. passes_vb m a.a a.b a.u a.v c.if-u-a.false c.if-v-a.false c.if-u-b.false c.if-v-b.true
 
 pub segments_cross-requires : goal.segments_cross-requires
 segments_cross-requires c =
-    let e4 = c in
-    let e3 = e4 in
-    let e2 = e3 in
-    let e1 = e2 in
-    let t = e1 in
-    let a = t.args in
-    let m = t.requires.0 in
-    let k = t.requires.1 in
+    let a = c.args in
+    let m = c.requires.0 in
+    let k = c.requires.1 in
     let y = node_within a.q.now a.p m k in
-    (y a.a t.requires.2.first, y a.b t.requires.2.second, y a.u t.requires.3.first, y a.v t.requires.3.second)
+    (y a.a c.requires.2.first, y a.b c.requires.2.second, y a.u c.requires.3.first, y a.v c.requires.3.second)
 
 pub returns : goal.returns
 returns c =
-    let e4 = c in
-    let e3 = e4 in
-    let e2 = e3 in
-    let e1 = e2 in
-    let a = e1.args in
-    λ m k e f. passes_clear m a.a a.b a.u a.v c.segments_cross.result e1.if-u-a.false e2.if-v-a.false e3.if-u-b.false e4.if-v-b.false (c.segments_cross.ensures ∙ crosses_read a.q.now a.p m k a.a a.b a.u a.v e f)
+    let a = c.args in
+    λ m k e f. passes_clear m a.a a.b a.u a.v c.segments_cross.result c.if-u-a.false c.if-v-a.false c.if-u-b.false c.if-v-b.false (c.segments_cross.ensures ∙ crosses_read a.q.now a.p m k a.a a.b a.u a.v e f)

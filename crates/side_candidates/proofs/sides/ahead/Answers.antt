@@ -14,10 +14,7 @@ returns-then-along-target c =
 pub returns-then-abs-along : goal.returns-then-abs-along
 unfolding ahead side_along side_across ◌⊗◌ ◌⊖◌ ◌≺◌ 0·25 2·5 f64 vec
 returns-then-abs-along c =
-    let b = c in
-    let e1 = b in
-    let d = e1 in
-    rw (← d.dot-along.ensures, ← b.abs.ensures, e1.if-along-target.false, c.if-abs-along.true, and-false)
+    rw (← c.dot-along.ensures, ← c.abs.ensures, c.if-along-target.false, c.if-abs-along.true, and-false)
 
 pub returns-then-far-y : goal.returns-then-far-y
 unfolding ahead side_along side_across ◌⊗◌ ◌⊖◌ ◌≺◌ 0·25 2·5 f64 vec
@@ -27,10 +24,4 @@ returns-then-far-y c =
 pub returns : goal.returns
 unfolding ahead side_along side_across ◌⊗◌ ◌⊖◌ ◌≺◌ 0·25 2·5 f64 vec
 returns c =
-    let e3 = c in
-    let n = e3 in
-    let e2 = n in
-    let b = e2 in
-    let e1 = b in
-    let d = e1 in
-    rw (← n.norm-far.ensures, ← d.dot-along.ensures, ← b.abs.ensures, e1.if-along-target.false, e2.if-abs-along.false, e3.if-far-y.false) (sym (and-true _))
+    rw (← c.norm-far.ensures, ← c.dot-along.ensures, ← c.abs.ensures, c.if-along-target.false, c.if-abs-along.false, c.if-far-y.false) (sym (and-true _))

@@ -13,19 +13,15 @@ returns-then-v-a c =
 
 pub returns-then-v-other : goal.returns-then-v-other
 returns-then-v-other c =
-    let e1 = c in
-    let a = e1.args in
-    λ m g h e f. view_other m a.a a.other g a.v e1.if-v-a.false c.if-v-other.true
+    let a = c.args in
+    λ m g h e f. view_other m a.a a.other g a.v c.if-v-a.false c.if-v-other.true
 
 pub segment_inside_boxed-requires : goal.segment_inside_boxed-requires
 segment_inside_boxed-requires c =
-    let t = c in
-    (t.requires.0, filter (fenced t.requires.0) t.requires.1, t.requires.2, t.requires.3)
+    (c.requires.0, filter (fenced c.requires.0) c.requires.1, c.requires.2, c.requires.3)
 
 pub returns : goal.returns
 returns c =
-    let e2 = c in
-    let e1 = e2 in
-    let a = e1.args in
-    λ m g h e f. view_inside m a.a a.other g a.v c.segment_inside_boxed.result e1.if-v-a.false e2.if-v-other.false f
+    let a = c.args in
+    λ m g h e f. view_inside m a.a a.other g a.v c.segment_inside_boxed.result c.if-v-a.false c.if-v-other.false f
     (c.segment_inside_boxed.ensures m (filter (fenced m) g) h e ∙ ap (segment_inside m a.a a.v) (walls_kept m g))

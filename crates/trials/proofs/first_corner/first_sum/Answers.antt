@@ -1,4 +1,3 @@
-use borrow.Author.Rules.{rules}
 use lib.Ieee.{neg, mul, add, of_bits}
 use Rattle.definition.specs.Floats.{◌⊕◌, ◌⊗◌, 0·0, 0·25, 1·0, f64}
 use Rattle.definition.specs.Metrics.{corner, c0, c1, c2, c3, d0, weights, weighted}

@@ -1,6 +1,5 @@
 -- Every parameter is a double, and a double is told by its bits.
 use mathlib.Core.Path.{sym, ◌∙◌}
-use borrow.Author.Rules.{rules}
 use borrow.Author.Tests.{eqb-true}
 use Rattle.trials.proofs.Corners.{same_float}
 use Rattle.trials.proofs.first_corner.is_same.Goals as goal
@@ -8,5 +7,4 @@ use Rattle.trials.proofs.first_corner.is_same.Goals as goal
 pub returns : goal.returns
 returns c =
     λ e.
-    let k = c in
-    same_float _ _ k.well_formed.0.1 k.well_formed.1.0.1 (sym c.bits_of.ensures ∙ eqb-true _ _ e ∙ c.bits_of-2.ensures)
+    same_float _ _ c.well_formed.0.1 c.well_formed.1.0.1 (sym c.bits_of.ensures ∙ eqb-true _ _ e ∙ c.bits_of-2.ensures)

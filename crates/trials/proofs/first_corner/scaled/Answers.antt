@@ -1,4 +1,3 @@
-use borrow.Author.Rules.{rules}
 use Rattle.definition.specs.Floats.{◌⊖◌, ◌⊗◌, ◌⊘◌, ◌≺◌, 0·0, f64}
 use Rattle.definition.specs.Metrics.{scaled}
 use Rattle.plane.specs.Vectors.{vec}
@@ -7,7 +6,7 @@ use Rattle.trials.proofs.first_corner.scaled.Goals as goal
 
 pub returns-then-lengths : goal.returns-then-lengths
 unfolding scaled vec ◌⊖◌ ◌⊗◌ ◌⊘◌ ◌≺◌ 0·0 f64
-returns-then-lengths c = let k = c in rw (← k.norm-2.ensures, ← k.norm.ensures, k.if-lengths.true)
+returns-then-lengths c = rw (← c.norm-2.ensures, ← c.norm.ensures, c.if-lengths.true)
 
 pub returns : goal.returns
 unfolding scaled vec ◌⊖◌ ◌⊗◌ ◌⊘◌ ◌≺◌ 0·0 f64

@@ -1,5 +1,4 @@
 -- Each return goes by the two comparisons of the scores.
-use borrow.Author.Rules.{rules}
 use Rattle.definition.specs.Floats.{◌≺◌}
 use Rattle.definition.specs.Trials.{trial_before}
 use Rattle.trials.specs.Kept.{trial_of}

@@ -1,6 +1,5 @@
 -- Each field is the array's element.
 use mathlib.Core.Path.{refl}
-use borrow.Author.Rules.{rules}
 use Rattle.trials.specs.Kept.{row, trial_of, quad_of, quad_at}
 use Rattle.trials.proofs.kept.get.Goals as goal
 

@@ -1,5 +1,4 @@
 -- Put in the place that was found.
-use borrow.Author.Rules.{rules}
 use Rattle.trials.proofs.Steps.{inserted}
 use Rattle.trials.proofs.kept.insert.Goals as goal
 

@@ -2,7 +2,6 @@
 use mathlib.Core.Bool.{false≢true}
 use Prim.{absurd}
 use native.Mathlib.Omega.{arith}
-use borrow.Author.Rules.{rules}
 use Rattle.definition.specs.Floats.{◌≺◌}
 use Rattle.trials.proofs.kept.outdone.Goals as goal
 

@@ -1,17 +1,14 @@
 -- The loop's invariant: what the arrays hold, with what is carried put at i,
 -- is what they held at entry with t put at p.
--- The measure is what is left of the count.
-use Prim.Native.Nat.{◌-◌}
+--
 use native.Mathlib.Omega.{arith}
-use borrow.Author.Rules.{rules}
-use Rattle.trials.proofs.Steps.{Pushed, pushed_none, pushed_more, put_full, put_room}
+use Rattle.trials.proofs.Steps.{pushed_none, pushed_more, put_full, put_room}
 use Rattle.trials.proofs.kept.put.Goals as goal
 
 pub loop-i-preserved : goal.loop-i-preserved
 loop-i-preserved c =
-    let l = c in
-    let k = l.requires in
-    pushed_more _ _ _ _ _ _ _ _ _ _ l.loop-i.invariant k.1 k.2 _ _ _ l.loop-i-test.true c.get-next.ensures c.store.ensures
+    let k = c.requires in
+    pushed_more _ _ _ _ _ _ _ _ _ _ c.loop-i.invariant k.1 k.2 _ _ _ c.loop-i-test.true c.get-next.ensures c.store.ensures
 
 pub returns-then-count-pairs : goal.returns-then-count-pairs
 returns-then-count-pairs c =
@@ -20,9 +17,8 @@ returns-then-count-pairs c =
 
 pub returns : goal.returns
 returns c =
-    let l = c in
-    let k = l.requires in
-    put_room _ _ _ _ _ _ _ _ _ _ l.loop-i.invariant k.1 k.2 k.0 l.loop-i-test.false _ _ (omega (arith, k.1, l.if-count-pairs.false)) c.store-2.ensures
+    let k = c.requires in
+    put_room _ _ _ _ _ _ _ _ _ _ c.loop-i.invariant k.1 k.2 k.0 c.loop-i-test.false _ _ (omega (arith, k.1, c.if-count-pairs.false)) c.store-2.ensures
 
 pub loop-i-init : goal.loop-i-init
 loop-i-init c = pushed_none _ _ _ _ _ c.requires.0

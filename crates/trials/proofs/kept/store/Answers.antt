@@ -1,6 +1,5 @@
 -- The five stores at i.
 use native.Mathlib.Omega.{arith}
-use borrow.Author.Rules.{rules}
 use lib.ListN.{length-set}
 use Rattle.trials.proofs.Steps.{all_stored}
 use Rattle.trials.proofs.kept.store.Goals as goal

@@ -1,13 +1,12 @@
 -- A pair with a node twice gives no trial; another is rated.
-use borrow.Author.Rules.{rules}
 use Rattle.trials.specs.Ranked.{trial_at}
 use Rattle.trials.proofs.Rating.{kept_same}
 use Rattle.trials.proofs.ranked.with_pair.Goals as goal
 
 pub returns-then-meets : goal.returns-then-meets
 unfolding trial_at
-returns-then-meets c = let k = c in kept_same _ _ _ _ _ k.requires.count_le_pairs.0 (rw (← c.meets.ensures, c.if-meets.true))
+returns-then-meets c = kept_same _ _ _ _ _ c.requires.count_le_pairs.0 (rw (← c.meets.ensures, c.if-meets.true))
 
 pub returns : goal.returns
 unfolding trial_at
-returns c = let k = c in rw (← k.meets.ensures, k.if-meets.false) c.rate.ensures
+returns c = rw (← c.meets.ensures, c.if-meets.false) c.rate.ensures

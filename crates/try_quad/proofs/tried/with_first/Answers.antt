@@ -1,5 +1,6 @@
 -- By what was found at a: the attempt ends, or the side nodes at b are looked for and the pairs tried.
-use mathlib.Core.Path.{refl}
+use Rattle.std.specs.Prelude.{Ok}
+use mathlib.Core.Path.{refl, ap, ◌∙◌}
 use mathlib.Core.Bool.{false}
 use Rattle.definition.specs.Attempt.{Stance, side_nodes, try_first}
 use Rattle.rules.specs.Settings.{settings_of}
@@ -7,72 +8,48 @@ use Rattle.cells.specs.Layout.{near_at}
 use Rattle.plane.specs.Vectors.{vec}
 use Rattle.edge_candidates.specs.Wanted.{turn}
 use Rattle.outcomes.specs.Ends.{only_inserted}
-use Rattle.try_quad.proofs.Answers.{if_missing, if_no_point, if_no_slots, if_no_trace, first_missing, first_overfull, first_found, first_sizes, seek_far, first_lock, first_log, first_round, first_valid, both_of, first_to}
+use Rattle.try_quad.proofs.Answers.{if_missing, if_short, first_missing, first_overfull, first_found, first_sizes, seek_far, first_lock, first_log, first_round, first_valid, both_of, first_to}
 use Rattle.try_quad.proofs.Locked.{sides_lock, sides_log}
 use Rattle.try_quad.proofs.tried.with_first.Goals as goal
 
-pub far_at-requires : goal.far_at-requires
-far_at-requires c = first_sizes c.requires.4 c.in-Found.is
-
 pub side_nodes-far-requires : goal.side_nodes-far-requires
 side_nodes-far-requires c =
-    let t = c in
-    let h = t.requires.4 in
-    let e = c.in-Found.is in
-    (t.requires.0, (first_found h e).m, seek_far h e c.far_at.ensures, first_log h e t.requires.6)
+    let h = c.requires.4 in
+    let e = (c.in-Ok.is ∙ ap Ok c.in-Some.is) in
+    (c.requires.0, (first_found h e).m, seek_far h e c.far_at.ensures, first_log h e c.requires.6)
 
 pub with_both-requires : goal.with_both-requires
 with_both-requires c =
-    let t = c in
-    let a = t.args in
-    let h = t.requires.4 in
-    let e = c.in-Found.is in
+    let a = c.args in
+    let h = c.requires.4 in
+    let e = (c.in-Ok.is ∙ ap Ok c.in-Some.is) in
     let fa = c.far_at.ensures in
     let sn = c.side_nodes-far in
     let f : Stance = record { edge = (a.stance.edge.u, a.stance.edge.v); a = a.stance.edge.a; b = a.stance.edge.b; seed = a.stance.seed; normal = vec a.stance.normal; target = a.stance.target; mismatch = a.stance.mismatch } in
     let m = (first_found h e).m in
     let g = settings_of a.rules in
-    let z = sn.ensures t.requires.0 m f (seek_far h e fa) (first_log h e t.requires.6) (record { from = refl; along = refl; far = refl; off = refl }) in
+    let z = sn.ensures c.requires.0 m f (seek_far h e fa) (first_log h e c.requires.6) (record { from = refl; along = refl; far = refl; off = refl }) in
     let y = side_nodes g (turn false) f (only_inserted a.near.inserted) m a.stance.edge.b a.stance.edge.a in
-    (t.requires.0, t.requires.1, t.requires.2, (first_found h e).cs, y, both_of h e {y = y} fa z, sides_lock a.j.now _ _ (first_lock h e t.requires.5) _ _ f _ _, sides_log g m (first_valid h e) _ f _ _ _ z.log (first_round h e t.requires.6))
+    (c.requires.0, c.requires.1, c.requires.2, (first_found h e).cs, y, both_of h e {y = y} fa z, sides_lock a.j.now _ _ (first_lock h e c.requires.5) _ _ f _ _, sides_log g m (first_valid h e) _ f _ _ _ z.log (first_round h e c.requires.6))
 
-pub returns-in-Missing : goal.returns-in-Missing
-returns-in-Missing c =
-    let t = c in
-    let a = t.args in
+pub returns-in-Err : goal.returns-in-Err
+returns-in-Err c =
+    let a = c.args in
     λ base q₀ c₀ x f h l lg st.
     let g = settings_of a.rules in
-    if_missing a.w.now q₀ a.q.now a.rules (near_at a.rules.slots a.rules.capacity) c₀ a.near (try_first g f) (first_missing g f) (first_overfull g f) base a.t.now c.without_quad.result x h.is lg.log c.in-Missing.is c.without_quad.ensures
+    if_short a.w.now q₀ a.q.now a.rules (near_at a.rules.lay.slots a.rules.lay.points) c₀ a.near (try_first g f) (first_missing g f) (first_overfull g f) base a.t.now c.at_once.result x c.in-Err.short h.is lg.log c.in-Err.is c.at_once.ensures
 
-pub returns-in-NoPoint : goal.returns-in-NoPoint
-returns-in-NoPoint c =
-    let t = c in
-    let a = t.args in
+pub returns-in_default : goal.returns-in_default
+returns-in_default c =
+    let a = c.args in
     λ base q₀ c₀ x f h l lg st.
     let g = settings_of a.rules in
-    if_no_point a.w.now q₀ a.q.now a.rules (near_at a.rules.slots a.rules.capacity) c₀ a.near (try_first g f) (first_missing g f) (first_overfull g f) base a.t.now c.without_quad-in-NoPoint.result x h.is lg.log c.in-NoPoint.is c.without_quad-in-NoPoint.ensures
+    if_missing a.w.now q₀ a.q.now a.rules (near_at a.rules.lay.slots a.rules.lay.points) c₀ a.near (try_first g f) (first_missing g f) (first_overfull g f) base a.t.now c.at_once-in_default.result x h.is lg.log (c.in-Ok.is ∙ ap Ok c.in_default.is) c.at_once-in_default.ensures
 
-pub returns-in-NoSlots : goal.returns-in-NoSlots
-returns-in-NoSlots c =
-    let t = c in
-    let a = t.args in
-    λ base q₀ c₀ x f h l lg st.
-    let g = settings_of a.rules in
-    if_no_slots a.w.now q₀ a.q.now a.rules (near_at a.rules.slots a.rules.capacity) c₀ a.near (try_first g f) (first_missing g f) (first_overfull g f) base a.t.now c.without_quad-in-NoSlots.result x h.is lg.log c.in-NoSlots.is c.without_quad-in-NoSlots.ensures
-
-pub returns-in-NoTrace : goal.returns-in-NoTrace
-returns-in-NoTrace c =
-    let t = c in
-    let a = t.args in
-    λ base q₀ c₀ x f h l lg st.
-    let g = settings_of a.rules in
-    if_no_trace a.w.now q₀ a.q.now a.rules (near_at a.rules.slots a.rules.capacity) c₀ a.near (try_first g f) (first_missing g f) (first_overfull g f) base a.t.now c.without_quad-in-NoTrace.result x h.is lg.log c.in-NoTrace.is c.without_quad-in-NoTrace.ensures
-
-pub returns-in-Found : goal.returns-in-Found
-returns-in-Found c =
-    let t = c in
-    let a = t.args in
-    let e = c.in-Found.is in
+pub returns : goal.returns
+returns c =
+    let a = c.args in
+    let e = (c.in-Ok.is ∙ ap Ok c.in-Some.is) in
     let fa = c.far_at.ensures in
     let sn = c.side_nodes-far in
     let wb = c.with_both in

@@ -6,20 +6,16 @@ use Rattle.uprights.proofs.sides.put_upright.Goals as goal
 
 pub put_sides-requires : goal.put_sides-requires
 put_sides-requires c =
-    let s = c in
-    record { least = omega arith; most = omega arith; sized = omega arith; room = omega arith; small = small_three _ _ _ s.requires.0.small s.requires.1.small s.requires.2.small }
+    record { least = omega arith; most = omega arith; sized = omega arith; room = omega arith; small = small_three _ _ _ c.requires.0.small c.requires.1.small c.requires.2.small }
 
 pub returns-then-runs_left : goal.returns-then-runs_left
 returns-then-runs_left c =
-    let g = c in
-    placed_by (kept_nodes _ _ _ _ (sym g.runs_left.ensures ∙ g.if-runs_left.true)) c.put_sides.ensures
+    placed_by (kept_nodes _ _ _ _ (sym c.runs_left.ensures ∙ c.if-runs_left.true)) c.put_sides.ensures
 
 pub put_sides-requires-2 : goal.put_sides-requires-2
 put_sides-requires-2 c =
-    let s = c in
-    record { least = omega arith; most = omega arith; sized = omega arith; room = omega arith; small = small_three _ _ _ s.requires.0.small s.requires.2.small s.requires.1.small }
+    record { least = omega arith; most = omega arith; sized = omega arith; room = omega arith; small = small_three _ _ _ c.requires.0.small c.requires.2.small c.requires.1.small }
 
 pub returns : goal.returns
 returns c =
-    let g = c in
-    placed_by (over_nodes _ _ _ _ (sym g.runs_left.ensures ∙ g.if-runs_left.false)) c.put_sides-2.ensures
+    placed_by (over_nodes _ _ _ _ (sym c.runs_left.ensures ∙ c.if-runs_left.false)) c.put_sides-2.ensures

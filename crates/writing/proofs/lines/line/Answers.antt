@@ -1,37 +1,43 @@
 -- `lines::line`.
--- Invariant: j numbers are written, a space after each; the last one is written after the loop, with the newline.
-use Rattle.laws.specs.Kit.{refl, ◌∙◌, arith}
+-- Invariant: the values before the index are written, a space after each; the last one follows the loop, with the newline.
+use Rattle.std.specs.Prelude.{◌≡◌, ◌+◌, ◌-◌, ◌*◌, ◌≤◌}
+use Rattle.laws.specs.Kit.{refl, sym, ◌∙◌, arith, length, take, mul-le-mul_left}
 use Rattle.writing.proofs.Puts.{and_next, no_text, same_text}
-use Rattle.writing.proofs.Rows.{spaced, spaced_next, line_next}
-use Rattle.definition.specs.Text.{show}
+use Rattle.writing.proofs.Rows.{spaced, shown_more, shown_ends}
 use Rattle.writing.proofs.lines.line.Goals as goal
+use lib.Seq.{length-take-le, get_or-take}
 
-pub loop-j-init : goal.loop-j-init
+pub loop-n-init : goal.loop-n-init
 unfolding spaced
-loop-j-init c = (omega arith, omega arith, refl, no_text _ _)
+loop-n-init g c = (omega arith, refl, no_text _ _)
 
-pub loop-j-preserved : goal.loop-j-preserved
-loop-j-preserved c =
-    let a = c.args in
-    let l = c.loop-j in
-    let f = c.number_then-p in (
-      omega (arith, c.loop-j-test.true),
-      omega (arith, f.ensures.short, l.invariant.1),
-      f.auto.out ∙ l.invariant.2,
-      same_text (and_next l.invariant.3 (omega (arith, c.requires, l.invariant.1, c.loop-j-test.true)) f.ensures.written)
-          (spaced_next show a.xs.now a.from l.j (omega (arith, c.requires, c.loop-j-test.true))),
+pub loop-n-preserved : goal.loop-n-preserved
+loop-n-preserved g c =
+    let l = c.loop-n in
+    let row = c.args.row.now in
+    let most = g.T.Shown.most in
+    let front : length (take (length row - 1) row) ≡ length row - 1 = length-take-le _ row (omega arith) in
+    let next : most * (l.n-index + 1) ≤ most * length row = mul-le-mul_left most (omega arith) in
+    let more : most * (l.n-index + 1) ≡ most * l.n-index + most = omega arith in
+    let f = c.put-p in (
+      omega (arith, f.ensures.short, l.invariant.0, more),
+      f.auto.out ∙ l.invariant.1,
+      same_text (and_next l.invariant.2 (omega (arith, c.requires, l.invariant.0, next, more)) f.ensures.written)
+          (sym (shown_more g.T.Shown.text g.T.Shown.number_of row c.n-item.result l.n-index (omega arith) (c.n-item.is ∙ get_or-take (length row - 1) row l.n-index c.n-item.result (omega arith)))),
     )
 
-pub shape_of-out : goal.shape_of-out
-shape_of-out c = c.number_then.auto.out ∙ c.loop-j.invariant.2
-
 pub returns : goal.returns
-returns c =
-    let a = c.args in
-    let l = c.loop-j in
-    let f = c.number_then in
+returns g c =
+    let l = c.loop-n in
+    let row = c.args.row.now in
+    let most = g.T.Shown.most in
+    let front : length (take (length row - 1) row) ≡ length row - 1 = length-take-le _ row (omega arith) in
+    let all : l.n-index + 1 ≡ length row = omega arith in
+    let next : most * (l.n-index + 1) ≤ most * length row = mul-le-mul_left most (omega arith) in
+    let more : most * (l.n-index + 1) ≡ most * l.n-index + most = omega arith in
+    let f = c.put in
     record {
-      written = same_text (and_next l.invariant.3 (omega (arith, c.requires, l.invariant.1, l.invariant.0)) f.ensures.written)
-          (line_next show a.xs.now a.from l.j (omega (arith, c.requires, l.invariant.0)) a.w (omega (arith, l.invariant.0, c.loop-j-test.false)));
-      short = omega (arith, f.ensures.short, l.invariant.1, l.invariant.0);
+      written = same_text (and_next l.invariant.2 (omega (arith, c.requires, l.invariant.0, next, more)) f.ensures.written)
+          (shown_ends g.T.Shown.text g.T.Shown.number_of row c.index-row-last.result l.n-index _ (omega arith) (omega arith) c.index-row-last.is);
+      short = omega (arith, f.ensures.short, l.invariant.0, next, more);
     }
