@@ -4,8 +4,8 @@ import re, subprocess
 LABEL = re.compile(r'^[0-9a-f]+ <(.+)>:$')
 PLACE = re.compile(r'\s+[0-9a-f]+: R_X86_64_(?:PLT32|PC32)\s+(?:\.text\.)?(\S+?)(?:[-+]0x[0-9a-f]+)?$')
 STEP = re.compile(r'\s*[0-9a-f]+:\s+(\S+)\s*(.*)$')
-TARGET = re.compile(r'[0-9a-f]+ <([^+>]+)>')
-NO_CODE = {'memcpy', 'memmove', 'memset'}  # of the C library; leaves
+TARGET = re.compile(r'[0-9a-f]+ <(.+?)(?:\+0x[0-9a-f]+)?>$')  # an instance of a generic function has brackets in its name
+NO_CODE = {'memcpy', 'memset'}  # of the C library; leaves
 
 
 def frames(archive):

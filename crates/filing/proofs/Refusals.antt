@@ -1,6 +1,6 @@
 -- The number of a mesh's first refusal, and what the call is by it.
-use Rattle.std.specs.Prelude.{Result, Ok, Err, IsErrAnd, ◌≡◌, ◌||◌, ◌*◌}
-use Rattle.laws.specs.Kit.{sym, ◌∙◌, ap, cond, none, arith, ltb, ltb-false, length}
+use Rattle.std.specs.Prelude.{Result, Ok, Err, IsErrAnd, ◌≡◌, ◌≢◌, ◌||◌, ◌*◌}
+use Rattle.laws.specs.Kit.{sym, ◌∙◌, ap, cond, none, ℕ, arith, ltb, ltb-false, length}
 use Rattle.definition.specs.Lists.{find}
 use Rattle.definition.specs.Call.{unknown_node, repeated_node, far_point, most_given}
 use Rattle.laws.specs.Bools.{or_none}
@@ -62,19 +62,28 @@ handed_on (Err e) k h = ap (λ e. Refused (number e)) h
 
 module _ (a b : Mesh) where
   -- a refusal is the whole answer, and nothing is touched; the first mesh's comes first
-  pub first_refused : (r : Result Ordering Refusal) (k : Refusal) → IsErrAnd r (λ e. e ≡ k) → number k ≡ number_of (refused a) → returned r a.work b.work ≡ call a b
+  pub first_refused : (k : ℕ) → k ≡ number_of (refused a) → k ≢ 0 → record { answer = Refused k; first_work = a.work; second_work = b.work } ≡ call a b
   unfolding call number_of untouched
-  first_refused r k h e =
-      let f = some_found (refused a) (λ q. let p = number_positive k in omega arith) in
+  first_refused k e h =
+      let f = some_found (refused a) (λ q. h (e ∙ q)) in
       let g : call a b ≡ untouched (number_of (refused a)) a b = rw (f.1, call) in
-      ap (λ z. record { answer = z; first_work = a.work; second_work = b.work }) (handed_on r k h ∙ ap Refused e) ∙ sym g
+      ap (λ z. record { answer = Refused z; first_work = a.work; second_work = b.work }) e ∙ sym g
 
-  pub second_refused : number_of (refused a) ≡ 0 → (r : Result Ordering Refusal) (k : Refusal) → IsErrAnd r (λ e. e ≡ k) → number k ≡ number_of (refused b) → returned r a.work b.work ≡ call a b
+  pub second_refused : number_of (refused a) ≡ 0 → (k : ℕ) → k ≡ number_of (refused b) → k ≢ 0 → record { answer = Refused k; first_work = a.work; second_work = b.work } ≡ call a b
   unfolding call number_of untouched
-  second_refused z r k h e =
-      let f = some_found (refused b) (λ q. let p = number_positive k in omega arith) in
+  second_refused z k e h =
+      let f = some_found (refused b) (λ q. h (e ∙ q)) in
       let g : call a b ≡ untouched (number_of (refused b)) a b = rw (none_holds a z, f.1, call) in
-      ap (λ z. record { answer = z; first_work = a.work; second_work = b.work }) (handed_on r k h ∙ ap Refused e) ∙ sym g
+      ap (λ z. record { answer = Refused z; first_work = a.work; second_work = b.work }) e ∙ sym g
+
+  -- what `?` hands on is the whole answer
+  pub first_returned : (r : Result Ordering Refusal) (k : Refusal) → IsErrAnd r (λ e. e ≡ k) → number k ≡ number_of (refused a) → returned r a.work b.work ≡ call a b
+  first_returned r k h e =
+      ap (λ z. record { answer = z; first_work = a.work; second_work = b.work }) (handed_on r k h) ∙ first_refused (number k) e (λ q. let p = number_positive k in omega arith)
+
+  pub second_returned : number_of (refused a) ≡ 0 → (r : Result Ordering Refusal) (k : Refusal) → IsErrAnd r (λ e. e ≡ k) → number k ≡ number_of (refused b) → returned r a.work b.work ≡ call a b
+  second_returned z r k h e =
+      ap (λ z. record { answer = z; first_work = a.work; second_work = b.work }) (handed_on r k h) ∙ second_refused z (number k) e (λ q. let p = number_positive k in omega arith)
 
   -- where both meshes pass, the answer is their order
   pub both_filed : number_of (refused a) ≡ 0 → number_of (refused b) ≡ 0 → call a b ≡ filed a b

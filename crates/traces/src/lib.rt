@@ -97,12 +97,15 @@ fn write_quad(t: &mut [u32], g: Grown, n: usize)
 
 // Kept (6): w holds all the mesh's words, and only n of them are copied.
 // The n words of w from `from` on come to the front of t.
+// By a loop, since `copy_from_slice` would have the archive for C ask for memmove.
 pub fn copy_words(t: &mut [u32], w: &[u32], from: usize, n: usize)
     requires n_in_bounds { n ≤ length t.old }
     requires n_in_bounds_2 { from + n ≤ length w.now }
     ensures { t.new ≡ take n (drop from w.now) ++ drop n t.old }
 {
-    t[..n].copy_from_slice(&w[from..from + n]);
+    for k in 0..n {
+        t[k] = w[from + k];
+    }
 }
 
 // The entry of a flip of the edge u-v comes to `at`; where the next one goes.
