@@ -102,7 +102,8 @@ pub fn mark_nodes(w: &mut [u32], lay: Layout, k: usize, b: usize, a: usize, g: S
 }
 
 // The first node from `from` to `high` whose word is not 0, if there is one: no other node can be a side node.
-// The range ends before `high + 1`, since `..=` tests a flag at each word besides, which far nodes make long.
+// Not inlined, and a range that ends before `high + 1`: the search over the words of far nodes stays a short loop.
+#[inline(never)]
 pub fn next_told(w: &[u32], b: usize, from: usize, high: usize) -> Option<usize>
     requires { CanSkip w.now b from high }
     ensures { NextTold w.now b from high result }
